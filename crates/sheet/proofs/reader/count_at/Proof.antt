@@ -1,0 +1,34 @@
+use mathlib.Core.Path.{_≡_, refl, sym, ap, _∙_}
+use native.Mathlib.Omega.{arith}
+use borrow.Author.Needs.{needs}
+use Prim.Native.Nat.{ℕ, _<_}
+use Rattle.sheet.specs.Marks.{same}
+use Rattle.sheet.proofs.Reading.{gave-fault, gave-item, byte-early, byte-wrong, byte-fine}
+use Rattle.sheet.proofs.Parts.{count-low, count-high, count-fine}
+use Rattle.sheet.proofs.reader.count_at.Statement.{statement}
+use Rattle.sheet.proofs.reader.count_at.Tie as tie
+
+returns : tie.Need-returns
+returns c = gave-fault same _ (byte-early _ _ _ (c .if1 .taken)) refl
+
+add-next : tie.Need-add-next
+add-next c = search needs
+
+shared-slice-read-k : tie.Need-shared-slice-read-k
+shared-slice-read-k c = search needs
+
+cast-k : tie.Need-cast-k
+cast-k c = omega (arith, c .shared-slice-known .given (c .before .before .args .at))
+
+returns-2 : tie.Need-returns-2
+returns-2 c = gave-fault same _ (byte-wrong _ _ _ (c .before .before .if1 .left) (count-low _ _ _ (c .if2 .taken))) refl
+
+returns-3 : tie.Need-returns-3
+returns-3 c = gave-fault same _ (byte-wrong _ _ _ (c .before .before .before .if1 .left) (count-high _ _ _ (c .before .if2 .left) (c .if3 .taken))) refl
+
+returns-4 : tie.Need-returns-4
+returns-4 c = gave-item same _ (byte-fine _ _ _ (c .before .before .before .if1 .left) (count-fine _ _ _ (c .before .if2 .left) (c .if3 .left))) refl refl
+
+pub count-at-spec : {M : Type 1} → statement M
+count-at-spec =
+    tie.close (tie.spec returns add-next shared-slice-read-k cast-k returns-2 returns-3 returns-4)

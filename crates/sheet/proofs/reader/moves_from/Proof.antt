@@ -1,0 +1,76 @@
+-- `sheet::reader::moves_from` meets its contract. Assumes nothing.
+use mathlib.Core.Path.{refl}
+use native.Mathlib.Omega.{arith}
+use borrow.Author.Needs.{needs}
+use Prim.Native.Nat.{_-_}
+use Rattle.sheet.specs.Lists.{pad}
+use Rattle.sheet.specs.Literals.{noLiteral}
+use Rattle.sheet.specs.Format.{action}
+use Rattle.sheet.specs.Decoded.{noEffect, noMove, moveOf, movesOf}
+use Rattle.sheet.proofs.Reading.{Taken, taken-none, taken-more, taken-fault, taken-all}
+use Rattle.sheet.proofs.reader.moves_from.Statement.{statement}
+use Rattle.sheet.proofs.reader.moves_from.Tie as tie
+
+abbrev Inv-loop : tie.InvT-loop
+Inv-loop s n k first items₀ next₀ i₀ items next i = Taken s (action n) moveOf 32 noMove k first items i next
+
+abbrev μ-loop : tie.MeasureT-loop
+μ-loop s n k first items₀ next₀ i₀ items next i = k - i
+
+loop-holds : tie.Need-loop-holds Inv-loop μ-loop
+unfolding pad noMove moveOf noEffect noLiteral
+loop-holds c = taken-none _ _ _ _ _ _ _ _ refl
+
+move-at-requires : tie.Need-move-at-requires Inv-loop μ-loop
+move-at-requires c κs = omega arith
+
+enum-known-mark : tie.Need-enum-known-mark Inv-loop μ-loop
+enum-known-mark c = search needs
+
+enum-told : tie.Need-enum-told Inv-loop μ-loop
+enum-told c = search needs
+
+returns : tie.Need-returns Inv-loop μ-loop
+returns c =
+    taken-fault _ _ _ _ _ _ _ _ _ _ (c .before .before .before .before .loop .inv) movesOf (c .before .before .before .loop-test .taken)
+    (c .before .before .move-at .ensures) (c .enum-told .given .1)
+
+mul-items : tie.Need-mul-items Inv-loop μ-loop
+mul-items c = omega arith
+
+array-set-from-items : tie.Need-array-set-from-items Inv-loop μ-loop
+array-set-from-items c = omega arith
+
+add-i : tie.Need-add-i Inv-loop μ-loop
+add-i c = omega arith
+
+loop-less : tie.Need-loop-less Inv-loop μ-loop
+loop-less c = omega arith
+
+loop-again : tie.Need-loop-again Inv-loop μ-loop
+loop-again c =
+    taken-more _ _ _ _ _ _ _ _ _ _ (c .before .before .before .before .before .before .loop .inv) (c .before .before .before .before .before .loop-test .taken) (omega arith)
+    (c .before .before .before .before .move-at .ensures) (c .before .before .mark .given .1)
+
+returns-2 : tie.Need-returns-2 Inv-loop μ-loop
+unfolding movesOf
+returns-2 c =
+    taken-all _ _ _ _ _ _ _ _ _ _ (c .before .loop .inv) movesOf (c .loop-test .left) (λ xs e h. rw (h, ← e))
+
+pub moves-from-spec : {M : Type 1} → statement M
+moves-from-spec =
+    tie.close
+    (tie.spec
+    Inv-loop
+    μ-loop
+    loop-holds
+    move-at-requires
+    enum-known-mark
+    enum-told
+    returns
+    mul-items
+    array-set-from-items
+    add-i
+    loop-less
+    loop-again
+    returns-2)

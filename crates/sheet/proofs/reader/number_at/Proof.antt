@@ -1,0 +1,31 @@
+use mathlib.Core.Path.{_≡_, refl, sym, ap, _∙_}
+use native.Mathlib.Omega.{arith}
+use borrow.Author.Needs.{needs}
+use Prim.Native.Nat.{ℕ, _<_}
+use Rattle.sheet.specs.Marks.{same}
+use Rattle.sheet.proofs.Reading.{gave-fault, gave-item, byte-early, byte-wrong, byte-fine}
+use Rattle.sheet.proofs.Parts.{number-high, number-fine}
+use Rattle.sheet.proofs.reader.number_at.Statement.{statement}
+use Rattle.sheet.proofs.reader.number_at.Tie as tie
+
+returns : tie.Need-returns
+returns c = gave-fault same _ (byte-early _ _ _ (c .if1 .taken)) refl
+
+add-next : tie.Need-add-next
+add-next c = search needs
+
+shared-slice-read-b : tie.Need-shared-slice-read-b
+shared-slice-read-b c = search needs
+
+cast-b : tie.Need-cast-b
+cast-b c = omega (arith, c .shared-slice-known .given (c .before .before .args .at))
+
+returns-2 : tie.Need-returns-2
+returns-2 c = gave-fault same _ (byte-wrong _ _ _ (c .before .before .if1 .left) (number-high _ _ (c .if2 .taken))) refl
+
+returns-3 : tie.Need-returns-3
+returns-3 c = gave-item same _ (byte-fine _ _ _ (c .before .before .if1 .left) (number-fine _ _ (c .if2 .left))) refl refl
+
+pub number-at-spec : {M : Type 1} → statement M
+number-at-spec =
+    tie.close (tie.spec returns add-next shared-slice-read-b cast-b returns-2 returns-3)

@@ -1,0 +1,34 @@
+-- `sheet::reader::plan_at` meets its contract. Assumes nothing.
+use borrow.Author.Needs.{needs}
+use Rattle.sheet.specs.Marks.{same}
+use Rattle.sheet.specs.Format.{listOf, plan}
+use Rattle.sheet.specs.Decoded.{planOf}
+use Rattle.sheet.proofs.Reading.{gave-stop, gave-on, got-same}
+use Rattle.sheet.proofs.Parts.{read-passed, count-most}
+use Rattle.sheet.proofs.reader.plan_at.Statement.{statement}
+use Rattle.sheet.proofs.reader.plan_at.Tie as tie
+
+count-at-requires : tie.Need-count-at-requires
+count-at-requires c κs = search needs
+
+enum-known-mark : tie.Need-enum-known-mark
+enum-known-mark c = search needs
+
+enum-told : tie.Need-enum-told
+enum-told c = search needs
+
+returns : tie.Need-returns
+unfolding plan listOf
+returns c = gave-stop _ _ _ _ planOf same (c .before .before .count-at .ensures) (c .enum-told .given .1)
+
+plan-from-requires : tie.Need-plan-from-requires
+plan-from-requires c κs = (c .before .before .before .before .before .pre, count-most _ _ _ (read-passed _ _ _ (c .before .before .before .count-at .ensures) (c .before .mark .given .1)))
+
+returns-2 : tie.Need-returns-2
+unfolding plan listOf
+returns-2 c = gave-on _ _ _ _ planOf (got-same _ _ _ (c .before .before .before .before .count-at .ensures) (c .before .before .mark .given .1)) (c .plan-from .ensures)
+
+pub plan-at-spec : {M : Type 1} → statement M
+plan-at-spec =
+    tie.close
+    (tie.spec count-at-requires enum-known-mark enum-told returns plan-from-requires returns-2)

@@ -1,0 +1,39 @@
+use mathlib.Core.Path.{_≡_, refl, sym, ap, _∙_}
+use native.Mathlib.Omega.{arith}
+use borrow.Author.Needs.{needs}
+use Rattle.sheet.specs.declared.reader.Mark.{Mark}
+use Rattle.sheet.specs.Marks.{refusedBy}
+use Rattle.sheet.specs.Calls.{decodedOf}
+use Rattle.sheet.proofs.reader.refused_at.Statement.{statement}
+use Rattle.sheet.proofs.reader.refused_at.Tie as tie
+
+enum-known-mark : tie.Need-enum-known-mark
+enum-known-mark c = search needs
+
+refused-requires : tie.Need-refused-requires
+refused-requires c κs = search needs
+
+enum-known-mark-2 : tie.Need-enum-known-mark-2
+enum-known-mark-2 c = search needs
+
+refused-requires-2 : tie.Need-refused-requires-2
+refused-requires-2 c κs = search needs
+
+returns : tie.Need-returns
+unfolding refusedBy
+returns c = c .refused .ensures ∙ ap (λ (m : Mark). decodedOf (refusedBy m)) (sym (c .before .before .mark .given .1))
+
+returns-2 : tie.Need-returns-2
+unfolding refusedBy
+returns-2 c = c .refused2 .ensures ∙ ap (λ (m : Mark). decodedOf (refusedBy m)) (sym (c .before .before .mark2 .given .1))
+
+pub refused-at-spec : {M : Type 1} → statement M
+refused-at-spec =
+    tie.close
+    (tie.spec
+    enum-known-mark
+    refused-requires
+    enum-known-mark-2
+    refused-requires-2
+    returns
+    returns-2)

@@ -1,0 +1,34 @@
+-- `sheet::reader::sets_at` meets its contract. Assumes nothing.
+use borrow.Author.Needs.{needs}
+use Rattle.sheet.specs.Marks.{same}
+use Rattle.sheet.specs.Format.{listOf}
+use Rattle.sheet.specs.Decoded.{setsOf}
+use Rattle.sheet.proofs.Reading.{gave-stop, gave-on, got-same}
+use Rattle.sheet.proofs.Parts.{read-passed, count-most}
+use Rattle.sheet.proofs.reader.sets_at.Statement.{statement}
+use Rattle.sheet.proofs.reader.sets_at.Tie as tie
+
+count-at-requires : tie.Need-count-at-requires
+count-at-requires c κs = search needs
+
+enum-known-mark : tie.Need-enum-known-mark
+enum-known-mark c = search needs
+
+enum-told : tie.Need-enum-told
+enum-told c = search needs
+
+returns : tie.Need-returns
+unfolding listOf
+returns c = gave-stop _ _ _ _ setsOf same (c .before .before .count-at .ensures) (c .enum-told .given .1)
+
+sets-from-requires : tie.Need-sets-from-requires
+sets-from-requires c κs = (c .before .before .before .before .before .pre, count-most _ _ _ (read-passed _ _ _ (c .before .before .before .count-at .ensures) (c .before .mark .given .1)))
+
+returns-2 : tie.Need-returns-2
+unfolding listOf
+returns-2 c = gave-on _ _ _ _ setsOf (got-same _ _ _ (c .before .before .before .before .count-at .ensures) (c .before .before .mark .given .1)) (c .sets-from .ensures)
+
+pub sets-at-spec : {M : Type 1} → statement M
+sets-at-spec =
+    tie.close
+    (tie.spec count-at-requires enum-known-mark enum-told returns sets-from-requires returns-2)

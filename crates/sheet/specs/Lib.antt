@@ -1,0 +1,10 @@
+-- The definitions that the contracts of this crate cite, one file for each notion.
+pub mod Literals
+pub mod Lists
+pub mod Problem
+pub mod Form
+pub mod Format
+pub mod Encoding
+pub mod Decoded
+pub mod Calls
+pub mod Marks
