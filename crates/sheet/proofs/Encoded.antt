@@ -17,7 +17,8 @@ use Rattle.sheet.specs.Lists.{All, collect}
 use Rattle.sheet.specs.Form.{Form, done, _>>=_, judged, times, due}
 use Rattle.sheet.specs.Format.{countFault, numberFault, count, listOf, ascending, setOf, literals, clause, effect, action, clauses, actions, goal, plan, facts, sheet}
 use Rattle.sheet.specs.Problem.{Action, Facts, Problem, Statement, problemOf}
-use Rattle.sheet.specs.Encoding.{Proper, Counted, ProperClause, ProperEffect, ProperAction, ProperStatement, setBytes, listBytes, effectBytes, actionBytes, clausesBytes, encode}
+use Rattle.sheet.specs.Encoding.{ProperList, Counted, ProperClause, ProperEffect, ProperAction, ProperStatement, setBytes, listBytes, effectBytes, actionBytes, clausesBytes, encode}
+use Rattle.sheet.proofs.LiteralSets.{proper-of, proper-consistent, proper-below}
 use Rattle.sheet.proofs.Forms.{due-then, due-done-split, due-judged, count-range}
 use Rattle.sheet.proofs.Runs.{run-byte, run-done, run-map}
 use Rattle.sheet.proofs.Ascending.{ascending-iff, listed-members, listed-consistent, listed-below, members-listed, set-members}
@@ -121,35 +122,34 @@ module _ {A : Type 0} {one : Form A} {bytes : A → List ℕ} {P : A → Type 0}
 -- ---- the items, over n propositions
 
 module _ (n : ℕ) (bound : n ≤ 32) where
-  codec-literals : (low high : ℕ) → Codec (literals n low high) setBytes (Proper n low high)
+  codec-literals : (low high : ℕ) → Codec (literals n low high) setBytes (ProperList n low high)
   unfolding literals setBytes
   codec-literals low high = record { sound = sound; complete = complete }
     where
-      sound : (bs : List ℕ) (a : Literals) → due (literals n low high) bs ≡ some (done a) → Proper n low high a × (bs ≡ length (members a 0) ∷ members a 0)
+      sound : (bs : List ℕ) (a : Literals) → due (literals n low high) bs ≡ some (done a) → ProperList n low high a × (bs ≡ length (members a 0) ∷ members a 0)
       sound bs a e =
           let p = led (codec-count low high) _ bs a e in
           let m = run-map (ascending n none (p .value)) setOf (p .left) a .0 (p .rest) in
           let r = ascending-iff n none (p .value) (p .left) (m .0) .0 (m .1) in
           let q : setOf (p .left) ≡ a = ap setOf (sym (r .0)) ∙ m .2 in
           let i : members (setOf (p .left)) 0 ≡ p .left = listed-members n bound (p .left) (r .2) in
-          subst (λ (x : Literals). Proper n low high x × (bs ≡ length (members x 0) ∷ members x 0)) q (
+          subst (λ (x : Literals). ProperList n low high x × (bs ≡ length (members x 0) ∷ members x 0)) q (
             record {
-              consistent = listed-consistent n (p .left) (r .2);
-              below = listed-below n (p .left) (r .2);
+              proper = proper-of n (setOf (p .left)) (listed-consistent n (p .left) (r .2)) (listed-below n (p .left) (r .2));
               least = rw i (omega arith);
               most = rw i (omega arith);
             },
             rw i (cc (p .whole, r .1)),
           )
 
-      complete : (a : Literals) → Proper n low high a → due (literals n low high) (length (members a 0) ∷ members a 0) ≡ some (done a)
+      complete : (a : Literals) → ProperList n low high a → due (literals n low high) (length (members a 0) ∷ members a 0) ≡ some (done a)
       complete a h =
           lead (codec-count low high) _ (length (members a 0)) (members a 0) (h .least, h .most)
           ∙ run-map (ascending n none (length (members a 0))) setOf (members a 0) a .1 (
             members a 0,
             ascending-iff n none (length (members a 0)) (members a 0) (members a 0) .1
-                (refl, refl, members-listed n a (h .consistent) (h .below)),
-            set-members n bound a (h .below),
+                (refl, refl, members-listed n a (proper-consistent n a (h .proper)) (proper-below n a (h .proper))),
+            set-members n bound a (proper-below n a (h .proper)),
           )
 
   codec-clauses : Codec (clauses n) clausesBytes (Counted 0 8 (ProperClause n))
@@ -186,7 +186,7 @@ module _ (n : ℕ) (bound : n ≤ 32) where
   unfolding actions
   codec-actions = codec-list codec-action 1 32
 
-  codec-goal : Codec (goal n) (listBytes setBytes) (Counted 0 8 (Proper n 1 8))
+  codec-goal : Codec (goal n) (listBytes setBytes) (Counted 0 8 (ProperList n 1 8))
   unfolding goal
   codec-goal = codec-list (codec-literals 1 8) 0 8
 
@@ -199,7 +199,7 @@ codec-plan m = codec-list (codec-number m) 0 64
 -- what sections 1 to 4 can say, and their bytes
 record ProperFacts (f : Facts) : Type 0 where
   range : (1 ≤ f .n) × (f .n ≤ 32)
-  known : Proper (f .n) 0 32 (f .known)
+  known : ProperList (f .n) 0 32 (f .known)
   ors : Counted 0 8 (ProperClause (f .n)) (f .ors)
   oneofs : Counted 0 8 (ProperClause (f .n)) (f .oneofs)
 

@@ -1,8 +1,8 @@
 -- Sets of literals as two masks, bit p for proposition p. A literal is a sign s (true: p holds) and a proposition p.
 use mathlib.Core.Bool.{Bool, true, false, not, cond, _&&_}
 use mathlib.Core.List.{List, [], _∷_}
-use Prim.Native.Nat.{ℕ, zero, suc, _+_, _-_, _*_, _/_, _%_, _^_}
-use lib.Dec.{eqb, ltb}
+use Prim.Native.Nat.{ℕ, zero, suc, _+_, _-_, _*_, _/_, _%_, _^_, _<_}
+use lib.Dec.{T, eqb, ltb}
 use lib.Bits.{bitAnd, bitOr}
 use Rattle.sheet.specs.declared.Literals.{Literals}
 
@@ -82,9 +82,19 @@ state n w = record { trues = w; falses = (2 ^ n - 1) - w }
 unfoldable pub after : ℕ → Literals → ℕ
 after w r = bitOr (w - bitAnd w (r .falses)) (r .trues)
 
+-- some literal of the clause c lies in d
+unfoldable pub meets : Literals → Literals → Bool
+meets c d = clash (flip c) d
+
 -- every proposition named in a is below n
 unfoldable pub below : ℕ → Literals → Bool
 below n a = ltb (a .trues) (2 ^ n) && ltb (a .falses) (2 ^ n)
+
+-- no literal with its complement, no proposition at n or above
+pub record Proper (n : ℕ) (a : Literals) : Type 0 where
+  pub steady : T (consistent a)
+  pub trues-below : a .trues < 2 ^ n
+  pub falses-below : a .falses < 2 ^ n
 
 -- the smallest literal byte of a from l on, among k bytes; l + k where there is none
 unfoldable pub nextFrom : ℕ → Literals → ℕ → ℕ
