@@ -1,4 +1,7 @@
 -- The laws that belong to no one function.
+pub mod Bools
+pub mod ListFacts
+pub mod Prefixes
 pub mod Bits
 pub mod LiteralSets
 pub mod Bytes

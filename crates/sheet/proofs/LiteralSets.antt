@@ -11,6 +11,7 @@ use lib.Bits.{bitAnd, bitOr, and-comm}
 use borrow.Author.Tests.{eq-eqb, ne-eqb, eqb-true, eqb-false, lt-ltb, le-ltb, ltb-true, ltb-false, not-true, not-false}
 use Rattle.sheet.specs.declared.Literals.{Literals}
 use Rattle.sheet.specs.Literals.{has, side, mem, within, clash, consistent, join, flip, replace, single, sign, literal, contains, state, below, Proper}
+use Rattle.sheet.proofs.Bools.{T-true, true-T}
 use Rattle.sheet.proofs.Bits.{has-and, has-or, has-minus, has-pow, has-none, has-not, has-above, has-below, below-has, ext, sub-of, of-sub, not-sub, disjoint-of, of-disjoint, not-disjoint}
 
 -- ---- the members of each set
@@ -377,14 +378,6 @@ below-flip n a = swap (ltb (a .falses) (2 ^ n)) (ltb (a .trues) (2 ^ n))
     swap false false = refl
 
 -- ---- proper sets
-
-pub true-T : (b : Bool) → b ≡ true → T b
-true-T true e = tt
-true-T false e = absurd (false≢true e)
-
-pub T-true : (b : Bool) → T b → b ≡ true
-T-true true t = refl
-T-true false t = absurd t
 
 pub proper-of : (n : ℕ) (a : Literals) → consistent a ≡ true → below n a ≡ true → Proper n a
 proper-of n a e b = record { steady = true-T (consistent a) e; trues-below = below-trues n a b; falses-below = below-falses n a b }
