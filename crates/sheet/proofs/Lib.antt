@@ -15,3 +15,5 @@ pub mod Judging
 pub mod Reading
 pub mod Parts
 pub mod Sections
+pub mod Rules
+pub mod Demands

@@ -196,7 +196,7 @@ module _ (s : List ℕ) (n : ℕ) where
         set-read (read s (ascending n none k) first)
         (t .rest ∙ ap (λ (j : ℕ). joined l (read s (ascending n (before floor) j) next)) e ∙ ap (joined l) (ascending-none (before floor) next)
         ∙ ap (λ (x : Literals). item x next) (join-none l)) in
-        gave-item setOf _ (r .1) refl (r .2)
+        gave-item setOf _ {a = r .0} (r .1) refl (r .2)
       where
         set-read : (r : Read (List ℕ)) → joined noLiteral r ≡ item l next → (bs : List ℕ) × (r ≡ item bs next) × (l ≡ setOf bs)
         set-read (item bs e) a =

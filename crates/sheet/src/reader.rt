@@ -13,6 +13,7 @@ use crate::masks;
 ghost use mathlib.Core.Path.{_≡_};
 ghost use mathlib.Core.Option.{none};
 ghost use Prim.Native.Nat.{_≤_};
+ghost use lib.ListN.{length};
 ghost use Rattle.sheet.specs.Form.{judged, times, read};
 ghost use Rattle.sheet.specs.Format as F;
 ghost use Rattle.sheet.specs.Decoded.{moveOf, movesOf, setsOf, clausesOf, planOf};
@@ -131,15 +132,22 @@ const NO_SHEET: Sheet = Sheet {
     plan: NO_PLAN,
 };
 
+// The bytes end too early.
+fn early(s: &[u8]) -> ByteRead
+    ensures { λ r. ⌜ r .mark ≡ Mark.Fault 1 (length (now (s .entry))) ⌝ }
+{
+    ByteRead {
+        mark: Mark::Fault(1, s.len()),
+        value: 0,
+    }
+}
+
 // A count byte from low to high.
 fn count_at(s: &[u8], low: usize, high: usize, at: usize) -> ByteRead
     ensures { λ r. ⌜ Gave same (read (now (s .entry)) (F.count low high) at) (r .mark) (r .value) ⌝ }
 {
     if s.len() <= at {
-        return ByteRead {
-            mark: Mark::Fault(1, s.len()),
-            value: 0,
-        };
+        return early(s);
     }
     let next = at + 1;
     let k = s[at] as usize;
@@ -186,10 +194,7 @@ fn literal_at(s: &[u8], n: usize, floor: usize, at: usize) -> ByteRead
     ensures { λ r. ⌜ Gave same (read (now (s .entry)) (judged (F.literalFault n (before floor))) at) (r .mark) (r .value) ⌝ }
 {
     if s.len() <= at {
-        return ByteRead {
-            mark: Mark::Fault(1, s.len()),
-            value: 0,
-        };
+        return early(s);
     }
     let next = at + 1;
     let b = s[at] as usize;
@@ -487,10 +492,7 @@ fn number_at(s: &[u8], m: usize, at: usize) -> ByteRead
     ensures { λ r. ⌜ Gave same (read (now (s .entry)) (judged (F.numberFault m)) at) (r .mark) (r .value) ⌝ }
 {
     if s.len() <= at {
-        return ByteRead {
-            mark: Mark::Fault(1, s.len()),
-            value: 0,
-        };
+        return early(s);
     }
     let next = at + 1;
     let b = s[at] as usize;

@@ -8,8 +8,11 @@ use Rattle.sheet.proofs.Parts.{count-low, count-high, count-fine}
 use Rattle.sheet.proofs.reader.count_at.Statement.{statement}
 use Rattle.sheet.proofs.reader.count_at.Tie as tie
 
+early-requires : tie.Need-early-requires
+early-requires c κs = search needs
+
 returns : tie.Need-returns
-returns c = gave-fault same _ (byte-early _ _ _ (c .if1 .taken)) refl
+returns c = gave-fault same _ (byte-early _ _ _ (c .before .if1 .taken)) (c .early .ensures)
 
 add-next : tie.Need-add-next
 add-next c = search needs
@@ -18,7 +21,7 @@ shared-slice-read-k : tie.Need-shared-slice-read-k
 shared-slice-read-k c = search needs
 
 cast-k : tie.Need-cast-k
-cast-k c = omega (arith, c .shared-slice-known .given (c .before .before .args .at))
+cast-k c = omega (arith, c .shared-slice-known2 .given (c .before .before .before .args .at))
 
 returns-2 : tie.Need-returns-2
 returns-2 c = gave-fault same _ (byte-wrong _ _ _ (c .before .before .if1 .left) (count-low _ _ _ (c .if2 .taken))) refl
@@ -31,4 +34,4 @@ returns-4 c = gave-item same _ (byte-fine _ _ _ (c .before .before .before .if1 
 
 pub count-at-spec : {M : Type 1} → statement M
 count-at-spec =
-    tie.close (tie.spec returns add-next shared-slice-read-k cast-k returns-2 returns-3 returns-4)
+    tie.close (tie.spec early-requires returns add-next shared-slice-read-k cast-k returns-2 returns-3 returns-4)

@@ -7,8 +7,11 @@ use Rattle.sheet.proofs.Reading.{gave-fault, gave-item, byte-early, byt
 use Rattle.sheet.proofs.reader.literal_at.Statement.{statement}
 use Rattle.sheet.proofs.reader.literal_at.Tie as tie
 
+early-requires : tie.Need-early-requires
+early-requires c κs = search needs
+
 returns : tie.Need-returns
-returns c = gave-fault same _ (byte-early _ _ _ (c .if1 .taken)) refl
+returns c = gave-fault same _ (byte-early _ _ _ (c .before .if1 .taken)) (c .early .ensures)
 
 add-next : tie.Need-add-next
 add-next c = search needs
@@ -32,6 +35,7 @@ pub literal-at-spec : {M : Type 1} → statement M
 literal-at-spec =
     tie.close
     (tie.spec
+    early-requires
     returns
     add-next
     shared-slice-read-b

@@ -8,8 +8,11 @@ use Rattle.sheet.proofs.Parts.{number-high, number-fine}
 use Rattle.sheet.proofs.reader.number_at.Statement.{statement}
 use Rattle.sheet.proofs.reader.number_at.Tie as tie
 
+early-requires : tie.Need-early-requires
+early-requires c κs = search needs
+
 returns : tie.Need-returns
-returns c = gave-fault same _ (byte-early _ _ _ (c .if1 .taken)) refl
+returns c = gave-fault same _ (byte-early _ _ _ (c .before .if1 .taken)) (c .early .ensures)
 
 add-next : tie.Need-add-next
 add-next c = search needs
@@ -18,7 +21,7 @@ shared-slice-read-b : tie.Need-shared-slice-read-b
 shared-slice-read-b c = search needs
 
 cast-b : tie.Need-cast-b
-cast-b c = omega (arith, c .shared-slice-known .given (c .before .before .args .at))
+cast-b c = omega (arith, c .shared-slice-known2 .given (c .before .before .before .args .at))
 
 returns-2 : tie.Need-returns-2
 returns-2 c = gave-fault same _ (byte-wrong _ _ _ (c .before .before .if1 .left) (number-high _ _ (c .if2 .taken))) refl
@@ -28,4 +31,4 @@ returns-3 c = gave-item same _ (byte-fine _ _ _ (c .before .before .if1 .left) (
 
 pub number-at-spec : {M : Type 1} → statement M
 number-at-spec =
-    tie.close (tie.spec returns add-next shared-slice-read-b cast-b returns-2 returns-3)
+    tie.close (tie.spec early-requires returns add-next shared-slice-read-b cast-b returns-2 returns-3)
