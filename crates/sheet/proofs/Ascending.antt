@@ -83,7 +83,7 @@ contains-literal b m =
     (λ e. let i : (sign m ≡ sign b) × (m / 2 ≡ b / 2) = single-is (sign b) (b / 2) (sign m) (m / 2) e in eq-eqb m b (sym (byte-of m) ∙ ap₂ byte (i .0) (i .1) ∙ byte-of b))
     (λ e. ap (λ (x : ℕ). mem (single (sign b) (b / 2)) (sign x) (x / 2)) (eqb-true m b e) ∙ mem-self (sign b) (b / 2))
 
-mem-none : (s : Bool) (p : ℕ) → mem noLiteral s p ≡ false
+pub mem-none : (s : Bool) (p : ℕ) → mem noLiteral s p ≡ false
 unfolding mem noLiteral
 mem-none true p = has-none p
 mem-none false p = has-none p

@@ -5,6 +5,7 @@ pub mod Prefixes
 pub mod Bits
 pub mod LiteralSets
 pub mod Bytes
+pub mod Lowest
 pub mod Results
 pub mod Worlds
 pub mod Forms
@@ -16,4 +17,5 @@ pub mod Reading
 pub mod Parts
 pub mod Sections
 pub mod Rules
+pub mod Members
 pub mod Demands

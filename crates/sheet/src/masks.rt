@@ -1,7 +1,7 @@
 // Sets of literals as two masks: shifts make the mask of a literal; and, or and complement do the rest.
 use crate::Literals;
 ghost use mathlib.Core.Path.{_≡_};
-ghost use Prim.Native.Nat.{_<_};
+ghost use Prim.Native.Nat.{_*_, _<_, _≤_};
 ghost use Rattle.sheet.specs.Literals as L;
 
 // All literals of a lie in b.
@@ -88,18 +88,39 @@ pub fn contains(a: Literals, l: usize) -> bool
     }
 }
 
+// The smallest literal of a at the propositions from p on; 64 where there is none.
+fn lowest(a: Literals, p: usize) -> usize
+    requires { ⌜ p ≤ 32 ⌝ }
+    ensures { λ r. ⌜ r ≡ L.next a (2 * p) ⌝ }
+{
+    if p >= 32 {
+        return 64;
+    }
+    let named = (a.trues | a.falses) >> p;
+    if named == 0 {
+        return 64;
+    }
+    let l = 2 * (p + u32::trailing_zeros(named) as usize);
+    if contains(a, l) {
+        return l;
+    }
+    l + 1
+}
+
 // The smallest literal of a from `from` on; 64 or more where there is none.
 pub fn next(a: Literals, from: usize) -> usize
     ensures { λ r. ⌜ r ≡ L.next a from ⌝ }
 {
-    let mut l = from;
-    while l < 64 {
-        if contains(a, l) {
-            return l;
-        }
-        l += 1;
+    if from >= 64 {
+        return from;
     }
-    l
+    if from % 2 == 0 {
+        return lowest(a, from / 2);
+    }
+    if contains(a, from) {
+        return from;
+    }
+    lowest(a, from / 2 + 1)
 }
 
 // Every proposition named in a is below n.

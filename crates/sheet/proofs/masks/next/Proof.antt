@@ -1,54 +1,55 @@
--- `sheet::masks::next` meets its contract: at the loop's head the answer from l on is the answer. Assumes nothing.
-use mathlib.Core.Path.{_≡_, refl, sym, _∙_}
-use Prim.Native.Nat.{_-_}
+-- `sheet::masks::next` meets its contract: an even place begins a proposition, an odd one is its false literal. Assumes nothing.
+use mathlib.Core.Path.{_≡_, sym, ap, _∙_}
+use Prim.Native.Nat.{ℕ, _+_, _*_, _/_, _%_, _<_}
 use native.Mathlib.Omega.{arith}
 use borrow.Author.Needs.{needs}
+use Rattle.sheet.specs.declared.Literals.{Literals}
 use Rattle.sheet.specs.Literals as L
 use Rattle.sheet.proofs.Bytes.{next-end, next-here, next-step}
 use Rattle.sheet.proofs.masks.next.Statement.{statement}
 use Rattle.sheet.proofs.masks.next.Tie as tie
 
-abbrev Inv-loop : tie.InvT-loop
-Inv-loop a from l₀ l = L.next a l ≡ L.next a from
+even : (a : Literals) (l : ℕ) → l % 2 ≡ 0 → L.next a (2 * (l / 2)) ≡ L.next a l
+even a l e = let q : 2 * (l / 2) ≡ l = omega arith in ap (L.next a) q
 
-abbrev μ-loop : tie.MeasureT-loop
-μ-loop a from l₀ l = 64 - l
+odd : (a : Literals) (l : ℕ) → (l % 2 ≡ 0 → ⊥) → L.next a (2 * (l / 2 + 1)) ≡ L.next a (l + 1)
+odd a l e = let q : 2 * (l / 2 + 1) ≡ l + 1 = omega arith in ap (L.next a) q
 
-loop-holds : tie.Need-loop-holds Inv-loop μ-loop
-loop-holds c = refl
+returns : tie.Need-returns
+returns c = sym (next-end _ _ (c .if1 .taken))
 
-contains-requires : tie.Need-contains-requires Inv-loop μ-loop
+lowest-requires : tie.Need-lowest-requires
+lowest-requires c κs = search needs
+
+returns-2 : tie.Need-returns-2
+returns-2 c = c .lowest .ensures ∙ even _ _ (c .before .if2 .taken)
+
+contains-requires : tie.Need-contains-requires
 contains-requires c κs = search needs
 
-returns : tie.Need-returns Inv-loop μ-loop
-returns c =
-    sym (next-here _ _ (c .before .before .loop-test .taken) (sym (c .before .contains .ensures) ∙ c .if1 .taken))
-    ∙ c .before .before .before .loop .inv
+returns-3 : tie.Need-returns-3
+returns-3 c = sym (next-here _ _ (c .before .before .before .if1 .left) (sym (c .before .contains .ensures) ∙ c .if3 .taken))
 
-add-l : tie.Need-add-l Inv-loop μ-loop
-add-l c = omega arith
+add-lowest : tie.Need-add-lowest
+add-lowest c = search needs
 
-loop-less : tie.Need-loop-less Inv-loop μ-loop
-loop-less c = omega arith
+lowest-requires-2 : tie.Need-lowest-requires-2
+lowest-requires-2 c κs = search needs
 
-loop-again : tie.Need-loop-again Inv-loop μ-loop
-loop-again c =
-    sym (next-step _ _ (c .before .before .loop-test .taken) (sym (c .before .contains .ensures) ∙ c .if1 .left))
-    ∙ c .before .before .before .loop .inv
-
-returns-2 : tie.Need-returns-2 Inv-loop μ-loop
-returns-2 c = sym (next-end _ _ (c .loop-test .left)) ∙ c .before .loop .inv
+returns-4 : tie.Need-returns-4
+returns-4 c =
+    c .lowest2 .ensures ∙ odd _ _ (c .before .before .before .if2 .left)
+    ∙ sym (next-step _ _ (c .before .before .before .before .if1 .left) (sym (c .before .before .contains .ensures) ∙ c .before .if3 .left))
 
 pub next-spec : {M : Type 1} → statement M
 next-spec =
     tie.close
     (tie.spec
-    Inv-loop
-    μ-loop
-    loop-holds
-    contains-requires
     returns
-    add-l
-    loop-less
-    loop-again
-    returns-2)
+    lowest-requires
+    returns-2
+    contains-requires
+    returns-3
+    add-lowest
+    lowest-requires-2
+    returns-4)
