@@ -11,12 +11,13 @@ use crate::Sets;
 use crate::Sheet;
 use crate::masks;
 ghost use mathlib.Core.Path.{_≡_};
+ghost use mathlib.Core.List.{[]};
 ghost use mathlib.Core.Option.{none};
 ghost use Prim.Native.Nat.{_≤_};
 ghost use lib.ListN.{length};
 ghost use Rattle.sheet.specs.Form.{judged, times, read};
 ghost use Rattle.sheet.specs.Format as F;
-ghost use Rattle.sheet.specs.Decoded.{moveOf, movesOf, setsOf, clausesOf, planOf};
+ghost use Rattle.sheet.specs.Decoded.{noMove, moveOf, movesOf, setsOf, clausesOf, planOf};
 ghost use Rattle.sheet.specs.Marks.{Gave, same, before, withEffects, factsOf, refusedBy, filled};
 ghost use Rattle.sheet.specs.Calls.{decodedOf};
 
@@ -115,22 +116,54 @@ const NO_PLAN: Plan = Plan {
     numbers: [0; 64],
 };
 
-const NO_FACTS: Facts = Facts {
-    n: 0,
-    known: NONE,
-    ors: NO_CLAUSES,
-    oneofs: NO_CLAUSES,
-};
+// An empty value of each kind.
+fn no_move() -> Move
+    ensures { λ r. ⌜ r ≡ noMove ⌝ }
+{
+    Move {
+        precondition: NONE,
+        count: 0,
+        effects: [NO_EFFECT; 8],
+    }
+}
 
-const NO_SHEET: Sheet = Sheet {
-    n: 0,
-    known: NONE,
-    ors: NO_CLAUSES,
-    oneofs: NO_CLAUSES,
-    moves: NO_MOVES,
-    goal: NO_SETS,
-    plan: NO_PLAN,
-};
+fn no_moves() -> Moves
+    ensures { λ r. ⌜ r ≡ movesOf [] ⌝ }
+{
+    let m = no_move();
+    Moves {
+        count: 0,
+        items: [m; 32],
+    }
+}
+
+fn no_sets() -> Sets
+    ensures { λ r. ⌜ r ≡ setsOf [] ⌝ }
+{
+    Sets {
+        count: 0,
+        items: [NONE; 8],
+    }
+}
+
+fn no_clauses() -> Clauses
+    ensures { λ r. ⌜ r ≡ clausesOf [] ⌝ }
+{
+    let s = no_sets();
+    Clauses {
+        count: 0,
+        items: [s; 8],
+    }
+}
+
+fn no_plan() -> Plan
+    ensures { λ r. ⌜ r ≡ planOf [] ⌝ }
+{
+    Plan {
+        count: 0,
+        numbers: [0u8; 64],
+    }
+}
 
 // The bytes end too early.
 fn early(s: &[u8]) -> ByteRead
@@ -303,7 +336,11 @@ fn effects_from(s: &[u8], n: usize, precondition: Literals, k: usize, first: usi
         let Mark::At(rest) = mark else {
             return MoveRead {
                 mark: mark,
-                value: NO_MOVE,
+                value: Move {
+                    precondition: precondition,
+                    count: 0,
+                    effects: effects,
+                },
             };
         };
         let e = r.value;
@@ -331,7 +368,7 @@ fn move_at(s: &[u8], n: usize, at: usize) -> MoveRead
     let Mark::At(middle) = mark else {
         return MoveRead {
             mark: mark,
-            value: NO_MOVE,
+            value: no_move(),
         };
     };
     let r = count_at(s, 0, 8, middle);
@@ -339,7 +376,7 @@ fn move_at(s: &[u8], n: usize, at: usize) -> MoveRead
     let Mark::At(first) = end else {
         return MoveRead {
             mark: end,
-            value: NO_MOVE,
+            value: no_move(),
         };
     };
     let precondition = p.value;
@@ -351,7 +388,8 @@ fn moves_from(s: &[u8], n: usize, k: usize, first: usize) -> MovesRead
     requires { ⌜ (n ≤ 32) × (k ≤ 32) ⌝ }
     ensures { λ r. ⌜ Gave movesOf (read (now (s .entry)) (times k (F.action n)) first) (r .mark) (r .value) ⌝ }
 {
-    let mut items = [NO_MOVE; 32];
+    let empty = no_move();
+    let mut items = [empty; 32];
     let mut next = first;
     let mut i: usize = 0;
     while i < k {
@@ -360,7 +398,10 @@ fn moves_from(s: &[u8], n: usize, k: usize, first: usize) -> MovesRead
         let Mark::At(rest) = mark else {
             return MovesRead {
                 mark: mark,
-                value: NO_MOVES,
+                value: Moves {
+                    count: 0,
+                    items: items,
+                },
             };
         };
         let m = r.value;
@@ -387,7 +428,7 @@ fn moves_at(s: &[u8], n: usize, at: usize) -> MovesRead
     let Mark::At(first) = mark else {
         return MovesRead {
             mark: mark,
-            value: NO_MOVES,
+            value: no_moves(),
         };
     };
     moves_from(s, n, r.value, first)
@@ -407,7 +448,10 @@ fn sets_from(s: &[u8], n: usize, widest: usize, k: usize, first: usize) -> SetsR
         let Mark::At(rest) = mark else {
             return SetsRead {
                 mark: mark,
-                value: NO_SETS,
+                value: Sets {
+                    count: 0,
+                    items: items,
+                },
             };
         };
         let l = r.value;
@@ -434,7 +478,7 @@ fn sets_at(s: &[u8], n: usize, least: usize, widest: usize, at: usize) -> SetsRe
     let Mark::At(first) = mark else {
         return SetsRead {
             mark: mark,
-            value: NO_SETS,
+            value: no_sets(),
         };
     };
     sets_from(s, n, widest, r.value, first)
@@ -445,7 +489,8 @@ fn clauses_from(s: &[u8], n: usize, k: usize, first: usize) -> ClausesRead
     requires { ⌜ (n ≤ 32) × (k ≤ 8) ⌝ }
     ensures { λ r. ⌜ Gave clausesOf (read (now (s .entry)) (times k (F.clause n)) first) (r .mark) (r .value) ⌝ }
 {
-    let mut items = [NO_SETS; 8];
+    let empty = no_sets();
+    let mut items = [empty; 8];
     let mut next = first;
     let mut i: usize = 0;
     while i < k {
@@ -454,7 +499,10 @@ fn clauses_from(s: &[u8], n: usize, k: usize, first: usize) -> ClausesRead
         let Mark::At(rest) = mark else {
             return ClausesRead {
                 mark: mark,
-                value: NO_CLAUSES,
+                value: Clauses {
+                    count: 0,
+                    items: items,
+                },
             };
         };
         let c = r.value;
@@ -481,7 +529,7 @@ fn clauses_at(s: &[u8], n: usize, at: usize) -> ClausesRead
     let Mark::At(first) = mark else {
         return ClausesRead {
             mark: mark,
-            value: NO_CLAUSES,
+            value: no_clauses(),
         };
     };
     clauses_from(s, n, r.value, first)
@@ -522,7 +570,10 @@ fn plan_from(s: &[u8], m: usize, k: usize, first: usize) -> PlanRead
         let Mark::At(rest) = mark else {
             return PlanRead {
                 mark: mark,
-                value: NO_PLAN,
+                value: Plan {
+                    count: 0,
+                    numbers: numbers,
+                },
             };
         };
         numbers[i] = r.value as u8;
@@ -548,7 +599,7 @@ fn plan_at(s: &[u8], m: usize, at: usize) -> PlanRead
     let Mark::At(first) = mark else {
         return PlanRead {
             mark: mark,
-            value: NO_PLAN,
+            value: no_plan(),
         };
     };
     plan_from(s, m, r.value, first)
@@ -559,7 +610,12 @@ fn no_facts(mark: Mark) -> FactsRead
 {
     FactsRead {
         mark: mark,
-        value: NO_FACTS,
+        value: Facts {
+            n: 0,
+            known: NONE,
+            ors: no_clauses(),
+            oneofs: no_clauses(),
+        },
     }
 }
 
@@ -606,9 +662,18 @@ fn facts_at(s: &[u8]) -> FactsRead
 fn refused(number: u8, position: usize) -> Decoded
     ensures { λ r. ⌜ r ≡ decodedOf (F.refused number position) ⌝ }
 {
+    let clauses = no_clauses();
     Decoded {
         answer: Answer::Refused(number, position),
-        sheet: NO_SHEET,
+        sheet: Sheet {
+            n: 0,
+            known: NONE,
+            ors: clauses,
+            oneofs: clauses,
+            moves: no_moves(),
+            goal: no_sets(),
+            plan: no_plan(),
+        },
     }
 }
 

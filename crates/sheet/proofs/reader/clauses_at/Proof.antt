@@ -17,9 +17,12 @@ enum-known-mark c = search needs
 enum-told : tie.Need-enum-told
 enum-told c = search needs
 
+no-clauses-requires : tie.Need-no-clauses-requires
+no-clauses-requires c κs = search needs
+
 returns : tie.Need-returns
 unfolding clauses listOf
-returns c = gave-stop _ _ _ _ clausesOf same (c .before .before .count-at .ensures) (c .enum-told .given .1)
+returns c = gave-stop _ _ _ _ clausesOf same (c .before .before .before .count-at .ensures) (c .before .enum-told .given .1)
 
 clauses-from-requires : tie.Need-clauses-from-requires
 clauses-from-requires c κs = (c .before .before .before .before .before .pre, count-most _ _ _ (read-passed _ _ _ (c .before .before .before .count-at .ensures) (c .before .mark .given .1)))
@@ -31,4 +34,4 @@ returns-2 c = gave-on _ _ _ _ clausesOf (got-same _ _ _ (c .before .before .befo
 pub clauses-at-spec : {M : Type 1} → statement M
 clauses-at-spec =
     tie.close
-    (tie.spec count-at-requires enum-known-mark enum-told returns clauses-from-requires returns-2)
+    (tie.spec count-at-requires enum-known-mark enum-told no-clauses-requires returns clauses-from-requires returns-2)

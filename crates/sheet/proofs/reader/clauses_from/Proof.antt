@@ -18,9 +18,12 @@ Inv-loop s n k first items₀ next₀ i₀ items next i = Taken s (clause n) set
 abbrev μ-loop : tie.MeasureT-loop
 μ-loop s n k first items₀ next₀ i₀ items next i = k - i
 
+no-sets-requires : tie.Need-no-sets-requires Inv-loop μ-loop
+no-sets-requires c κs = search needs
+
 loop-holds : tie.Need-loop-holds Inv-loop μ-loop
-unfolding pad setsOf noLiteral
-loop-holds c = taken-none _ _ _ _ _ _ _ _ refl
+unfolding pad
+loop-holds c = taken-none _ _ _ _ _ _ _ _ (rw (c .no-sets .ensures))
 
 sets-at-requires : tie.Need-sets-at-requires Inv-loop μ-loop
 sets-at-requires c κs = omega arith
@@ -66,6 +69,7 @@ clauses-from-spec =
     (tie.spec
     Inv-loop
     μ-loop
+    no-sets-requires
     loop-holds
     sets-at-requires
     enum-known-mark

@@ -22,9 +22,12 @@ enum-known-mark c = search needs
 enum-told : tie.Need-enum-told
 enum-told c = search needs
 
+no-move-requires : tie.Need-no-move-requires
+no-move-requires c κs = search needs
+
 returns : tie.Need-returns
 unfolding action
-returns c = gave-stop _ _ _ _ moveOf same (c .before .before .literals-at .ensures) (c .enum-told .given .1)
+returns c = gave-stop _ _ _ _ moveOf same (c .before .before .before .literals-at .ensures) (c .before .enum-told .given .1)
 
 count-at-requires : tie.Need-count-at-requires
 count-at-requires c κs = search needs
@@ -35,11 +38,14 @@ enum-known-end c = search needs
 enum-told-2 : tie.Need-enum-told-2
 enum-told-2 c = search needs
 
+no-move-requires-2 : tie.Need-no-move-requires-2
+no-move-requires-2 c κs = search needs
+
 returns-2 : tie.Need-returns-2
 unfolding action listOf
 returns-2 c =
-    gave-on _ _ _ _ moveOf (got-same _ _ _ (c .before .before .before .before .before .before .literals-at .ensures) (c .before .before .before .before .mark .given .1))
-    (gave-stop _ _ _ _ moveOf same {v = []} (gave-stop _ (count 0 8) (λ k. times k (effect _)) _ same same (c .before .before .count-at .ensures) (c .enum-told2 .given .1)) (c .enum-told2 .given .1))
+    gave-on _ _ _ _ moveOf (got-same _ _ _ (c .before .before .before .before .before .before .before .literals-at .ensures) (c .before .before .before .before .before .mark .given .1))
+    (gave-stop _ _ _ _ moveOf same {v = []} (gave-stop _ (count 0 8) (λ k. times k (effect _)) _ same same (c .before .before .before .count-at .ensures) (c .before .enum-told2 .given .1)) (c .before .enum-told2 .given .1))
 
 effects-from-requires : tie.Need-effects-from-requires
 effects-from-requires c κs = (c .before .before .before .before .before .before .before .before .before .before .pre, count-most _ _ _ (read-passed _ _ _ (c .before .before .before .before .count-at .ensures) (c .before .before .end .given .1)))
@@ -60,10 +66,12 @@ move-at-spec =
     literals-at-requires
     enum-known-mark
     enum-told
+    no-move-requires
     returns
     count-at-requires
     enum-known-end
     enum-told-2
+    no-move-requires-2
     returns-2
     effects-from-requires
     returns-3)

@@ -17,9 +17,12 @@ Inv-loop s n k first items₀ next₀ i₀ items next i = Taken s (action n) mov
 abbrev μ-loop : tie.MeasureT-loop
 μ-loop s n k first items₀ next₀ i₀ items next i = k - i
 
+no-move-requires : tie.Need-no-move-requires Inv-loop μ-loop
+no-move-requires c κs = search needs
+
 loop-holds : tie.Need-loop-holds Inv-loop μ-loop
-unfolding pad noMove moveOf noEffect noLiteral
-loop-holds c = taken-none _ _ _ _ _ _ _ _ refl
+unfolding pad
+loop-holds c = taken-none _ _ _ _ _ _ _ _ (rw (c .no-move .ensures))
 
 move-at-requires : tie.Need-move-at-requires Inv-loop μ-loop
 move-at-requires c κs = omega arith
@@ -63,6 +66,7 @@ moves-from-spec =
     (tie.spec
     Inv-loop
     μ-loop
+    no-move-requires
     loop-holds
     move-at-requires
     enum-known-mark

@@ -17,9 +17,12 @@ enum-known-mark c = search needs
 enum-told : tie.Need-enum-told
 enum-told c = search needs
 
+no-plan-requires : tie.Need-no-plan-requires
+no-plan-requires c κs = search needs
+
 returns : tie.Need-returns
 unfolding plan listOf
-returns c = gave-stop _ _ _ _ planOf same (c .before .before .count-at .ensures) (c .enum-told .given .1)
+returns c = gave-stop _ _ _ _ planOf same (c .before .before .before .count-at .ensures) (c .before .enum-told .given .1)
 
 plan-from-requires : tie.Need-plan-from-requires
 plan-from-requires c κs = (c .before .before .before .before .before .pre, count-most _ _ _ (read-passed _ _ _ (c .before .before .before .count-at .ensures) (c .before .mark .given .1)))
@@ -31,4 +34,4 @@ returns-2 c = gave-on _ _ _ _ planOf (got-same _ _ _ (c .before .before .before 
 pub plan-at-spec : {M : Type 1} → statement M
 plan-at-spec =
     tie.close
-    (tie.spec count-at-requires enum-known-mark enum-told returns plan-from-requires returns-2)
+    (tie.spec count-at-requires enum-known-mark enum-told no-plan-requires returns plan-from-requires returns-2)
