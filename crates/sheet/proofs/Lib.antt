@@ -17,5 +17,6 @@ pub mod Reading
 pub mod Parts
 pub mod Sections
 pub mod Rules
+pub mod SlotLaws
 pub mod Members
 pub mod Demands

@@ -1,0 +1,163 @@
+-- The consistent candidates of a clause, one alternative and one literal at a time; an inconsistent branch may be cut. Assumes nothing.
+use Prim.Native.Nat.{ℕ, zero, suc, _+_, _-_, _≤_, _<_}
+use mathlib.Core.Path.{_≡_, refl, sym, ap, ap₂, _∙_}
+use mathlib.Core.Bool.{Bool, true, false, cond}
+use mathlib.Core.List.{List, [], _∷_, _++_, map}
+use native.Mathlib.Numerals.{add-one}
+use native.Mathlib.Omega.{arith}
+use lib.ListN.{length, drop, take, getD, drop-of-length-le}
+use lib.Seq.{drop-cons, take-suc}
+use borrow.Author.Tests.{eq-eqb, ne-eqb}
+use Rattle.sheet.specs.declared.Literals.{Literals}
+use Rattle.sheet.specs.Literals.{noLiteral, join, consistent, flip, literal, members, next}
+use Rattle.sheet.specs.Lists.{addIf, keep, collect}
+use Rattle.sheet.proofs.LiteralSets.{consistent-join}
+use Rattle.sheet.proofs.Bytes.{next-ge, members-next, members-loop, members-end}
+use Rattle.table.specs.Start.{falsify, Pick, picks, candidates, oneOf}
+use Rattle.table.specs.Reads.{others}
+use Rattle.table.proofs.Compact.{keep-append}
+
+-- ---- one candidate
+
+pub kept-one : (c : Literals) → consistent c ≡ true → keep consistent (c ∷ []) ≡ c ∷ []
+kept-one c e = ap (λ (b : Bool). addIf b c []) e
+
+pub left-out : (c : Literals) → consistent c ≡ false → keep consistent (c ∷ []) ≡ []
+left-out c e = ap (λ (b : Bool). addIf b c []) e
+
+-- ---- a branch that is inconsistent
+
+stays-inconsistent : (d e : Literals) → consistent d ≡ false → consistent (join d e) ≡ false
+stays-inconsistent d e h = consistent-join d e ∙ rw h
+
+keep-none : {A : Type 0} (f : Literals → Bool) (g : A → List Literals) → ((x : A) → keep f (g x) ≡ []) → (xs : List A) → keep f (collect g xs) ≡ []
+keep-none f g h [] = refl
+keep-none f g h (x ∷ xs) = keep-append f (g x) (collect g xs) ∙ ap₂ (λ (a b : List Literals). a ++ b) (h x) (keep-none f g h xs)
+
+-- from an inconsistent set on, nothing is put
+pub cut : (os : List Literals) (d : Literals) → consistent d ≡ false → keep consistent (falsify os d) ≡ []
+cut [] d h = left-out d h
+cut (o ∷ os) d h =
+    keep-none consistent (λ l. falsify os (join d (flip (literal l)))) (λ l. cut os (join d (flip (literal l))) (stays-inconsistent d (flip (literal l)) h)) (members o 0)
+
+-- what is split is kept part by part
+keep-split : (bs cs ds : List Literals) → bs ≡ cs ++ ds → keep consistent bs ≡ keep consistent cs ++ keep consistent ds
+keep-split bs cs ds e = ap (keep consistent) e ∙ keep-append consistent cs ds
+
+-- ---- the alternatives but one
+
+beyond : (i at : ℕ) (xs : List Literals) → i < at → others i at xs ≡ xs
+beyond i at [] h = refl
+beyond i at (x ∷ xs) h =
+    ap (λ (b : Bool). cond b (others i (at + 1) xs) (x ∷ others i (at + 1) xs)) (ne-eqb at i (omega arith))
+    ∙ ap (λ (r : List Literals). x ∷ r) (beyond i (at + 1) xs (omega arith))
+
+module _ (i at : ℕ) (x : Literals) (xs gs : List Literals) (q : xs ≡ x ∷ gs) where
+  pub others-skip : at ≡ i → others i at xs ≡ others i (at + 1) gs
+  others-skip e = ap (others i at) q ∙ ap (λ (b : Bool). cond b (others i (at + 1) gs) (x ∷ others i (at + 1) gs)) (eq-eqb at i e)
+
+  pub others-keep : (at ≡ i → ⊥) → others i at xs ≡ x ∷ others i (at + 1) gs
+  others-keep e = ap (others i at) q ∙ ap (λ (b : Bool). cond b (others i (at + 1) gs) (x ∷ others i (at + 1) gs)) (ne-eqb at i e)
+
+-- place at + j left out
+without : (at j : ℕ) (xs : List Literals) → others (at + j) at xs ≡ take j xs ++ drop (suc j) xs
+without at zero [] = refl
+without at (suc j) [] = refl
+without at zero (x ∷ xs) = others-skip (at + 0) at x (x ∷ xs) xs refl (omega arith) ∙ beyond (at + 0) (at + 1) xs (omega arith)
+without at (suc j) (x ∷ xs) =
+    let e : at + suc j ≡ at + 1 + j = omega arith in
+    others-keep (at + suc j) at x (x ∷ xs) xs refl (λ z. omega arith)
+    ∙ ap (λ (k : ℕ). x ∷ others k (at + 1) xs) e
+    ∙ ap (λ (r : List Literals). x ∷ r) (without (at + 1) j xs)
+
+-- ---- the literals of an alternative, from l on
+
+unfoldable pub choicesFrom : List Literals → Literals → Literals → ℕ → List Literals
+choicesFrom os a d l = collect (λ j. falsify os (join d (flip (literal j)))) (members a l)
+
+module _ (os : List Literals) (a d : Literals) where
+  pub choices-all : falsify (a ∷ os) d ≡ choicesFrom os a d 0
+  unfolding choicesFrom
+  choices-all = refl
+
+  pub choices-start : (l : ℕ) → l ≡ next a 0 → keep consistent (choicesFrom os a d 0) ≡ keep consistent (choicesFrom os a d l)
+  unfolding choicesFrom
+  choices-start l e =
+      ap (λ (x : List ℕ). keep consistent (collect (λ j. falsify os (join d (flip (literal j)))) x)) (members-next a 0 ∙ ap (members a) (sym e))
+
+  pub choices-step : (l m : ℕ) (one f w : Literals) → next a l ≡ l → l < 64 → one ≡ literal l → f ≡ flip one → w ≡ join d f → m ≡ next a (l + 1)
+      → keep consistent (choicesFrom os a d l) ≡ keep consistent (falsify os w) ++ keep consistent (choicesFrom os a d m)
+  unfolding choicesFrom
+  choices-step l m one f w e h p q r s = keep-split (choicesFrom os a d l) (falsify os w) (choicesFrom os a d m) split-up
+    where
+      split-up : choicesFrom os a d l ≡ falsify os w ++ choicesFrom os a d m
+      split-up =
+          ap (collect (λ j. falsify os (join d (flip (literal j))))) (members-loop a l e h)
+          ∙ ap₂ (λ (x : Literals) (k : ℕ). falsify os x ++ collect (λ j. falsify os (join d (flip (literal j)))) (members a k))
+          (sym (r ∙ ap (join d) (q ∙ ap flip p))) (sym s)
+
+  pub choices-end : (l : ℕ) → 64 ≤ l → keep consistent (choicesFrom os a d l) ≡ []
+  unfolding choicesFrom
+  choices-end l h = ap (λ (x : List ℕ). keep consistent (collect (λ j. falsify os (join d (flip (literal j)))) x)) (members-end a l h)
+
+-- the next literal is a later one
+pub choices-less : (a : Literals) (l m : ℕ) → l < 64 → m ≡ next a (l + 1) → 64 - m < 64 - l
+choices-less a l m h e = omega (arith, next-ge a (l + 1))
+
+-- ---- the alternatives of a oneof-clause, from i on
+
+unfoldable pub waysFrom : List Literals → Literals → ℕ → List Literals
+waysFrom xs d i = collect (λ k. falsify (k .rest) (join d (k .chosen))) (picks (take i xs) (drop i xs))
+
+pub ways-start : (xs : List Literals) (d : Literals) → keep consistent (candidates (oneOf xs) d) ≡ keep consistent (waysFrom xs d 0)
+unfolding waysFrom
+ways-start xs d = refl
+
+pub ways-step : (xs : List Literals) (d a w : Literals) (i : ℕ) → i < length xs → getD xs i noLiteral ≡ a → w ≡ join d a
+    → keep consistent (waysFrom xs d i) ≡ keep consistent (falsify (others i 0 xs) w) ++ keep consistent (waysFrom xs d (i + 1))
+unfolding waysFrom
+ways-step xs d a w i lt is q = keep-split (waysFrom xs d i) (falsify (others i 0 xs) w) (waysFrom xs d (i + 1)) split-up
+  where
+    way : Pick → List Literals
+    way k = falsify (k .rest) (join d (k .chosen))
+
+    zero-plus : i ≡ 0 + i
+    zero-plus = omega arith
+
+    more : take i xs ++ a ∷ [] ≡ take (i + 1) xs
+    more = ap (λ (y : Literals). take i xs ++ y ∷ []) (sym is) ∙ sym (take-suc xs i noLiteral lt) ∙ ap (λ (k : ℕ). take k xs) (sym (add-one i))
+
+    split-up : waysFrom xs d i ≡ falsify (others i 0 xs) w ++ waysFrom xs d (i + 1)
+    split-up =
+        ap (λ (r : List Literals). collect way (picks (take i xs) r)) (drop-cons xs i noLiteral lt ∙ ap (λ (y : Literals). y ∷ drop (suc i) xs) is)
+        ∙ ap₂ (λ (y z : List Literals). y ++ z)
+        (ap₂ (λ (y : List Literals) (z : Literals). falsify y z) (sym (ap (λ (k : ℕ). others k 0 xs) zero-plus ∙ without 0 i xs)) (sym q))
+        (ap₂ (λ (y z : List Literals). collect way (picks y z)) more (ap (λ (k : ℕ). drop k xs) (sym (add-one i))))
+
+pub ways-end : (xs : List Literals) (d : Literals) (i : ℕ) → drop i xs ≡ [] → keep consistent (waysFrom xs d i) ≡ []
+unfolding waysFrom
+ways-end xs d i e =
+    ap (λ (r : List Literals). keep consistent (collect (λ k. falsify (k .rest) (join d (k .chosen))) (picks (take i xs) r))) e
+
+-- ---- the alternatives of an or-clause, from i on
+
+pub or-step : (d a w : Literals) (xs ys : List Literals) → xs ≡ a ∷ ys → w ≡ join d a
+    → keep consistent (map (λ x. join d x) xs) ≡ keep consistent (w ∷ []) ++ keep consistent (map (λ x. join d x) ys)
+or-step d a w xs ys e q =
+    keep-split (map (λ x. join d x) xs) (w ∷ []) (map (λ x. join d x) ys)
+    (ap (map (λ (x : Literals). join d x)) e ∙ ap (λ (y : Literals). y ∷ map (λ x. join d x) ys) (sym q))
+
+pub or-end : (d : Literals) (xs : List Literals) → xs ≡ [] → keep consistent (map (λ x. join d x) xs) ≡ []
+or-end d xs e = ap (λ (r : List Literals). keep consistent (map (λ x. join d x) r)) e
+
+-- ---- the entries, from i on
+
+module _ (f : Literals → List Literals) (es : List Literals) where
+  pub entries-step : (e : Literals) (i : ℕ) → i < length es → getD es i noLiteral ≡ e
+      → keep consistent (collect f (drop i es)) ≡ keep consistent (f e) ++ keep consistent (collect f (drop (i + 1) es))
+  entries-step e i lt is =
+      keep-split (collect f (drop i es)) (f e) (collect f (drop (i + 1) es))
+      (ap (collect f) (drop-cons es i noLiteral lt ∙ ap (λ (x : Literals). x ∷ drop (suc i) es) is ∙ ap (λ (j : ℕ). e ∷ drop j es) (sym (add-one i))))
+
+  pub entries-end : (i : ℕ) → length es ≤ i → keep consistent (collect f (drop i es)) ≡ []
+  entries-end i le = ap (λ (r : List Literals). keep consistent (collect f r)) (drop-of-length-le es {i = i} le)

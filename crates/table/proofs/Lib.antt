@@ -1,0 +1,23 @@
+-- The laws that belong to no one function: of slots and loops, of worlds, of pictures; and the theorems.
+pub mod Pads
+pub mod Scan
+pub mod Compact
+pub mod PutSlots
+pub mod Growing
+pub mod Choosing
+pub mod Started
+pub mod PutLaws
+pub mod Splitting
+pub mod Stepping
+pub mod Candidates
+pub mod Starting
+pub mod PairLaws
+pub mod Describing
+pub mod ClausePut
+pub mod Primes
+pub mod Order
+pub mod PictureBytes
+pub mod Pictures
+pub mod Demands
+pub mod Examples
+pub mod PictureExamples

@@ -1,0 +1,151 @@
+-- Arrays of masks that hold a list, with zeros after it: what is stored, read and pushed, over every capacity. Assumes nothing.
+use mathlib.Core.Path.{_≡_, refl, sym, ap, _∙_, subst}
+use mathlib.Core.List.{List, [], _∷_, _++_, map, map-append}
+use Prim.Native.Nat.{ℕ, zero, suc, _+_, _≤_, _<_}
+use native.Mathlib.Omega.{arith}
+use native.Mathlib.Nat.{le-of-suc-le-suc, not-suc-le-zero, suc-ne-zero, suc-inj}
+use lib.ListN.{length, getD, set, take, drop, replicate, length-map, length-append}
+use Rattle.sheet.specs.declared.Literals.{Literals}
+use Rattle.sheet.specs.Literals.{noLiteral}
+use Rattle.sheet.specs.Lists.{pad}
+use Rattle.sheet.proofs.Reading.{pad-set}
+use Rattle.table.specs.Slots.{pairs, trues-of, falses-of, entriesOf, Holds, Held}
+
+module _ {A : Type 0} where
+  pub length-pad : (n : ℕ) (d : A) (xs : List A) → length (pad n d xs) ≡ n
+  unfolding pad
+  length-pad zero d xs = refl
+  length-pad (suc n) d [] = ap suc (length-pad n d [])
+  length-pad (suc n) d (x ∷ xs) = ap suc (length-pad n d xs)
+
+  pub pad-nil : (n : ℕ) (d : A) → pad n d [] ≡ replicate n d
+  unfolding pad
+  pad-nil zero d = refl
+  pad-nil (suc n) d = ap (λ (r : List A). d ∷ r) (pad-nil n d)
+
+  pub getD-pad : (n : ℕ) (d : A) (xs : List A) (i : ℕ) → i < n → getD (pad n d xs) i d ≡ getD xs i d
+  unfolding pad
+  getD-pad zero d xs i h = absurd (not-suc-le-zero h)
+  getD-pad (suc n) d [] zero h = refl
+  getD-pad (suc n) d [] (suc i) h = getD-pad n d [] i (le-of-suc-le-suc h)
+  getD-pad (suc n) d (x ∷ xs) zero h = refl
+  getD-pad (suc n) d (x ∷ xs) (suc i) h = getD-pad n d xs i (le-of-suc-le-suc h)
+
+  -- what was padded is had again
+  pub pad-pad : (n : ℕ) (d : A) (xs : List A) → length xs ≤ n → pad (length xs) d (pad n d xs) ≡ xs
+  unfolding pad
+  pad-pad n d [] h = refl
+  pad-pad zero d (x ∷ xs) h = absurd (not-suc-le-zero h)
+  pad-pad (suc n) d (x ∷ xs) h = ap (λ (r : List A). x ∷ r) (pad-pad n d xs (le-of-suc-le-suc h))
+
+  -- ---- a front that is padded by itself
+
+  pub pad-suc : (i : ℕ) (d : A) (xs : List A) → length xs ≤ i → pad i d xs ++ d ∷ [] ≡ pad (suc i) d xs
+  unfolding pad
+  pad-suc zero d [] h = refl
+  pad-suc zero d (x ∷ xs) h = absurd (not-suc-le-zero h)
+  pad-suc (suc i) d [] h = ap (λ (r : List A). d ∷ r) (pad-suc i d [] (omega arith))
+  pad-suc (suc i) d (x ∷ xs) h = ap (λ (r : List A). x ∷ r) (pad-suc i d xs (le-of-suc-le-suc h))
+
+  pub pad-over : (n cap : ℕ) (d : A) (xs ys : List A) → length xs ≤ n → length ys ≡ n → n ≤ cap → pad n d xs ++ drop n (pad cap d ys) ≡ pad cap d xs
+  unfolding pad
+  pad-over zero cap d [] [] h e k = refl
+  pad-over zero cap d [] (y ∷ ys) h e k = absurd (suc-ne-zero (length ys) e)
+  pad-over zero cap d (x ∷ xs) ys h e k = absurd (not-suc-le-zero h)
+  pad-over (suc n) zero d xs ys h e k = absurd (not-suc-le-zero k)
+  pad-over (suc n) (suc cap) d xs [] h e k = absurd (suc-ne-zero n (sym e))
+  pad-over (suc n) (suc cap) d [] (y ∷ ys) h e k = ap (λ (r : List A). d ∷ r) (pad-over n cap d [] ys (omega arith) (suc-inj e) (le-of-suc-le-suc k))
+  pad-over (suc n) (suc cap) d (x ∷ xs) (y ∷ ys) h e k =
+      ap (λ (r : List A). x ∷ r) (pad-over n cap d xs ys (le-of-suc-le-suc h) (suc-inj e) (le-of-suc-le-suc k))
+
+  -- the first members stand at the front as they are
+  pub pad-front : {B : Type 0} (f : B → A) (i cap : ℕ) (d : A) (xs : List B) → i ≤ length xs → length xs ≤ cap
+      → pad cap d (map f xs) ≡ pad i d (map f (take i xs)) ++ drop i (pad cap d (map f xs))
+  unfolding pad
+  pad-front f zero cap d xs h k = refl
+  pad-front f (suc i) cap d [] h k = absurd (not-suc-le-zero h)
+  pad-front f (suc i) zero d (x ∷ xs) h k = absurd (not-suc-le-zero k)
+  pad-front f (suc i) (suc cap) d (x ∷ xs) h k =
+      ap (λ (r : List A). f x ∷ r) (pad-front f i cap d xs (le-of-suc-le-suc h) (le-of-suc-le-suc k))
+
+-- ---- two arrays side by side
+
+length-pairs : (n : ℕ) (ts fs : List ℕ) → length ts ≡ n → length fs ≡ n → length (pairs ts fs) ≡ n
+unfolding pairs
+length-pairs n [] fs p q = p
+length-pairs zero (t ∷ ts) fs p q = absurd (suc-ne-zero (length ts) p)
+length-pairs (suc n) (t ∷ ts) [] p q = q
+length-pairs (suc n) (t ∷ ts) (f ∷ fs) p q = ap suc (length-pairs n ts fs (suc-inj p) (suc-inj q))
+
+pub length-entriesOf : (n : ℕ) (ts fs : List ℕ) → length (entriesOf n ts fs) ≡ n
+unfolding entriesOf
+length-entriesOf n ts fs = length-pairs n (pad n 0 ts) (pad n 0 fs) (length-pad n 0 ts) (length-pad n 0 fs)
+
+getD-pairs : (n : ℕ) (ts fs : List ℕ) (i : ℕ) → length ts ≡ n → length fs ≡ n → i < n
+    → getD (pairs ts fs) i noLiteral ≡ record { trues = getD ts i 0; falses = getD fs i 0 }
+unfolding pairs
+getD-pairs zero ts fs i p q h = absurd (not-suc-le-zero h)
+getD-pairs (suc n) [] fs i p q h = absurd (suc-ne-zero n (sym p))
+getD-pairs (suc n) (t ∷ ts) [] i p q h = absurd (suc-ne-zero n (sym q))
+getD-pairs (suc n) (t ∷ ts) (f ∷ fs) zero p q h = refl
+getD-pairs (suc n) (t ∷ ts) (f ∷ fs) (suc i) p q h = getD-pairs n ts fs i (suc-inj p) (suc-inj q) (le-of-suc-le-suc h)
+
+-- entry i is what stands at i in the two arrays
+pub getD-entriesOf : (n : ℕ) (ts fs : List ℕ) (i : ℕ) → i < n
+    → getD (entriesOf n ts fs) i noLiteral ≡ record { trues = getD ts i 0; falses = getD fs i 0 }
+unfolding entriesOf
+getD-entriesOf n ts fs i h =
+    getD-pairs n (pad n 0 ts) (pad n 0 fs) i (length-pad n 0 ts) (length-pad n 0 fs) h
+    ∙ (λ k. record { trues = getD-pad n 0 ts i h k; falses = getD-pad n 0 fs i h k })
+
+pairs-of : (es : List Literals) → pairs (trues-of es) (falses-of es) ≡ es
+unfolding pairs
+pairs-of [] = refl
+pairs-of (e ∷ es) = ap (λ (r : List Literals). e ∷ r) (pairs-of es)
+
+-- the entries of padded arrays are those that were padded
+pub entriesOf-pad : (n : ℕ) (es : List Literals) → length es ≤ n
+    → entriesOf (length es) (pad n 0 (trues-of es)) (pad n 0 (falses-of es)) ≡ es
+unfolding entriesOf
+entriesOf-pad n es h =
+    let ts : pad (length es) 0 (pad n 0 (trues-of es)) ≡ trues-of es = pad-back (λ (e : Literals). e .trues) in
+    let fs : pad (length es) 0 (pad n 0 (falses-of es)) ≡ falses-of es = pad-back (λ (e : Literals). e .falses) in
+    (λ k. pairs (ts k) (fs k)) ∙ pairs-of es
+  where
+    pad-back : (f : Literals → ℕ) → pad (length es) 0 (pad n 0 (map f es)) ≡ map f es
+    pad-back f = rw (← length-map es f) (pad-pad n 0 (map f es) (rw (length-map es f) h))
+
+-- ---- what holds a list
+
+pub holds-trues-long : (cap : ℕ) (es : List Literals) (n : ℕ) (ts fs : List ℕ) → Holds cap es n ts fs → length ts ≡ cap
+holds-trues-long cap es n ts fs h = ap length (h .trues-are) ∙ length-pad cap 0 (trues-of es)
+
+pub holds-falses-long : (cap : ℕ) (es : List Literals) (n : ℕ) (ts fs : List ℕ) → Holds cap es n ts fs → length fs ≡ cap
+holds-falses-long cap es n ts fs h = ap length (h .falses-are) ∙ length-pad cap 0 (falses-of es)
+
+-- one entry more
+pub holds-push : (cap : ℕ) (es : List Literals) (n : ℕ) (ts fs : List ℕ) → Holds cap es n ts fs → n < cap → (l : Literals)
+    → Holds cap (es ++ l ∷ []) (n + 1) (set ts n (l .trues)) (set fs n (l .falses))
+holds-push cap es n ts fs h lt l = record {
+  count-is = omega (arith, h .count-is, length-append es (l ∷ []));
+  room = omega arith;
+  trues-are = ap (λ (r : List ℕ). set r n (l .trues)) (h .trues-are) ∙ pushed (λ (e : Literals). e .trues);
+  falses-are = ap (λ (r : List ℕ). set r n (l .falses)) (h .falses-are) ∙ pushed (λ (e : Literals). e .falses);
+}
+  where
+    pushed : (f : Literals → ℕ) → set (pad cap 0 (map f es)) n (f l) ≡ pad cap 0 (map f (es ++ l ∷ []))
+    pushed f =
+        pad-set cap 0 (map f es) (f l) n (length-map es f ∙ sym (h .count-is)) lt ∙ ap (pad cap 0) (sym (map-append f es (l ∷ [])))
+
+-- the entries read back
+pub holds-entries : (cap : ℕ) (es : List Literals) (n : ℕ) (ts fs : List ℕ) → Holds cap es n ts fs → entriesOf n ts fs ≡ es
+holds-entries cap es n ts fs h =
+    rw (h .trues-are, h .falses-are, h .count-is) (entriesOf-pad cap es (rw (← h .count-is) (h .room)))
+
+-- so what holds a list holds what is read back
+pub held : (cap : ℕ) (es : List Literals) (n : ℕ) (ts fs : List ℕ) → Holds cap es n ts fs → Held cap n ts fs
+held cap es n ts fs h = subst (λ (x : List Literals). Holds cap x n ts fs) (sym (holds-entries cap es n ts fs h)) h
+
+-- what is held in slices, at their own length
+pub held-own : (cap n : ℕ) (ts fs : List ℕ) → Held cap n ts fs → Held (length ts) n ts fs
+held-own cap n ts fs h = subst (λ (k : ℕ). Held k n ts fs) (sym (holds-trues-long _ _ _ _ _ h)) h

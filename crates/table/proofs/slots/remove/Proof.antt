@@ -1,0 +1,121 @@
+-- `slots::remove` meets its contract. The invariant: the slots below i are done. Assumes nothing.
+use mathlib.Core.Path.{_≡_, sym, ap, _∙_}
+use mathlib.Core.Bool.{not}
+use mathlib.Core.Logic.{⊎-elim}
+use Prim.Native.Nat.{_-_}
+use native.Mathlib.Omega.{arith}
+use lib.ListN.{length, length-set}
+use borrow.Author.Needs.{needs}
+use Rattle.sheet.specs.Literals.{within}
+use Rattle.table.proofs.Pads.{holds-falses-long}
+use Rattle.table.proofs.Compact.{Moved, moved-is, moved-from, moved-gone, moved-kept, moved-end}
+use Rattle.table.proofs.slots.remove.Statement.{statement}
+use Rattle.table.proofs.slots.remove.Tie as tie
+
+abbrev Inv-loop : tie.InvT-loop
+Inv-loop trues₀ falses₀ n l i₀ k₀ trues falses i k = Moved (λ e. not (within l e)) n trues₀ falses₀ trues falses k i
+
+abbrev μ-loop : tie.MeasureT-loop
+μ-loop trues₀ falses₀ n l i₀ k₀ trues falses i k = n - i
+
+first-above-requires : tie.Need-first-above-requires Inv-loop μ-loop
+first-above-requires c κs =
+    let q : length (c .before .before .before .before .args .falses .now) ≡ length (c .before .before .before .before .args .trues .now) = holds-falses-long _ _ _ _ _ (c .before .before .before .before .pre) in
+    (c .before .before .before .before .pre .room, omega (arith, c .before .before .before .before .pre .room))
+
+loop-holds : tie.Need-loop-holds Inv-loop μ-loop
+loop-holds c = moved-from _ _ _ _ (c .before .before .before .before .before .pre) _ (c .first-above .ensures .0) (c .first-above .ensures .1)
+
+mul-t13 : tie.Need-mul-t13 Inv-loop μ-loop
+mul-t13 c = omega arith
+
+slice-read-t15 : tie.Need-slice-read-t15 Inv-loop μ-loop
+slice-read-t15 c = omega arith
+
+mul-t16 : tie.Need-mul-t16 Inv-loop μ-loop
+mul-t16 c = omega arith
+
+slice-read-t18 : tie.Need-slice-read-t18 Inv-loop μ-loop
+slice-read-t18 c = omega arith
+
+mul-trues : tie.Need-mul-trues Inv-loop μ-loop
+mul-trues c = omega arith
+
+slice-write-trues : tie.Need-slice-write-trues Inv-loop μ-loop
+slice-write-trues c = omega arith
+
+mul-falses : tie.Need-mul-falses Inv-loop μ-loop
+mul-falses c = omega arith
+
+slice-write-falses : tie.Need-slice-write-falses Inv-loop μ-loop
+slice-write-falses c = omega arith
+
+within-requires : tie.Need-within-requires Inv-loop μ-loop
+within-requires c κs = search needs
+
+mul-trues-2 : tie.Need-mul-trues-2 Inv-loop μ-loop
+mul-trues-2 c = omega arith
+
+slice-write-trues-2 : tie.Need-slice-write-trues-2 Inv-loop μ-loop
+slice-write-trues-2 c = simp length-set (omega arith)
+
+mul-falses-2 : tie.Need-mul-falses-2 Inv-loop μ-loop
+mul-falses-2 c = omega arith
+
+slice-write-falses-2 : tie.Need-slice-write-falses-2 Inv-loop μ-loop
+slice-write-falses-2 c = simp length-set (omega arith)
+
+add-k : tie.Need-add-k Inv-loop μ-loop
+add-k c = omega arith
+
+add-i : tie.Need-add-i Inv-loop μ-loop
+add-i c = omega arith
+
+loop-less : tie.Need-loop-less Inv-loop μ-loop
+loop-less c = omega arith
+
+loop-again : tie.Need-loop-again Inv-loop μ-loop
+loop-again c =
+    let w = c .before .within .ensures in
+    ⊎-elim
+    (λ v. moved-is _ _ _ _ _ _ _ _ _ _ _ (v .1) (v .2) (v .3) (moved-kept _ _ _ _ (c .before .before .before .before .before .before .before .before .before .before .before .pre) _ _ _ _ (c .before .before .before .before .before .loop .inv) (omega arith) (ap not (sym w) ∙ v .0 .taken)))
+    (λ v. moved-is _ _ _ _ _ _ _ _ _ _ _ (v .1) (v .2) (v .3) (moved-gone _ _ _ _ (c .before .before .before .before .before .before .before .before .before .before .before .pre) _ _ _ _ (c .before .before .before .before .before .loop .inv) (omega arith) (ap not (sym w) ∙ v .0 .left)))
+    (c .if1 .came)
+
+same-length : tie.Need-same-length Inv-loop μ-loop
+same-length c = c .before .loop .inv .trues-long
+
+same-length-2 : tie.Need-same-length-2 Inv-loop μ-loop
+same-length-2 c = c .before .loop .inv .falses-long ∙ sym (holds-falses-long _ _ _ _ _ (c .before .before .before .before .before .before .before .pre))
+
+returns : tie.Need-returns Inv-loop μ-loop
+returns c = moved-end _ _ _ _ (c .before .before .before .before .before .before .before .pre) _ _ _ _ (c .before .loop .inv) (c .loop-test .left)
+
+pub remove-spec : {M : Type 1} → statement M
+remove-spec =
+    tie.close
+    (tie.spec
+    Inv-loop
+    μ-loop
+    first-above-requires
+    loop-holds
+    mul-t13
+    slice-read-t15
+    mul-t16
+    slice-read-t18
+    mul-trues
+    slice-write-trues
+    mul-falses
+    slice-write-falses
+    within-requires
+    mul-trues-2
+    slice-write-trues-2
+    mul-falses-2
+    slice-write-falses-2
+    add-k
+    add-i
+    loop-less
+    loop-again
+    same-length
+    same-length-2
+    returns)

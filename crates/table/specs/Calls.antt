@@ -1,0 +1,43 @@
+-- The calls `start` and `step` as functions of what they are given (document 01, "Numbers and their order").
+use mathlib.Core.Bool.{Bool, true, false}
+use mathlib.Core.List.{List, [], _∷_}
+use Prim.Native.Nat.{ℕ}
+use lib.Dec.{ltb}
+use lib.ListN.{length, getD}
+use Rattle.sheet.specs.declared.Answer.the-variants.{Accepted, Refused}
+use Rattle.sheet.specs.Literals.{noLiteral}
+use Rattle.sheet.specs.Problem.{Action, Problem, Statement}
+use Rattle.sheet.specs.Format.{Judgement, accepted, refused, sheetOf}
+use Rattle.table.specs.declared.Table.{Table}
+use Rattle.table.specs.declared.Tabled.{Tabled}
+use Rattle.table.specs.Minimal.{described, Outcome}
+use Rattle.table.specs.Start.{startTable}
+use Rattle.table.specs.Step.{stepTable}
+use Rattle.table.specs.Slots.{entries, tableOf}
+
+-- the outcome with the table; a refusal by its number, at position 0, with the table t
+unfoldable pub orGiven : Table → Outcome → Tabled
+orGiven t (Outcome.refused k) = record { answer = Refused k 0; table = t }
+orGiven t (Outcome.table u) = record { answer = Accepted; table = tableOf u }
+
+-- ---- start: a fault of the sheet; then 20 or 21, whichever comes first. Refused: a table with count 0 and all slots zero
+unfoldable pub startOf : Judgement → Tabled
+startOf (refused k p) = record { answer = Refused k p; table = tableOf [] }
+startOf (accepted x) = orGiven (tableOf []) (startTable 128 (x .problem))
+
+-- ---- step: a fault of the sheet; 7; 22; 24; 25; 21. Refused: the given table
+-- the move of a number
+unfoldable pub actionAt : Problem → ℕ → Action
+actionAt p m = getD (p .actions) m (record { precondition = noLiteral; effects = [] })
+
+abbrev pub stepKnown : Bool → Action → Table → Tabled
+stepKnown false a t = record { answer = Refused 22 0; table = t }
+stepKnown true a t = orGiven t (stepTable 128 a (entries t))
+
+abbrev pub stepMove : Bool → Problem → Table → ℕ → Tabled
+stepMove false p t m = record { answer = Refused 7 0; table = t }
+stepMove true p t m = stepKnown (described 128 (p .n) (entries t)) (actionAt p m) t
+
+unfoldable pub stepOf : Judgement → Table → ℕ → Tabled
+stepOf (refused k p) t m = record { answer = Refused k p; table = t }
+stepOf (accepted x) t m = stepMove (ltb m (length (x .problem .actions))) (x .problem) t m

@@ -1,0 +1,11 @@
+-- The definitions that the contracts of this crate cite, one file for each notion.
+pub mod Worlds
+pub mod Minimal
+pub mod Start
+pub mod Step
+pub mod Pairs
+pub mod Picture
+pub mod Prime
+pub mod Slots
+pub mod Reads
+pub mod Calls

@@ -1,0 +1,95 @@
+-- Lists of literal sets in two arrays of masks, over any capacity, and tables as structs.
+use mathlib.Core.Path.{_≡_}
+use mathlib.Core.Bool.{Bool, not, cond}
+use mathlib.Core.List.{List, [], _∷_, map}
+use mathlib.Core.Option.{Option, none, some}
+use Prim.Native.Nat.{ℕ, suc, _+_, _-_, _≤_}
+use lib.Dec.{eqb}
+use lib.ListN.{length}
+use Rattle.sheet.specs.declared.Literals.{Literals}
+use Rattle.sheet.specs.Literals.{within}
+use Rattle.sheet.specs.Lists.{anyOf, keep, pad}
+use Rattle.table.specs.declared.Table.{Table}
+use Rattle.table.specs.declared.slots.Found.{Found}
+use Rattle.table.specs.declared.slots.Found.the-variants.{At, Nothing}
+use Rattle.table.specs.declared.slots.Fate.{Fate}
+use Rattle.table.specs.declared.slots.Fate.the-variants.{Dropped, Added, Full}
+use Rattle.table.specs.declared.slots.Grown.{Grown}
+use Rattle.table.specs.declared.slots.Grown.the-variants as grown
+use Rattle.table.specs.Minimal.{put, putAll}
+
+-- two lists of masks side by side
+unfoldable pub pairs : List ℕ → List ℕ → List Literals
+pairs [] fs = []
+pairs (t ∷ ts) [] = []
+pairs (t ∷ ts) (f ∷ fs) = record { trues = t; falses = f } ∷ pairs ts fs
+
+abbrev pub trues-of : List Literals → List ℕ
+trues-of es = map (λ (e : Literals). e .trues) es
+
+abbrev pub falses-of : List Literals → List ℕ
+falses-of es = map (λ (e : Literals). e .falses) es
+
+-- the first n slots of two arrays
+unfoldable pub entriesOf : ℕ → List ℕ → List ℕ → List Literals
+entriesOf n ts fs = pairs (pad n 0 ts) (pad n 0 fs)
+
+-- the count n and the arrays ts, fs of capacity cap hold es, with zeros after it
+pub record Holds (cap : ℕ) (es : List Literals) (n : ℕ) (ts fs : List ℕ) : Type 0 where
+  pub count-is : n ≡ length es
+  pub room : n ≤ cap
+  pub trues-are : ts ≡ pad cap 0 (trues-of es)
+  pub falses-are : fs ≡ pad cap 0 (falses-of es)
+
+-- the slots from n on are zero
+abbrev pub Held : ℕ → ℕ → List ℕ → List ℕ → Type 0
+Held cap n ts fs = Holds cap (entriesOf n ts fs) n ts fs
+
+-- ---- tables
+-- the entries of a table: slots from its count on are not read
+unfoldable pub entries : Table → List Literals
+entries t = entriesOf (t .count) (t .trues) (t .falses)
+
+-- the table of a list: unused slots are zero
+unfoldable pub tableOf : List Literals → Table
+tableOf es = record { count = length es; trues = pad 128 0 (trues-of es); falses = pad 128 0 (falses-of es) }
+
+-- ---- what became of a candidate
+-- one place further, or at place 0 if b
+unfoldable pub shifted : Bool → Found → Found
+shifted b (At i) = At (suc i)
+shifted b Nothing = cond b (At 0) Nothing
+
+-- the place of the last member that passes the test; nothing exactly if none does
+unfoldable pub lastOf : (Literals → Bool) → List Literals → Found
+lastOf f [] = Nothing
+lastOf f (x ∷ xs) = shifted (f x) (lastOf f xs)
+
+-- the members that do not contain c
+abbrev pub left : List Literals → Literals → List Literals
+left s c = keep (λ e. not (within c e)) s
+
+-- the list, or s where it is full
+unfoldable pub orElse : List Literals → Option (List Literals) → List Literals
+orElse s none = s
+orElse s (some r) = r
+
+-- the list after a candidate; as it was where it is full
+unfoldable pub after : ℕ → List Literals → Literals → List Literals
+after cap s c = orElse s (put cap s c)
+
+-- dropped; added, with so many removed, and the new count; full
+unfoldable pub fateOf : ℕ → List Literals → Literals → Fate
+fateOf cap s c =
+    cond (anyOf (λ e. within e c) s) Dropped
+    (cond (eqb (length (left s c)) cap) Full (Added (length s - length (left s c)) (length (left s c) + 1)))
+
+-- ---- candidates put one after the other
+-- what was to be put gave o: with k entries in the slots it gave them; full it gave none
+abbrev pub Grew : ℕ → Option (List Literals) → Grown → List ℕ → List ℕ → Type 0
+Grew cap o (grown.To k) ts fs = (o ≡ some (entriesOf k ts fs)) × Held cap k ts fs
+Grew cap o grown.Full ts fs = o ≡ none
+
+-- the candidates cs were put after the first k entries of ts, fs; r, us and gs are what came of it
+pub record Puts (cs : List Literals) (k : ℕ) (ts fs : List ℕ) (r : Grown) (us gs : List ℕ) : Type 0 where
+  pub grew : Grew (length ts) (putAll (length ts) cs (entriesOf k ts fs)) r us gs

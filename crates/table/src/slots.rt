@@ -1,0 +1,125 @@
+// A list of literal sets in two lent slices of masks, none within another: slot i of both is one set. The slices' length is the capacity.
+use sheet::Literals;
+use sheet::masks::within;
+ghost use mathlib.Core.Path.{_≡_};
+ghost use mathlib.Core.List.{[], _∷_};
+ghost use Prim.Native.Nat.{_≤_};
+ghost use lib.ListN.{length, take};
+ghost use Rattle.sheet.specs.Literals as L;
+ghost use Rattle.table.specs.Slots.{entriesOf, Holds, Held, lastOf, left, after, fateOf, Puts};
+
+// The place of an entry, if there is one.
+pub enum Found {
+    At(usize),
+    Nothing,
+}
+
+// What became of a candidate.
+pub enum Fate {
+    Dropped,
+    Added { removed: usize, count: usize },
+    Full,
+}
+
+// How many entries there are after some candidates were put.
+pub enum Grown {
+    To(usize),
+    Full,
+}
+
+// The last of the first n entries whose literals all lie in l.
+pub fn last_within(trues: &[u32], falses: &[u32], n: usize, l: Literals) -> Found
+    requires { ⌜ (n ≤ length (now trues)) × (n ≤ length (now falses)) ⌝ }
+    ensures { λ r. ⌜ r ≡ lastOf (λ e. L.within e l) (entriesOf n (now (trues .entry)) (now (falses .entry))) ⌝ }
+{
+    let mut i = n;
+    while 0 < i {
+        i -= 1;
+        let e = Literals {
+            trues: trues[i],
+            falses: falses[i],
+        };
+        if within(e, l) {
+            return Found::At(i);
+        }
+    }
+    Found::Nothing
+}
+
+// How many of the first n entries stand before the first that contains l.
+pub fn first_above(trues: &[u32], falses: &[u32], n: usize, l: Literals) -> usize
+    requires { ⌜ (n ≤ length (now trues)) × (n ≤ length (now falses)) ⌝ }
+    ensures { λ r. ⌜ (r ≤ n) × (left (take r (entriesOf n (now (trues .entry)) (now (falses .entry)))) l ≡ take r (entriesOf n (now (trues .entry)) (now (falses .entry)))) ⌝ }
+{
+    let mut i: usize = 0;
+    while i < n {
+        let e = Literals {
+            trues: trues[i],
+            falses: falses[i],
+        };
+        if within(l, e) {
+            return i;
+        }
+        i += 1;
+    }
+    i
+}
+
+// The entries that contain l go; the others move up in order, and the slots that come free are zero. The result is how many are left.
+pub fn remove(trues: &mut [u32], falses: &mut [u32], n: usize, l: Literals) -> usize
+    requires { ⌜ Held (length (now trues)) n (now trues) (now falses) ⌝ }
+    ensures { λ r. ⌜ Holds (length (now (trues .entry))) (left (entriesOf n (now (trues .entry)) (now (falses .entry))) l) r (now (trues .exit)) (now (falses .exit)) ⌝ }
+{
+    let mut i = first_above(trues, falses, n, l);
+    let mut k = i;
+    while i < n {
+        let e = Literals {
+            trues: trues[i],
+            falses: falses[i],
+        };
+        trues[i] = 0;
+        falses[i] = 0;
+        if !within(l, e) {
+            trues[k] = e.trues;
+            falses[k] = e.falses;
+            k += 1;
+        }
+        i += 1;
+    }
+    k
+}
+
+// Puts a candidate. A full list is left as it was.
+pub fn put(trues: &mut [u32], falses: &mut [u32], n: usize, l: Literals) -> Fate
+    requires { ⌜ Held (length (now trues)) n (now trues) (now falses) ⌝ }
+    ensures { λ r. ⌜ r ≡ fateOf (length (now (trues .entry))) (entriesOf n (now (trues .entry)) (now (falses .entry))) l ⌝ }
+    ensures { λ r. ⌜ Holds (length (now (trues .entry))) (after (length (now (trues .entry))) (entriesOf n (now (trues .entry)) (now (falses .entry))) l) (length (after (length (now (trues .entry))) (entriesOf n (now (trues .entry)) (now (falses .entry))) l)) (now (trues .exit)) (now (falses .exit)) ⌝ }
+{
+    match last_within(trues, falses, n, l) {
+        Found::At(_) => Fate::Dropped,
+        Found::Nothing => {
+            let k = remove(trues, falses, n, l);
+            if k == trues.len() {
+                return Fate::Full;
+            }
+            trues[k] = l.trues;
+            falses[k] = l.falses;
+            Fate::Added {
+                removed: n - k,
+                count: k + 1,
+            }
+        }
+    }
+}
+
+// Puts a candidate, and says how many entries there are then.
+pub fn offer(trues: &mut [u32], falses: &mut [u32], n: usize, l: Literals) -> Grown
+    requires { ⌜ Held (length (now trues)) n (now trues) (now falses) ⌝ }
+    ensures { λ r. ⌜ Puts (l ∷ []) n (now (trues .entry)) (now (falses .entry)) r (now (trues .exit)) (now (falses .exit)) ⌝ }
+{
+    match put(trues, falses, n, l) {
+        Fate::Dropped => Grown::To(n),
+        Fate::Added { removed: _, count } => Grown::To(count),
+        Fate::Full => Grown::Full,
+    }
+}
