@@ -1,4 +1,4 @@
--- `sheet_cases::decode` meets its contract: the count of bytes lies within `out`. The measure is what is left of the line.
+-- `cases::decode` meets its contract: the count of bytes lies within `out`. The measure is what is left of the line.
 -- Assumes nothing.
 use Prim.Native.Nat.{_≤_, _-_}
 use mathlib.Core.Path.{_≡_}
@@ -6,8 +6,8 @@ use native.Mathlib.Omega.{arith}
 use lib.ListN.{length, length-set}
 use borrow.Author.Needs.{needs}
 use Rattle.io.proofs.Counting.{counts}
-use Rattle.sheet_cases.proofs.decode.Statement.{statement}
-use Rattle.sheet_cases.proofs.decode.Tie as tie
+use Rattle.cases.proofs.decode.Statement.{statement}
+use Rattle.cases.proofs.decode.Tie as tie
 
 abbrev Inv-loop : tie.InvT-loop
 Inv-loop line out₀ n₀ at₀ out n at = (1 ≤ at) × (n ≤ length out) × (length out ≡ length out₀)

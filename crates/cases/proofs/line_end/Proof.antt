@@ -1,11 +1,11 @@
--- `sheet_cases::line_end` meets its contract: the end lies between `from` and the length. The measure is what is left of the text.
+-- `cases::line_end` meets its contract: the end lies between `from` and the length. The measure is what is left of the text.
 -- Assumes nothing.
 use Prim.Native.Nat.{_≤_, _-_}
 use native.Mathlib.Omega.{arith}
 use lib.ListN.{length}
 use borrow.Author.Needs.{needs}
-use Rattle.sheet_cases.proofs.line_end.Statement.{statement}
-use Rattle.sheet_cases.proofs.line_end.Tie as tie
+use Rattle.cases.proofs.line_end.Statement.{statement}
+use Rattle.cases.proofs.line_end.Tie as tie
 
 abbrev Inv-loop : tie.InvT-loop
 Inv-loop text from end₀ end = (from ≤ end) × (end ≤ length text)
