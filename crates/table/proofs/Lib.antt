@@ -6,6 +6,7 @@ pub mod PutSlots
 pub mod Growing
 pub mod Choosing
 pub mod Started
+pub mod Turns
 pub mod PutLaws
 pub mod Splitting
 pub mod Stepping
@@ -13,11 +14,19 @@ pub mod Candidates
 pub mod Starting
 pub mod PairLaws
 pub mod Describing
+pub mod Walks
+pub mod Advancing
 pub mod ClausePut
 pub mod Primes
 pub mod Order
 pub mod PictureBytes
 pub mod Pictures
+pub mod Joining
+pub mod Firsts
+pub mod Inserting
+pub mod Folding
+pub mod MaskBytes
+pub mod Drawing
 pub mod Demands
 pub mod Examples
 pub mod PictureExamples

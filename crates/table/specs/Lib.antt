@@ -8,4 +8,7 @@ pub mod Picture
 pub mod Prime
 pub mod Slots
 pub mod Reads
+pub mod Moves
+pub mod Counts
 pub mod Calls
+pub mod PictureCalls

@@ -1,0 +1,44 @@
+-- `picture` meets its contract. Assumes nothing.
+use Rattle.table.proofs.Drawing.{sheet-refused, sheet-accepted}
+use borrow.Author.Needs.{needs}
+use Rattle.table.proofs.picture.Statement.{statement}
+use Rattle.table.proofs.picture.Tie as tie
+
+decode-requires : tie.Need-decode-requires
+decode-requires c κs = search needs
+
+enum-known-answer : tie.Need-enum-known-answer
+enum-known-answer c = search needs
+
+refused-requires : tie.Need-refused-requires
+refused-requires c κs = search needs
+
+enum-told : tie.Need-enum-told
+enum-told c = search needs
+
+draw-requires : tie.Need-draw-requires
+draw-requires c κs = search needs
+
+returns : tie.Need-returns
+returns c =
+    sheet-refused _ _ _ _ (c .before .before .before .before .decode .ensures) _ _ (c .before .before .answer .given .1) _ (c .refused .ensures)
+
+same-length : tie.Need-same-length
+same-length c = search needs
+
+returns-2 : tie.Need-returns-2
+returns-2 c =
+    sheet-accepted _ _ _ _ (c .before .before .before .before .before .before .before .before .before .before .before .before .decode .ensures) (c .before .before .before .before .before .before .before .before .before .before .enum-told .given .1) _ _ (c .before .before .draw .ensures)
+
+pub picture-spec : {M : Type 1} → statement M
+picture-spec =
+    tie.close
+    (tie.spec
+    decode-requires
+    enum-known-answer
+    refused-requires
+    enum-told
+    draw-requires
+    returns
+    same-length
+    returns-2)

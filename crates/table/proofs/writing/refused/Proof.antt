@@ -1,0 +1,12 @@
+-- `writing::refused` meets its contract. Assumes nothing.
+use mathlib.Core.Path.{refl}
+use Rattle.table.specs.PictureCalls.{refusal}
+use Rattle.table.proofs.writing.refused.Statement.{statement}
+use Rattle.table.proofs.writing.refused.Tie as tie
+
+returns : tie.Need-returns
+unfolding refusal
+returns c = refl
+
+pub refused-spec : {M : Type 1} → statement M
+refused-spec = tie.close (tie.spec returns)

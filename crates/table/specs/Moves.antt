@@ -1,0 +1,44 @@
+-- A move and a table as the step takes them.
+use mathlib.Core.Path.{_≡_}
+use mathlib.Core.Bool.{Bool, _&&_}
+use mathlib.Core.List.{List}
+use Prim.Native.Nat.{ℕ, _≤_}
+use lib.ListN.{getD}
+use Rattle.sheet.specs.declared.Literals.{Literals}
+use Rattle.sheet.specs.declared.Effect.{Effect}
+use Rattle.sheet.specs.declared.Move.{Move}
+use Rattle.sheet.specs.Literals.{join, clash, consistent, Proper}
+use Rattle.sheet.specs.Lists.{All}
+use Rattle.sheet.specs.declared.Sheet.{Sheet}
+use Rattle.sheet.specs.Problem.{Statement}
+use Rattle.sheet.specs.Encoding.{ProperAction, ProperStatement}
+use Rattle.sheet.specs.Decoded.{actionIn, slots}
+use Rattle.table.specs.declared.Table.{Table}
+use Rattle.table.specs.Slots.{entries}
+
+-- the set in slot i of two arrays
+unfoldable pub slot : List ℕ → List ℕ → ℕ → Literals
+slot ts fs i = record { trues = getD ts i 0; falses = getD fs i 0 }
+
+-- the effects of a move
+abbrev pub effectsOf : Move → List Effect
+effectsOf m = actionIn m .effects
+
+-- the results of e and f clash, and d admits both conditions
+abbrev pub opposed : Effect → Literals → Effect → Bool
+opposed e d f = clash (e .result) (f .result) && consistent (join d (join (e .condition) (f .condition)))
+
+-- a move and a table over the same n propositions, within their slots
+pub record Steps (m : Move) (t : Table) : Type 0 where
+  pub n : ℕ
+  pub n-most : n ≤ 32
+  pub effects-most : m .count ≤ 8
+  pub entries-most : t .count ≤ 128
+  pub action : ProperAction n (actionIn m)
+  pub proper : All (Proper n) (entries t)
+
+-- a sheet that was read
+pub record Filled (x : Sheet) : Type 0 where
+  pub statement : Statement
+  pub is : x ≡ slots statement
+  pub proper : ProperStatement statement
