@@ -112,7 +112,13 @@ pub fn write_pair(first: &[u8], a: u64, second: &[u8], b: u64) {
     io::write_all(STDOUT_FILENO, b"\n");
 }
 
-fn wide(x: u8) -> u64 {
+// A byte as a wider number.
+pub fn wide(x: u8) -> u64 {
+    x as u64
+}
+
+// A mask as a wider number.
+pub fn wide_mask(x: u32) -> u64 {
     x as u64
 }
 

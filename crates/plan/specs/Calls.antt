@@ -1,0 +1,78 @@
+-- The calls `run` and `search` as functions of what they are given (document 01, "Numbers and their order").
+use mathlib.Core.Bool.{Bool, true, false, cond}
+use mathlib.Core.List.{List, []}
+use Prim.Native.Nat.{ℕ}
+use lib.Dec.{ltb}
+use lib.ListN.{length}
+use Rattle.sheet.specs.declared.Literals.{Literals}
+use Rattle.sheet.specs.Lists.{pad}
+use Rattle.sheet.specs.Problem.{Problem, Statement}
+use Rattle.sheet.specs.Format.{Judgement, accepted, refused}
+use Rattle.table.specs.Minimal.{Outcome}
+use Rattle.table.specs.Start.{startTable}
+use Rattle.table.specs.Slots.{tableOf}
+use Rattle.plan.specs.declared.Row.{Row}
+use Rattle.plan.specs.declared.Ran.{Ran}
+use Rattle.plan.specs.declared.Verdict as case
+use Rattle.plan.specs.declared.Verdict.the-variants as ran
+use Rattle.plan.specs.declared.Searched.{Searched}
+use Rattle.plan.specs.declared.Kind.{Kind}
+use Rattle.plan.specs.declared.Kind.the-variants as kind
+use Rattle.plan.specs.Run.{Verdict, reached, short, stopped, full, runFrom, lastTable, rowsFrom, actionsOf}
+use Rattle.plan.specs.Search.{Answer, found, fullAt, nothing, firstOf, plansUpTo}
+
+-- ---- run: a fault of the sheet; 23 for fewer than 65 rows; 20 or 21 of the start; then the plan. Refused: a table with count 0 and all
+-- slots zero, and no row written
+-- each case of a run's answer with document 01's place and number
+unfoldable pub verdictOf : Verdict → case.Verdict
+verdictOf reached = ran.Reached
+verdictOf short = ran.Short
+verdictOf (stopped place number) = ran.Stopped place number
+verdictOf (full place) = ran.Full place
+
+unfoldable pub refusedRun : ℕ → ℕ → Ran
+refusedRun number position = record { verdict = ran.Refused number position; table = tableOf [] }
+
+-- the run of any plan of a problem
+unfoldable pub planned : Problem → List ℕ → Outcome → Ran
+planned p plan (Outcome.refused number) = refusedRun number 0
+planned p plan (Outcome.table t) =
+    record {
+      verdict = verdictOf (runFrom 128 (p .goal) 0 (actionsOf p plan) t);
+      table = tableOf (lastTable 128 (actionsOf p plan) t);
+    }
+
+unfoldable pub runOf : Judgement → ℕ → Ran
+runOf (refused k p) rows = refusedRun k p
+runOf (accepted x) rows = cond (ltb rows 65) (refusedRun 23 0) (planned (x .problem) (x .plan) (startTable 128 (x .problem)))
+
+-- the rows to write, from the first on; the others are kept
+unfoldable pub plannedRows : Problem → List ℕ → Outcome → List Row
+plannedRows p plan (Outcome.refused number) = []
+plannedRows p plan (Outcome.table t) = rowsFrom 128 0 (actionsOf p plan) t
+
+unfoldable pub rowsOf : Judgement → ℕ → List Row
+rowsOf (refused k p) rows = []
+rowsOf (accepted x) rows = cond (ltb rows 65) [] (plannedRows (x .problem) (x .plan) (startTable 128 (x .problem)))
+
+-- ---- search: a fault of the sheet; 8 for a limit above 8; 20 or 21 of the start; then the plans in order
+unfoldable pub refusedSearch : ℕ → ℕ → Searched
+refusedSearch number position = record { kind = kind.Refused number position; plan = pad 8 0 []; length = 0 }
+
+-- eight bytes with the length; bytes past it are zero, and for none the length is 0
+unfoldable pub answered : Answer → Searched
+answered (found plan) = record { kind = kind.Reached; plan = pad 8 0 plan; length = length plan }
+answered (fullAt plan place) = record { kind = kind.Full place; plan = pad 8 0 plan; length = length plan }
+answered nothing = record { kind = kind.Nothing; plan = pad 8 0 []; length = 0 }
+
+-- the first plan of at most `limit` moves that is reached or full
+unfoldable pub searchedFrom : Problem → ℕ → List Literals → Answer
+searchedFrom p limit t = firstOf (λ plan. runFrom 128 (p .goal) 0 (actionsOf p plan) t) (plansUpTo (length (p .actions)) limit)
+
+unfoldable pub searched : Problem → ℕ → Outcome → Searched
+searched p limit (Outcome.refused number) = refusedSearch number 0
+searched p limit (Outcome.table t) = answered (searchedFrom p limit t)
+
+unfoldable pub searchOf : Judgement → ℕ → Searched
+searchOf (refused k p) limit = refusedSearch k p
+searchOf (accepted x) limit = cond (ltb 8 limit) (refusedSearch 8 0) (searched (x .problem) limit (startTable 128 (x .problem)))

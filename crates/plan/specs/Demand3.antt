@@ -1,0 +1,81 @@
+-- Demand 3 (document 01, "For demand 3"): full runs, the classes of verdicts, the moves taken, the final picture of a run, sheets alike in
+-- sections 1 to 6.
+use mathlib.Core.Path.{_≡_}
+use mathlib.Core.Bool.{Bool, true, false, cond}
+use mathlib.Core.List.{List, []}
+use mathlib.Core.Option.{Option, none, some}
+use Prim.Native.Nat.{ℕ, _-_}
+use lib.Dec.{eqb}
+use lib.ListN.{take}
+use Rattle.sheet.specs.declared.Literals.{Literals}
+use Rattle.sheet.specs.Problem.{Statement}
+use Rattle.sheet.specs.Format.{accepted, sheetOf}
+use Rattle.table.specs.Worlds.{andThen}
+use Rattle.table.specs.Picture.{picture, pictureBytes}
+use Rattle.table.specs.Slots.{entries}
+use Rattle.plan.specs.declared.Ran.{Ran}
+use Rattle.plan.specs.declared.Verdict as case
+use Rattle.plan.specs.declared.Verdict.the-variants.{Reached, Short, Stopped, Full, Refused}
+
+-- ---- of a verdict
+-- full at a place, or refused because the start is full (21)
+unfoldable pub fullVerdict : case.Verdict → Bool
+fullVerdict Reached = false
+fullVerdict Short = false
+fullVerdict (Stopped place number) = false
+fullVerdict (Full place) = true
+fullVerdict (Refused number position) = eqb number 21
+
+unfoldable pub refusedVerdict : case.Verdict → Bool
+refusedVerdict Reached = false
+refusedVerdict Short = false
+refusedVerdict (Stopped place number) = false
+refusedVerdict (Full place) = false
+refusedVerdict (Refused number position) = true
+
+-- the three classes; full and refused are in none
+pub data Class : Type 0 where
+  isReached isShort isStopped : Class
+
+unfoldable pub classOf : case.Verdict → Option Class
+classOf Reached = some isReached
+classOf Short = some isShort
+classOf (Stopped place number) = some isStopped
+classOf (Full place) = none
+classOf (Refused number position) = none
+
+-- the moves taken: all of them for reached and short, those before the place for stopped and full
+unfoldable pub takenBy : {A : Type 0} → case.Verdict → List A → List A
+takenBy Reached plan = plan
+takenBy Short plan = plan
+takenBy (Stopped place number) plan = take (place - 1) plan
+takenBy (Full place) plan = take (place - 1) plan
+takenBy (Refused number position) plan = []
+
+-- ---- of a run
+unfoldable pub runFull : Ran → Bool
+runFull r = fullVerdict (r .verdict)
+
+unfoldable pub runRefused : Ran → Bool
+runRefused r = refusedVerdict (r .verdict)
+
+-- the clauses of the returned table's picture: none if it is full (21), or the run is refused
+unfoldable pub finalClauses : Ran → Option (List Literals)
+finalClauses r = cond (runRefused r) none (picture (entries (r .table)))
+
+-- the bytes that the picture call writes for the returned table, none after them
+unfoldable pub finalPicture : Ran → Option (List ℕ)
+finalPicture r = andThen (finalClauses r) (λ s. some (pictureBytes s))
+
+-- ---- two plans on one sheet: two accepted sheets alike in sections 1 to 6
+pub record SamePlanSheet (s₁ s₂ : List ℕ) (x y : Statement) : Type 0 where
+  pub first : sheetOf s₁ ≡ accepted x
+  pub second : sheetOf s₂ ≡ accepted y
+  pub alike : x .problem ≡ y .problem
+
+-- ---- two runs end alike: their verdicts are in one class, and unless that is stopped, final pictures that are not full have equal bytes
+pub record SameEnd (r₁ r₂ : Ran) : Type 0 where
+  pub class : Class
+  pub first : classOf (r₁ .verdict) ≡ some class
+  pub second : classOf (r₂ .verdict) ≡ some class
+  pub pictures : (class ≡ isStopped → ⊥) → (b₁ b₂ : List ℕ) → finalPicture r₁ ≡ some b₁ → finalPicture r₂ ≡ some b₂ → b₁ ≡ b₂

@@ -1,0 +1,52 @@
+-- Touching moves and exchanges (document 01, "Two moves touch if", "For demand 3").
+use mathlib.Core.Bool.{Bool, true, false, not, _&&_}
+use mathlib.Core.List.{List, [], _∷_}
+use Prim.Native.Nat.{ℕ, zero, suc}
+use lib.Dec.{eqb}
+use lib.Bits.{bitAnd, bitOr}
+use Rattle.sheet.specs.declared.Effect.{Effect}
+use Rattle.sheet.specs.Literals.{names}
+use Rattle.sheet.specs.Problem.{Action}
+
+-- the propositions in the results of some effects
+abbrev pub changedBy : List Effect → ℕ
+changedBy [] = 0
+changedBy (e ∷ es) = bitOr (names (e .result)) (changedBy es)
+
+-- the propositions named in the conditions of some effects
+abbrev pub readBy : List Effect → ℕ
+readBy [] = 0
+readBy (e ∷ es) = bitOr (names (e .condition)) (readBy es)
+
+unfoldable pub changed : Action → ℕ
+changed a = changedBy (a .effects)
+
+-- the propositions named in the precondition and the conditions
+unfoldable pub reads : Action → ℕ
+reads a = bitOr (names (a .precondition)) (readBy (a .effects))
+
+-- the propositions named anywhere in a move
+unfoldable pub named : Action → ℕ
+named a = bitOr (reads a) (changed a)
+
+-- a proposition in a result of one is named anywhere in the other
+unfoldable pub touch : Action → Action → Bool
+touch a b = not (eqb (bitAnd (changed a) (named b)) 0 && eqb (bitAnd (changed b) (named a)) 0)
+
+abbrev pub swap : Bool → ℕ → ℕ → List ℕ → List ℕ
+swap true a b plan = a ∷ b ∷ plan
+swap false a b plan = b ∷ a ∷ plan
+
+-- exchange k, from 1, on a plan of the numbers of the moves f: swaps moves k and k + 1; the plan stays if they touch or there is no
+-- move k + 1
+abbrev pub exchange : (ℕ → Action) → ℕ → List ℕ → List ℕ
+exchange f zero plan = plan
+exchange f (suc k) [] = []
+exchange f (suc k) (a ∷ []) = a ∷ []
+exchange f (suc zero) (a ∷ b ∷ plan) = swap (touch (f a) (f b)) a b plan
+exchange f (suc (suc k)) (a ∷ b ∷ plan) = a ∷ exchange f (suc k) (b ∷ plan)
+
+-- the first exchange gets the plan, each later one what the one before left
+abbrev pub exchanges : (ℕ → Action) → List ℕ → List ℕ → List ℕ
+exchanges f [] plan = plan
+exchanges f (k ∷ ks) plan = exchanges f ks (exchange f k plan)

@@ -1,0 +1,10 @@
+-- The definitions that the contracts and theorems of this crate cite, one file for each notion.
+pub mod Run
+pub mod Exchange
+pub mod Search
+pub mod Calls
+pub mod Weak
+pub mod Places
+pub mod Meaning
+pub mod Demand3
+pub mod Order

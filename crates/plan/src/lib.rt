@@ -1,0 +1,39 @@
+// Plans: the run of a plan, the search for one, and the text of the program.
+use table::Table;
+
+// What a run says of a place: the place, the entries of its table and the clauses of its picture.
+pub struct Row {
+    pub place: usize,
+    pub entries: usize,
+    pub clauses: usize,
+}
+
+// How a run ends; a place counts the moves, a number is document 01's.
+pub enum Verdict {
+    Reached,
+    Short,
+    Stopped(usize, u8),
+    Full(usize),
+    Refused(u8, usize),
+}
+
+// The verdict, and the last table that the run had.
+pub struct Ran {
+    pub verdict: Verdict,
+    pub table: Table,
+}
+
+// How a search ends.
+pub enum Kind {
+    Reached,
+    Full(usize),
+    Nothing,
+    Refused(u8, usize),
+}
+
+// The answer, and the plan: its moves in the first bytes, zeros after its length.
+pub struct Searched {
+    pub kind: Kind,
+    pub plan: [u8; 8],
+    pub length: usize,
+}
