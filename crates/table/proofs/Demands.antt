@@ -1,4 +1,5 @@
--- The theorems about tables: putting, the start (TH2), the step (TH3), the test of a table, contradictory results by pairs. Assumes nothing.
+-- The theorems about tables: putting, the start (TH2), the step (TH3), each number on its own condition (TH4), the picture (TH8), the test
+-- of a table, contradictory results by pairs. TH4 and TH8 are passed on from `Answers`, `PictureAnswers` and `Pictures`. Assumes nothing.
 use mathlib.Core.Path.{_≡_}
 use mathlib.Core.Bool.{true, not}
 use mathlib.Core.List.{List, [], _∷_, map}
@@ -23,6 +24,9 @@ use Rattle.table.proofs.Starting as starting
 use Rattle.table.proofs.Starting.{Stops}
 use Rattle.table.proofs.Describing as describing
 use Rattle.table.proofs.PairLaws as pairs
+pub use Rattle.table.proofs.Answers.{start-fault, start-number, start-accepted, start-back, step-fault, step-7, step-22, step-number, step-accepted, step-back}
+pub use Rattle.table.proofs.PictureAnswers.{picture-fault, picture-22, picture-21, picture-23, picture-accepted, picture-back}
+pub use Rattle.table.proofs.Pictures.{union-primes, picture-primes, picture-ascending, picture-worlds, prime-unique, bytes-worlds}
 
 -- ---- a table is as described exactly if its test passes
 pub described-iff : (cap n : ℕ) (t : List Literals) → (described cap n t ≡ true) ↔ Described cap n t

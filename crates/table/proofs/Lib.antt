@@ -27,6 +27,8 @@ pub mod Inserting
 pub mod Folding
 pub mod MaskBytes
 pub mod Drawing
+pub mod Answers
+pub mod PictureAnswers
 pub mod Demands
 pub mod Examples
 pub mod PictureExamples

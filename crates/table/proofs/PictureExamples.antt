@@ -1,4 +1,4 @@
--- The pictures among the worked examples. Assumes nothing.
+-- The pictures among the worked examples, and all examples of a table in one theorem (TH10). Assumes nothing.
 use mathlib.Core.Path.{_≡_, refl}
 use mathlib.Core.List.{[], _∷_}
 use mathlib.Core.Option.{some}
@@ -6,6 +6,7 @@ use Prim.Native.Nat.{ℕ}
 use Rattle.sheet.specs.declared.Literals.{Literals}
 use Rattle.sheet.specs.Literals.{has, mem, within, consistent, join, single, sign, literal, contains, membersFrom, members}
 use Rattle.table.specs.Minimal.{put}
+use Rattle.table.proofs.Examples.{Bench, bench}
 use Rattle.table.specs.Picture.{units, unions, fold, primes, before, insert, sortOnto, sort, picture}
 
 -- a set by its masks of true and false propositions
@@ -26,3 +27,7 @@ pub record PictureMarks : Type 0 where
 pub picture-marks : PictureMarks
 unfolding has mem within consistent join single sign literal contains membersFrom members put units unions fold primes before insert sortOnto sort picture
 picture-marks = record { m4 = refl; m5 = refl; m11 = refl; m13 = refl }
+
+-- the lists of m4 and m5 are those of m1 and m2: the start and the first step
+pub all-marks : Bench × PictureMarks
+all-marks = (bench, picture-marks)
