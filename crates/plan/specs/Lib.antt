@@ -8,3 +8,4 @@ pub mod Places
 pub mod Meaning
 pub mod Demand3
 pub mod Order
+pub mod Course

@@ -37,3 +37,16 @@ pub struct Searched {
     pub plan: [u8; 8],
     pub length: usize,
 }
+
+// The rows of a run as plain numbers: for each of the first count places, its entries and its clauses; zeros after them.
+pub struct Counts {
+    pub count: usize,
+    pub entries: [usize; 65],
+    pub clauses: [usize; 65],
+}
+
+// A run with the numbers of its rows.
+pub struct Course {
+    pub ran: Ran,
+    pub counts: Counts,
+}
