@@ -61,27 +61,27 @@ all-clear n hn es he (d ∷ t) h =
 
 -- ---- the outcome, by the tests in their order
 module _ (m : Move) (t : Table) (h : Steps m t) where
-  abbrev es : List Effect
-  es = effectsOf m
-
   abbrev outcome : Outcome
   outcome = stepTable 128 (actionIn m) (entries t)
 
-  abbrev ps : List Literals
-  ps = collect (pieces es) (entries t)
-
-  by-sure : (b : Bool) → allOf (λ d. within (m .precondition) d) (entries t) ≡ b → outcome ≡ stepSure b 128 es (entries t)
+  by-sure : (b : Bool) → allOf (λ d. within (m .precondition) d) (entries t) ≡ b → outcome ≡ stepSure b 128 (effectsOf m) (entries t)
   unfolding stepTable actionIn
-  by-sure b e = ap (λ (x : Bool). stepSure x 128 es (entries t)) e
+  by-sure b e = ap (λ (x : Bool). stepSure x 128 (effectsOf m) (entries t)) e
 
   pub unsure : allOf (λ d. within (m .precondition) d) (entries t) ≡ false → outcome ≡ refused 24
   unsure e = by-sure false e
 
-  module _ (s : allOf (λ d. within (m .precondition) d) (entries t) ≡ true) where
+  -- the effects as they were laid out
+  module _ (s : allOf (λ d. within (m .precondition) d) (entries t) ≡ true) (es : List Effect) (known : effectsOf m ≡ es) where
+    abbrev ps : List Literals
+    ps = collect (pieces es) (entries t)
+
     by-clear : (b : Bool) → anyOf (λ d. contradicts es d) (entries t) ≡ b → outcome ≡ stepClear (not b) 128 es ps
     by-clear b e =
         by-sure true s
-        ∙ ap (λ (x : Bool). stepClear x 128 es ps) (all-clear (h .n) (h .n-most) es (h .action .effects .each) (entries t) (h .proper) ∙ ap not e)
+        ∙ ap (λ (x : List Effect). stepSure true 128 x (entries t)) known
+        ∙ ap (λ (x : Bool). stepClear x 128 es ps)
+        (all-clear (h .n) (h .n-most) es (subst (All (ProperEffect (h .n))) known (h .action .effects .each)) (entries t) (h .proper) ∙ ap not e)
 
     pub unclear : anyOf (λ d. contradicts es d) (entries t) ≡ true → outcome ≡ refused 25
     unclear e = by-clear true e

@@ -30,5 +30,6 @@ pub mod Drawing
 pub mod Answers
 pub mod PictureAnswers
 pub mod Demands
+pub mod EffectRows
 pub mod Examples
 pub mod PictureExamples

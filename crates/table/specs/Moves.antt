@@ -1,9 +1,9 @@
 -- A move and a table as the step takes them.
 use mathlib.Core.Path.{_≡_}
 use mathlib.Core.Bool.{Bool, _&&_}
-use mathlib.Core.List.{List}
-use Prim.Native.Nat.{ℕ, _≤_}
-use lib.ListN.{getD}
+use mathlib.Core.List.{List, [], _∷_}
+use Prim.Native.Nat.{ℕ, zero, suc, _≤_, _+_, _*_}
+use lib.ListN.{getD, drop}
 use Rattle.sheet.specs.declared.Literals.{Literals}
 use Rattle.sheet.specs.declared.Effect.{Effect}
 use Rattle.sheet.specs.declared.Move.{Move}
@@ -23,6 +23,22 @@ slot ts fs i = record { trues = getD ts i 0; falses = getD fs i 0 }
 -- the effects of a move
 abbrev pub effectsOf : Move → List Effect
 effectsOf m = actionIn m .effects
+
+-- ---- effects as a row of masks, four to an effect
+unfoldable pub masksOf : Effect → List ℕ
+masksOf e = e .condition .trues ∷ e .condition .falses ∷ e .result .trues ∷ e .result .falses ∷ []
+
+unfoldable pub effectAt : List ℕ → ℕ → Effect
+effectAt row i =
+    record {
+      condition = record { trues = getD row (4 * i) 0; falses = getD row (4 * i + 1) 0 };
+      result = record { trues = getD row (4 * i + 2) 0; falses = getD row (4 * i + 3) 0 };
+    }
+
+-- the first n of them
+unfoldable pub effectsAt : ℕ → List ℕ → List Effect
+effectsAt zero row = []
+effectsAt (suc n) row = effectAt row 0 ∷ effectsAt n (drop 4 row)
 
 -- the results of e and f clash, and d admits both conditions
 abbrev pub opposed : Effect → Literals → Effect → Bool

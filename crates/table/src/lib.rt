@@ -7,6 +7,7 @@ ghost use Rattle.table.specs.Calls.{startOf, stepOf};
 ghost use Rattle.table.specs.PictureCalls.{pictureOf, bufferOf};
 
 pub mod clauses;
+pub mod effects;
 pub mod first;
 pub mod slots;
 pub mod sorting;

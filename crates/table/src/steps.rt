@@ -1,6 +1,8 @@
 // The step of a table over lent slices: 24, then 25 by pairs of effects, then the pieces of each entry, each image put in its turn.
 use crate::Table;
 use crate::Tabled;
+use crate::effects;
+use crate::effects::effect_at;
 use crate::slots;
 use crate::slots::Grown;
 use crate::tables::described;
@@ -14,7 +16,7 @@ use sheet::masks;
 ghost use mathlib.Core.Path.{_≡_};
 ghost use mathlib.Core.Bool.{_||_};
 ghost use mathlib.Core.List.{[], _∷_, map};
-ghost use Prim.Native.Nat.{_≤_, _<_};
+ghost use Prim.Native.Nat.{_≤_, _<_, _*_};
 ghost use lib.ListN.{length, drop};
 ghost use Rattle.sheet.specs.Literals as L;
 ghost use Rattle.sheet.specs.Lists.{anyOf, allOf, collect};
@@ -54,15 +56,13 @@ pub fn opposed(e: Effect, d: Literals, f: Effect) -> bool
 }
 
 // Some effect from `from` on is opposed to e in d.
-pub fn opposes(mv: Move, e: Effect, from: usize, d: Literals) -> bool
-    requires { ⌜ mv .count ≤ 8 ⌝ }
-    ensures { λ r. ⌜ r ≡ anyOf (M.opposed e d) (drop from (M.effectsOf mv)) ⌝ }
+pub fn opposes<'a>(effects: &'a [u32], size: usize, e: Effect, from: usize, d: Literals) -> bool
+    requires { ⌜ 4 * size ≤ length (now effects) ⌝ }
+    ensures { λ r. ⌜ r ≡ anyOf (M.opposed e d) (drop from (M.effectsAt size (now (effects .entry)))) ⌝ }
 {
-    let count = mv.count;
     let mut j = from;
-    while j < count {
-        let f = mv.effects[j];
-        if opposed(e, d, f) {
+    while j < size {
+        if opposed(e, d, effect_at(effects, j)) {
             return true;
         }
         j += 1;
@@ -71,15 +71,14 @@ pub fn opposes(mv: Move, e: Effect, from: usize, d: Literals) -> bool
 }
 
 // Two effects are opposed in d.
-pub fn contradicts(mv: Move, d: Literals) -> bool
-    requires { ⌜ mv .count ≤ 8 ⌝ }
-    ensures { λ r. ⌜ r ≡ P.contradicts (M.effectsOf mv) d ⌝ }
+pub fn contradicts<'a>(effects: &'a [u32], size: usize, d: Literals) -> bool
+    requires { ⌜ 4 * size ≤ length (now effects) ⌝ }
+    ensures { λ r. ⌜ r ≡ P.contradicts (M.effectsAt size (now (effects .entry))) d ⌝ }
 {
-    let count = mv.count;
     let mut i: usize = 0;
-    while i < count {
-        let e = mv.effects[i];
-        if opposes(mv, e, i + 1, d) {
+    while i < size {
+        let e = effect_at(effects, i);
+        if opposes(effects, size, e, i + 1, d) {
             return true;
         }
         i += 1;
@@ -88,14 +87,20 @@ pub fn contradicts(mv: Move, d: Literals) -> bool
 }
 
 // Two effects are opposed in some entry (25).
-pub fn unclear<'a>(mv: Move, trues: &'a [u32], falses: &'a [u32], count: usize) -> bool
-    requires { ⌜ mv .count ≤ 8 ⌝ }
+pub fn unclear<'a>(
+    effects: &'a [u32],
+    size: usize,
+    trues: &'a [u32],
+    falses: &'a [u32],
+    count: usize,
+) -> bool
+    requires { ⌜ 4 * size ≤ length (now effects) ⌝ }
     requires { ⌜ (count ≤ length (now trues)) × (count ≤ length (now falses)) ⌝ }
-    ensures { λ r. ⌜ r ≡ anyOf (λ d. P.contradicts (M.effectsOf mv) d) (entriesOf count (now (trues .entry)) (now (falses .entry))) ⌝ }
+    ensures { λ r. ⌜ r ≡ anyOf (λ d. P.contradicts (M.effectsAt size (now (effects .entry))) d) (entriesOf count (now (trues .entry)) (now (falses .entry))) ⌝ }
 {
     let mut i: usize = 0;
     while i < count {
-        if contradicts(mv, entry_at(trues, falses, i)) {
+        if contradicts(effects, size, entry_at(trues, falses, i)) {
             return true;
         }
         i += 1;
@@ -104,18 +109,18 @@ pub fn unclear<'a>(mv: Move, trues: &'a [u32], falses: &'a [u32], count: usize) 
 }
 
 // The results of the effects whose conditions lie in the piece, joined.
-pub fn results(mv: Move, piece: Literals) -> Literals
-    requires { ⌜ mv .count ≤ 8 ⌝ }
-    ensures { λ r. ⌜ r ≡ W.results (M.effectsOf mv) piece ⌝ }
+pub fn results<'a>(effects: &'a [u32], size: usize, piece: Literals) -> Literals
+    requires { ⌜ 4 * size ≤ length (now effects) ⌝ }
+    ensures { λ r. ⌜ r ≡ W.results (M.effectsAt size (now (effects .entry))) piece ⌝ }
 {
     let mut sum = Literals {
         trues: 0,
         falses: 0,
     };
-    let mut i = mv.count;
+    let mut i = size;
     while 0 < i {
         i -= 1;
-        let e = mv.effects[i];
+        let e = effect_at(effects, i);
         if masks::within(e.condition, piece) {
             sum = masks::join(e.result, sum);
         }
@@ -124,12 +129,19 @@ pub fn results(mv: Move, piece: Literals) -> Literals
 }
 
 // What a whole piece becomes is put.
-pub fn leaf(mv: Move, piece: Literals, trues: &mut [u32], falses: &mut [u32], k: usize) -> Grown
-    requires { ⌜ mv .count ≤ 8 ⌝ }
+pub fn leaf<'a, 'b>(
+    effects: &'a [u32],
+    size: usize,
+    piece: Literals,
+    trues: &'b mut [u32],
+    falses: &'b mut [u32],
+    k: usize,
+) -> Grown
+    requires { ⌜ 4 * size ≤ length (now effects) ⌝ }
     requires { ⌜ Held (length (now trues)) k (now trues) (now falses) ⌝ }
-    ensures { λ r. ⌜ Puts (S.image (M.effectsOf mv) piece ∷ []) k (now (trues .entry)) (now (falses .entry)) r (now (trues .exit)) (now (falses .exit)) ⌝ }
+    ensures { λ r. ⌜ Puts (S.image (M.effectsAt size (now (effects .entry))) piece ∷ []) k (now (trues .entry)) (now (falses .entry)) r (now (trues .exit)) (now (falses .exit)) ⌝ }
 {
-    let r = results(mv, piece);
+    let r = results(effects, size, piece);
     slots::offer(trues, falses, k, masks::replace(piece, r))
 }
 
@@ -152,36 +164,45 @@ pub fn without(piece: Literals, l: usize) -> Literals
 }
 
 // The pieces of `piece` by the conditions from `at` on, depth first, each put in its turn.
-pub fn split(
-    mv: Move,
+pub fn split<'a, 'b>(
+    effects: &'a [u32],
+    size: usize,
     at: usize,
     piece: Literals,
-    trues: &mut [u32],
-    falses: &mut [u32],
+    trues: &'b mut [u32],
+    falses: &'b mut [u32],
     k: usize,
 ) -> Grown
-    requires { ⌜ mv .count ≤ 8 ⌝ }
+    requires { ⌜ 4 * size ≤ length (now effects) ⌝ }
     requires { ⌜ Held (length (now trues)) k (now trues) (now falses) ⌝ }
-    ensures { λ r. ⌜ Puts (map (S.image (M.effectsOf mv)) (S.pieces (drop at (M.effectsOf mv)) piece)) k (now (trues .entry)) (now (falses .entry)) r (now (trues .exit)) (now (falses .exit)) ⌝ }
+    ensures { λ r. ⌜ Puts (map (S.image (M.effectsAt size (now (effects .entry)))) (S.pieces (drop at (M.effectsAt size (now (effects .entry)))) piece)) k (now (trues .entry)) (now (falses .entry)) r (now (trues .exit)) (now (falses .exit)) ⌝ }
 {
-    let count = mv.count;
-    if count <= at {
-        return leaf(mv, piece, trues, falses, k);
+    if size <= at {
+        return leaf(effects, size, piece, trues, falses, k);
     }
-    let e = mv.effects[at];
+    let e = effect_at(effects, at);
     let condition = e.condition;
     let next = at + 1;
     if stays(condition, piece) {
-        return split(mv, next, piece, trues, falses, k);
+        return split(effects, size, next, piece, trues, falses, k);
     }
-    let Grown::To(first) = split(mv, next, masks::join(piece, condition), trues, falses, k) else {
+    let Grown::To(first) = split(
+        effects,
+        size,
+        next,
+        masks::join(piece, condition),
+        trues,
+        falses,
+        k,
+    ) else {
         return Grown::Full;
     };
     let mut sum = first;
     let mut l = masks::next(condition, 0);
     while l < 64 {
         if !masks::contains(piece, l) {
-            let Grown::To(m) = split(mv, next, without(piece, l), trues, falses, sum) else {
+            let Grown::To(m) = split(effects, size, next, without(piece, l), trues, falses, sum)
+            else {
                 return Grown::Full;
             };
             sum = m;
@@ -193,7 +214,8 @@ pub fn split(
 
 // The pieces of the first m entries of ts and fs, each put in its turn.
 pub fn spread<'a, 'b>(
-    mv: Move,
+    effects: &'a [u32],
+    size: usize,
     ts: &'a [u32],
     fs: &'a [u32],
     m: usize,
@@ -201,15 +223,15 @@ pub fn spread<'a, 'b>(
     falses: &'b mut [u32],
     k: usize,
 ) -> Grown
-    requires { ⌜ mv .count ≤ 8 ⌝ }
+    requires { ⌜ 4 * size ≤ length (now effects) ⌝ }
     requires { ⌜ (m ≤ length (now ts)) × (m ≤ length (now fs)) ⌝ }
     requires { ⌜ Held (length (now trues)) k (now trues) (now falses) ⌝ }
-    ensures { λ r. ⌜ Puts (map (S.image (M.effectsOf mv)) (collect (S.pieces (M.effectsOf mv)) (entriesOf m (now (ts .entry)) (now (fs .entry))))) k (now (trues .entry)) (now (falses .entry)) r (now (trues .exit)) (now (falses .exit)) ⌝ }
+    ensures { λ r. ⌜ Puts (map (S.image (M.effectsAt size (now (effects .entry)))) (collect (S.pieces (M.effectsAt size (now (effects .entry)))) (entriesOf m (now (ts .entry)) (now (fs .entry))))) k (now (trues .entry)) (now (falses .entry)) r (now (trues .exit)) (now (falses .exit)) ⌝ }
 {
     let mut sum = k;
     let mut i: usize = 0;
     while i < m {
-        let Grown::To(j) = split(mv, 0, entry_at(ts, fs, i), trues, falses, sum) else {
+        let Grown::To(j) = split(effects, size, 0, entry_at(ts, fs, i), trues, falses, sum) else {
             return Grown::Full;
         };
         sum = j;
@@ -238,13 +260,17 @@ pub fn advance(mv: Move, table: Table) -> Tabled
     if !sure(precondition, &table.trues, &table.falses, count) {
         return refused(24, table);
     }
-    if unclear(mv, &table.trues, &table.falses, count) {
+    let size = mv.count;
+    let mut row = [0u32; 32];
+    effects::lay(mv, &mut row);
+    if unclear(&row, size, &table.trues, &table.falses, count) {
         return refused(25, table);
     }
     let mut trues = [0u32; 128];
     let mut falses = [0u32; 128];
     match spread(
-        mv,
+        &row,
+        size,
         &table.trues,
         &table.falses,
         count,

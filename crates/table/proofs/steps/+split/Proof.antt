@@ -10,10 +10,9 @@ use borrow.Author.Needs.{needs}
 use borrow.Fn.Kinds.{In}
 use borrow.Fn.PlainCycle.{Measures, is, falls, and}
 use Rattle.sheet.specs.Literals.{noLiteral, next as nextOf}
-use Rattle.sheet.specs.Decoded.{noEffect, actionIn}
-use Rattle.sheet.proofs.Prefixes.{part-step, part-end, length-mapped}
 use Rattle.table.specs.Step.{pieces, image}
-use Rattle.table.specs.Moves.{effectsOf}
+use Rattle.table.specs.Moves.{effectsAt}
+use Rattle.table.proofs.EffectRows.{effects-step, effects-end}
 use Rattle.table.proofs.Pads.{holds-trues-long, holds-falses-long, held-own}
 use Rattle.table.proofs.Growing.{puts-is, Going, going-start, going-on, going-full, going-end}
 use Rattle.table.proofs.Walks.{puts-then, puts-stop, puts-held, going-at, next-fixed, next-past, at-leaf, waysFrom, at-whole, at-parts, ways-in, ways-out, ways-end}
@@ -24,13 +23,14 @@ use Rattle.sheet.proofs.masks.contains.Reads as contains-reads
 use Rattle.sheet.proofs.masks.join.Reads as join-reads
 use Rattle.sheet.proofs.masks.next.Reads as next-reads
 use Rattle.table.proofs.steps.leaf.Reads as leaf-reads
+use Rattle.table.proofs.effects.effect_at.Reads as effect-at-reads
 use Rattle.table.proofs.steps.stays.Reads as stays-reads
 use Rattle.table.proofs.steps.without.Reads as without-reads
 use Rattle.table.proofs.steps.+split.{statement}
 use Rattle.table.proofs.steps.+split.Tie.{close}
 
 abbrev μ-split : Measures 2 split-kinds.ps ℕ
-μ-split κs a = a .0 .count - a .1 .0
+μ-split κs a = a .1 .0 - a .1 .1 .0
 
 abbrev split-at : ℕ → In 2 split-kinds.ps
 split-at t = and 2 split-kinds.ps (is 2 split-kinds.ps μ-split t) split.Pre
@@ -39,34 +39,32 @@ abbrev split-below : ℕ → In 2 split-kinds.ps
 split-below t = and 2 split-kinds.ps (falls 2 split-kinds.ps _<_ μ-split t) split.Pre
 
 abbrev claims : ℕ → split-lts.Claims
-claims t = (leaf-reads.Asked, leaf-reads.Learnt, stays-reads.Asked, stays-reads.Learnt, split-below t, split.Post, join-reads.Asked, join-reads.Learnt, next-reads.Asked, next-reads.Learnt, contains-reads.Asked, contains-reads.Learnt, without-reads.Asked, without-reads.Learnt)
+claims t = (leaf-reads.Asked, leaf-reads.Learnt, effect-at-reads.Asked, effect-at-reads.Learnt, stays-reads.Asked, stays-reads.Learnt, split-below t, split.Post, join-reads.Asked, join-reads.Learnt, next-reads.Asked, next-reads.Learnt, contains-reads.Asked, contains-reads.Learnt, without-reads.Asked, without-reads.Learnt)
 
 abbrev split-Inv-loop : split-lts.InvT-loop
-split-Inv-loop at piece trues₀ falses₀ k mv count condition next first sum₀ l₀ trues falses sum l =
+split-Inv-loop effects size at piece trues₀ falses₀ k condition next first sum₀ l₀ trues falses sum l =
     (nextOf condition l ≡ l)
-    × Going (waysFrom (effectsOf mv) (drop next (effectsOf mv)) condition piece l₀) sum₀ trues₀ falses₀
-    (waysFrom (effectsOf mv) (drop next (effectsOf mv)) condition piece l) sum trues falses
+    × Going (waysFrom (effectsAt size effects) (drop next (effectsAt size effects)) condition piece l₀) sum₀ trues₀ falses₀
+    (waysFrom (effectsAt size effects) (drop next (effectsAt size effects)) condition piece l) sum trues falses
 
 abbrev split-μ-loop : split-lts.MeasureT-loop
-split-μ-loop at piece trues₀ falses₀ k mv count condition next first sum₀ l₀ trues falses sum l = 64 - l
+split-μ-loop effects size at piece trues₀ falses₀ k condition next first sum₀ l₀ trues falses sum l = 64 - l
 
 -- the piece with the whole condition comes first, and then the missing literals
 parts-of : (t : ℕ) (c : split-lts.After-join (claims t) (split-at t) split.Post split-Inv-loop split-μ-loop) (l : ℕ)
-    → let a = c .before .before .before .before .before .before .before .before .args in
-    let es = effectsOf (a .t1) in
-    let d = getD (a .t1 .effects) (a .at) noEffect .condition in
+    → let a = c .before .before .before .before .before .before .before .before .before .args in
+    let es = effectsAt (a .size) (a .effects .now) in
+    let d = c .before .before .before .before .effect-at .result .condition in
     l ≡ nextOf d 0
     → map (image es) (pieces (drop (a .at) es) (a .piece)) ≡ map (image es) (pieces (drop (a .at + 1) es) (c .join .result)) ++ waysFrom es (drop (a .at + 1) es) d (a .piece) l
-unfolding actionIn noEffect noLiteral
 parts-of t c l q =
-    let s = c .before .before .before .before .before .before .before .before in
-    let n : length (s .args .t1 .effects) ≡ 8 = search (needs, length-mapped) in
-    at-parts (effectsOf (s .args .t1)) _ _ _ (s .args .piece)
-    (part-step (s .args .t1 .count) (s .args .t1 .effects) (s .args .at) _ (omega (arith, c .before .before .before .before .before .if1 .left)) (omega (arith, s .pre .1 .0)))
+    let a = c .before .before .before .before .before .before .before .before .before .args in
+    at-parts (effectsAt (a .size) (a .effects .now)) _ _ _ (a .piece)
+    (effects-step (a .size) (a .effects .now) (a .at) _ (c .before .before .before .before .before .if1 .left) (c .before .before .before .before .effect-at .ensures))
     (c .join .result) l (sym (c .before .before .stays .ensures) ∙ c .before .if2 .left) (c .join .ensures) q
 
 split-leaf-requires : (t : ℕ) → split-lts.Need-leaf-requires (claims t) (split-at t) split.Post split-Inv-loop split-μ-loop
-split-leaf-requires t c κs = c .before .before .before .before .before .pre .1
+split-leaf-requires t c κs = c .before .before .before .before .before .before .pre .1
 
 split-same-length : (t : ℕ) → split-lts.Need-same-length (claims t) (split-at t) split.Post split-Inv-loop split-μ-loop
 split-same-length t c = search needs
@@ -75,19 +73,14 @@ split-same-length-2 : (t : ℕ) → split-lts.Need-same-length-2 (claims t) (spl
 split-same-length-2 t c = search needs
 
 split-returns : (t : ℕ) → split-lts.Need-returns (claims t) (split-at t) split.Post split-Inv-loop split-μ-loop
-unfolding actionIn
 split-returns t c =
-    let s = c .before .before .before .before .before .before .before .before .before .before in
-    let n : length (s .args .t1 .effects) ≡ 8 = search (needs, length-mapped) in
+    let a = c .before .before .before .before .before .before .before .before .before .before .before .args in
     puts-is _ _ _ _ _ _ _ _
-    (at-leaf (effectsOf (s .args .t1)) _ _ (part-end (s .args .t1 .count) (s .args .t1 .effects) (s .args .at) (omega arith) (omega arith)))
+    (at-leaf (effectsAt (a .size) (a .effects .now)) _ _ (effects-end (a .size) (a .effects .now) (a .at) (omega arith)))
     (c .before .before .before .before .leaf .ensures)
 
-split-mul-e : (t : ℕ) → split-lts.Need-mul-e (claims t) (split-at t) split.Post split-Inv-loop split-μ-loop
-split-mul-e t c = search needs
-
-split-element-copy-out-e : (t : ℕ) → split-lts.Need-element-copy-out-e (claims t) (split-at t) split.Post split-Inv-loop split-μ-loop
-split-element-copy-out-e t c = search needs
+split-effect-at-requires : (t : ℕ) → split-lts.Need-effect-at-requires (claims t) (split-at t) split.Post split-Inv-loop split-μ-loop
+split-effect-at-requires t c κs = search needs
 
 split-add-next : (t : ℕ) → split-lts.Need-add-next (claims t) (split-at t) split.Post split-Inv-loop split-μ-loop
 split-add-next t c = search needs
@@ -96,7 +89,7 @@ split-stays-requires : (t : ℕ) → split-lts.Need-stays-requires (claims t) (s
 split-stays-requires t c κs = search needs
 
 split-split-requires : (t : ℕ) → split-lts.Need-split-requires (claims t) (split-at t) split.Post split-Inv-loop split-μ-loop
-split-split-requires t c κs = (omega arith, c .before .before .before .before .before .before .before .before .before .pre .1)
+split-split-requires t c κs = (omega arith, c .before .before .before .before .before .before .before .before .before .before .pre .1)
 
 split-same-length-3 : (t : ℕ) → split-lts.Need-same-length-3 (claims t) (split-at t) split.Post split-Inv-loop split-μ-loop
 split-same-length-3 t c = search needs
@@ -105,20 +98,20 @@ split-same-length-4 : (t : ℕ) → split-lts.Need-same-length-4 (claims t) (spl
 split-same-length-4 t c = search needs
 
 split-returns-2 : (t : ℕ) → split-lts.Need-returns-2 (claims t) (split-at t) split.Post split-Inv-loop split-μ-loop
-unfolding actionIn
 split-returns-2 t c =
-    let s = c .before .before .before .before .before .before .before .before .before .before .before .before .before .before in
-    let n : length (s .args .t1 .effects) ≡ 8 = search (needs, length-mapped) in
+    let o = c .before .before .before .before .before .before .before .before in
+    let a = o .before .before .before .before .before .before .before .args in
     puts-is _ _ _ _ _ _ _ _
-    (at-whole (effectsOf (s .args .t1)) _ _ _ (s .args .piece) (part-step (s .args .t1 .count) (s .args .t1 .effects) (s .args .at) _ (omega (arith, c .before .before .before .before .before .before .before .before .before .before .before .if1 .left)) (omega (arith, s .pre .1 .0)))
-    (sym (c .before .before .before .before .before .before .before .before .stays .ensures) ∙ c .before .before .before .before .before .before .before .if2 .taken))
+    (at-whole (effectsAt (a .size) (a .effects .now)) _ _ _ (a .piece)
+    (effects-step (a .size) (a .effects .now) (a .at) _ (o .before .before .before .if1 .left) (o .before .before .effect-at .ensures))
+    (sym (o .stays .ensures) ∙ c .before .before .before .before .before .before .before .if2 .taken))
     (c .before .before .before .before .split .ensures)
 
 split-join-requires : (t : ℕ) → split-lts.Need-join-requires (claims t) (split-at t) split.Post split-Inv-loop split-μ-loop
 split-join-requires t c κs = search needs
 
 split-split-requires-2 : (t : ℕ) → split-lts.Need-split-requires-2 (claims t) (split-at t) split.Post split-Inv-loop split-μ-loop
-split-split-requires-2 t c κs = (omega arith, c .before .before .before .before .before .before .before .before .before .before .pre .1)
+split-split-requires-2 t c κs = (omega arith, c .before .before .before .before .before .before .before .before .before .before .before .pre .1)
 
 split-enum-known-first : (t : ℕ) → split-lts.Need-enum-known-first (claims t) (split-at t) split.Post split-Inv-loop split-μ-loop
 split-enum-known-first t c = search needs
@@ -127,13 +120,12 @@ split-enum-told : (t : ℕ) → split-lts.Need-enum-told (claims t) (split-at t)
 split-enum-told t c = search needs
 
 split-same-length-5 : (t : ℕ) → split-lts.Need-same-length-5 (claims t) (split-at t) split.Post split-Inv-loop split-μ-loop
-split-same-length-5 t c = c .before .before .before .before .before .before .split2 .kept .1 .1 .1 .0
+split-same-length-5 t c = c .before .before .before .before .before .before .split2 .kept .1 .1 .1 .1 .0
 
 split-same-length-6 : (t : ℕ) → split-lts.Need-same-length-6 (claims t) (split-at t) split.Post split-Inv-loop split-μ-loop
-split-same-length-6 t c = c .before .before .before .before .before .before .split2 .kept .1 .1 .1 .1 .0
+split-same-length-6 t c = c .before .before .before .before .before .before .split2 .kept .1 .1 .1 .1 .1 .0
 
 split-returns-3 : (t : ℕ) → split-lts.Need-returns-3 (claims t) (split-at t) split.Post split-Inv-loop split-μ-loop
-unfolding noEffect noLiteral
 split-returns-3 t c =
     puts-stop _ _ _ _ _ _ _ _ _
     (parts-of t (c .before .before .before .before .before .before .before .before .before) _ refl)
@@ -156,8 +148,8 @@ split-without-requires t c κs = search needs
 
 split-split-requires-3 : (t : ℕ) → split-lts.Need-split-requires-3 (claims t) (split-at t) split.Post split-Inv-loop split-μ-loop
 split-split-requires-3 t c κs = (
-  omega (arith, c .before .before .before .before .before .before .before .before .before .before .before .before .before .before .before .before .before .before .before .before .before .before .before .if1 .left, c .before .before .before .before .before .before .before .before .before .before .before .before .before .before .before .before .before .before .before .before .before .before .before .before .before .before .pre .0),
-  (c .before .before .before .before .before .before .before .before .before .before .before .before .before .before .before .before .before .before .before .before .before .before .before .before .before .before .pre .1 .0, held-own _ _ _ _ (c .before .before .before .before .before .before .loop .inv .1 .held)),
+  omega (arith, c .before .before .before .before .before .before .before .before .before .before .before .before .before .before .before .before .before .before .before .before .before .before .before .if1 .left, c .before .before .before .before .before .before .before .before .before .before .before .before .before .before .before .before .before .before .before .before .before .before .before .before .before .before .before .pre .0),
+  (c .before .before .before .before .before .before .before .before .before .before .before .before .before .before .before .before .before .before .before .before .before .before .before .before .before .before .before .pre .1 .0, held-own _ _ _ _ (c .before .before .before .before .before .before .loop .inv .1 .held)),
 )
 
 split-enum-known-m : (t : ℕ) → split-lts.Need-enum-known-m (claims t) (split-at t) split.Post split-Inv-loop split-μ-loop
@@ -168,19 +160,18 @@ split-enum-told-2 t c = search needs
 
 split-same-length-7 : (t : ℕ) → split-lts.Need-same-length-7 (claims t) (split-at t) split.Post split-Inv-loop split-μ-loop
 split-same-length-7 t c =
-    c .before .before .before .before .before .before .split3 .kept .1 .1 .1 .0
+    c .before .before .before .before .before .before .split3 .kept .1 .1 .1 .1 .0
     ∙ holds-trues-long _ _ _ _ _ (c .before .before .before .before .before .before .before .before .before .before .before .before .before .loop .inv .1 .held)
-    ∙ c .before .before .before .before .before .before .before .before .before .before .before .before .before .before .before .before .before .before .before .before .before .before .split2 .kept .1 .1 .1 .0
+    ∙ c .before .before .before .before .before .before .before .before .before .before .before .before .before .before .before .before .before .before .before .before .before .before .split2 .kept .1 .1 .1 .1 .0
 
 split-same-length-8 : (t : ℕ) → split-lts.Need-same-length-8 (claims t) (split-at t) split.Post split-Inv-loop split-μ-loop
 split-same-length-8 t c =
-    c .before .before .before .before .before .before .split3 .kept .1 .1 .1 .1 .0
+    c .before .before .before .before .before .before .split3 .kept .1 .1 .1 .1 .1 .0
     ∙ holds-falses-long _ _ _ _ _ (c .before .before .before .before .before .before .before .before .before .before .before .before .before .loop .inv .1 .held)
-    ∙ c .before .before .before .before .before .before .before .before .before .before .before .before .before .before .before .before .before .before .before .before .before .before .split2 .kept .1 .1 .1 .0
-    ∙ sym (holds-falses-long _ _ _ _ _ (c .before .before .before .before .before .before .before .before .before .before .before .before .before .before .before .before .before .before .before .before .before .before .before .before .before .before .before .before .before .before .before .before .before .pre .1 .1))
+    ∙ c .before .before .before .before .before .before .before .before .before .before .before .before .before .before .before .before .before .before .before .before .before .before .split2 .kept .1 .1 .1 .1 .0
+    ∙ sym (holds-falses-long _ _ _ _ _ (c .before .before .before .before .before .before .before .before .before .before .before .before .before .before .before .before .before .before .before .before .before .before .before .before .before .before .before .before .before .before .before .before .before .before .pre .1 .1))
 
 split-returns-4 : (t : ℕ) → split-lts.Need-returns-4 (claims t) (split-at t) split.Post split-Inv-loop split-μ-loop
-unfolding noEffect noLiteral
 split-returns-4 t c =
     puts-then _ _ _ _ _ _ _ _ _
     (parts-of t (c .before .before .before .before .before .before .before .before .before .before .before .before .before .before .before .before .before .before .before .before .before .before .before .before .before) _ (c .before .before .before .before .before .before .before .before .before .before .before .before .before .before .next .ensures))
@@ -201,7 +192,6 @@ split-loop-less t c =
     omega (arith, c .before .before .before .loop-test .taken)
 
 split-loop-again : (t : ℕ) → split-lts.Need-loop-again (claims t) (split-at t) split.Post split-Inv-loop split-μ-loop
-unfolding actionIn
 split-loop-again t c = (
   next-fixed _ _ _ (c .next2 .ensures),
   ⊎-elim
@@ -216,16 +206,15 @@ split-loop-again t c = (
 )
 
 split-same-length-9 : (t : ℕ) → split-lts.Need-same-length-9 (claims t) (split-at t) split.Post split-Inv-loop split-μ-loop
-split-same-length-9 t c = holds-trues-long _ _ _ _ _ (c .before .loop .inv .1 .held) ∙ c .before .before .before .before .before .before .before .before .before .before .split2 .kept .1 .1 .1 .0
+split-same-length-9 t c = holds-trues-long _ _ _ _ _ (c .before .loop .inv .1 .held) ∙ c .before .before .before .before .before .before .before .before .before .before .split2 .kept .1 .1 .1 .1 .0
 
 split-same-length-10 : (t : ℕ) → split-lts.Need-same-length-10 (claims t) (split-at t) split.Post split-Inv-loop split-μ-loop
 split-same-length-10 t c =
     holds-falses-long _ _ _ _ _ (c .before .loop .inv .1 .held)
-    ∙ c .before .before .before .before .before .before .before .before .before .before .split2 .kept .1 .1 .1 .0
-    ∙ sym (holds-falses-long _ _ _ _ _ (c .before .before .before .before .before .before .before .before .before .before .before .before .before .before .before .before .before .before .before .before .before .pre .1 .1))
+    ∙ c .before .before .before .before .before .before .before .before .before .before .split2 .kept .1 .1 .1 .1 .0
+    ∙ sym (holds-falses-long _ _ _ _ _ (c .before .before .before .before .before .before .before .before .before .before .before .before .before .before .before .before .before .before .before .before .before .before .pre .1 .1))
 
 split-returns-5 : (t : ℕ) → split-lts.Need-returns-5 (claims t) (split-at t) split.Post split-Inv-loop split-μ-loop
-unfolding noEffect noLiteral
 split-returns-5 t c =
     puts-then _ _ _ _ _ _ _ _ _
     (parts-of t (c .before .before .before .before .before .before .before .before .before .before .before .before .before) _ (c .before .before .next .ensures))
@@ -242,8 +231,7 @@ pub +split-spec : {M : Type 1} → statement M
     (split-same-length t)
     (split-same-length-2 t)
     (split-returns t)
-    (split-mul-e t)
-    (split-element-copy-out-e t)
+    (split-effect-at-requires t)
     (split-add-next t)
     (split-stays-requires t)
     (split-split-requires t)

@@ -20,9 +20,17 @@ refused-requires c κs = search needs
 returns : tie.Need-returns
 unfolding entries
 returns c =
-    let a = c .before .before .before .before .before .before .before .before .before .args in
-    let h = c .before .before .before .before .before .before .before .before .before .pre in
-    c .refused .ensures ∙ sym (ap (orGiven (a .t2)) (unsure (a .mv) (a .t2) h (sym (c .before .before .sure .ensures) ∙ not-true _ (c .before .if1 .taken))))
+    let o = c .before .before .before .before .before .before .before .before .before in
+    c .refused .ensures ∙ sym (ap (orGiven (o .args .t2)) (unsure (o .args .mv) (o .args .t2) (o .pre) (sym (c .before .before .sure .ensures) ∙ not-true _ (c .before .if1 .taken))))
+
+slice-aggregate-lay : tie.Need-slice-aggregate-lay
+slice-aggregate-lay c = search needs
+
+lay-requires : tie.Need-lay-requires
+lay-requires c κs = search needs
+
+slice-aggregate-unclear : tie.Need-slice-aggregate-unclear
+slice-aggregate-unclear c = search needs
 
 unclear-requires : tie.Need-unclear-requires
 unclear-requires c κs = search needs
@@ -33,9 +41,13 @@ refused-requires-2 c κs = search needs
 returns-2 : tie.Need-returns-2
 unfolding entries
 returns-2 c =
-    let a = c .before .before .before .before .before .before .before .before .before .before .before .before .before .before .before .before .args in
-    let h = c .before .before .before .before .before .before .before .before .before .before .before .before .before .before .before .before .pre in
-    c .refused2 .ensures ∙ sym (ap (orGiven (a .t2)) (unclear (a .mv) (a .t2) h (sym (c .before .before .before .before .before .before .before .before .before .sure .ensures) ∙ not-false _ (c .before .before .before .before .before .before .before .before .if1 .left)) (sym (c .before .before .unclear .ensures) ∙ c .before .if2 .taken)))
+    let y = c .before .before .before .before .before .before .before .before .before .before in
+    let o = y .before .before .before .before .before .before .before .before .before .before in
+    let q = y .lay .ensures in
+    c .refused2 .ensures
+    ∙ sym (ap (orGiven (o .args .t2)) (unclear (o .args .mv) (o .args .t2) (o .pre)
+    (sym (c .before .before .before .before .before .before .before .before .before .before .before .before .before .sure .ensures) ∙ not-false _ (c .before .before .before .before .before .before .before .before .before .before .before .before .if1 .left)) _ q
+    (sym (c .before .before .unclear .ensures) ∙ c .before .if2 .taken)))
 
 slice-aggregate-spread : tie.Need-slice-aggregate-spread
 slice-aggregate-spread c = search needs
@@ -43,13 +55,16 @@ slice-aggregate-spread c = search needs
 slice-aggregate-spread-2 : tie.Need-slice-aggregate-spread-2
 slice-aggregate-spread-2 c = search needs
 
+slice-aggregate-spread-3 : tie.Need-slice-aggregate-spread-3
+slice-aggregate-spread-3 c = search needs
+
 spread-requires : tie.Need-spread-requires
 spread-requires c κs =
-    let a = c .before .before .before .before .before .before .before .before .before .before .before .before .before .before .before .before .before .before .before .before .before .before .args in
-    let h = c .before .before .before .before .before .before .before .before .before .before .before .before .before .before .before .before .before .before .before .before .before .before .pre in
-    let t : length (a .t2 .trues) ≡ 128 = search needs in
-    let f : length (a .t2 .falses) ≡ 128 = search needs in
-    (h .effects-most, ((omega (arith, h .entries-most), omega (arith, h .entries-most)), no-entries))
+    let o = c .before .before .before .before .before .before .before .before .before .before .before .before .before .before .before .before .before .before .before .before .before .before .before .before .before .before .before in
+    let t : length (o .args .t2 .trues) ≡ 128 = search needs in
+    let f : length (o .args .t2 .falses) ≡ 128 = search needs in
+    let w : length (c .before .before .before .before .before .before .before .before .before .before .before .before .before .before .before .before .before .lay .last .1 .0) ≡ 32 = c .before .before .before .before .before .before .before .before .before .before .before .before .before .before .before .before .before .lay .kept .1 .0 in
+    (omega (arith, o .pre .effects-most), ((omega (arith, o .pre .entries-most), omega (arith, o .pre .entries-most)), no-entries))
 
 enum-known-k : tie.Need-enum-known-k
 enum-known-k c = search needs
@@ -63,17 +78,21 @@ refused-requires-3 c κs = search needs
 returns-3 : tie.Need-returns-3
 unfolding entries
 returns-3 c =
-    let a = c .before .before .before .before .before .before .before .before .before .before .before .before .before .before .before .before .before .before .before .before .before .before .before .before .before .before .before .before .args in
-    let h = c .before .before .before .before .before .before .before .before .before .before .before .before .before .before .before .before .before .before .before .before .before .before .before .before .before .before .before .before .pre in
-    stepped (a .mv) (a .t2) h (sym (c .before .before .before .before .before .before .before .before .before .before .before .before .before .before .before .before .before .before .before .before .before .sure .ensures) ∙ not-false _ (c .before .before .before .before .before .before .before .before .before .before .before .before .before .before .before .before .before .before .before .before .if1 .left)) (sym (c .before .before .before .before .before .before .before .before .before .before .before .before .before .before .unclear .ensures) ∙ c .before .before .before .before .before .before .before .before .before .before .before .before .before .if2 .left) _ _ _ (c .before .before .before .before .before .spread .ensures) _ (c .before .k .given .1)
+    let y = c .before .before .before .before .before .before .before .before .before .before .before .before .before .before .before .before .before .before .before .before .before .before .before in
+    let o = y .before .before .before .before .before .before .before .before .before .before in
+    let q = y .lay .ensures in
+    stepped (o .args .mv) (o .args .t2) (o .pre) (sym (c .before .before .before .before .before .before .before .before .before .before .before .before .before .before .before .before .before .before .before .before .before .before .before .before .before .before .sure .ensures) ∙ not-false _ (c .before .before .before .before .before .before .before .before .before .before .before .before .before .before .before .before .before .before .before .before .before .before .before .before .before .if1 .left)) _ q
+    (sym (c .before .before .before .before .before .before .before .before .before .before .before .before .before .before .before .unclear .ensures) ∙ c .before .before .before .before .before .before .before .before .before .before .before .before .before .before .if2 .left) _ _ _ (c .before .before .before .before .before .spread .ensures) _ (c .before .k .given .1)
 
 returns-4 : tie.Need-returns-4
 unfolding entries
 returns-4 c =
-    let a = c .before .before .before .before .before .before .before .before .before .before .before .before .before .before .before .before .before .before .before .before .before .before .before .before .before .before .before .before .args in
-    let h = c .before .before .before .before .before .before .before .before .before .before .before .before .before .before .before .before .before .before .before .before .before .before .before .before .before .before .before .before .pre in
+    let y = c .before .before .before .before .before .before .before .before .before .before .before .before .before .before .before .before .before .before .before .before .before .before .before in
+    let o = y .before .before .before .before .before .before .before .before .before .before in
+    let q = y .lay .ensures in
     c .refused3 .ensures
-    ∙ sym (ap (orGiven (a .t2)) (overfull (a .mv) (a .t2) h (sym (c .before .before .before .before .before .before .before .before .before .before .before .before .before .before .before .before .before .before .before .before .before .sure .ensures) ∙ not-false _ (c .before .before .before .before .before .before .before .before .before .before .before .before .before .before .before .before .before .before .before .before .if1 .left)) (sym (c .before .before .before .before .before .before .before .before .before .before .before .before .before .before .unclear .ensures) ∙ c .before .before .before .before .before .before .before .before .before .before .before .before .before .if2 .left) _ _ _ (c .before .before .before .before .before .spread .ensures) (c .before .enum-told .given .1)))
+    ∙ sym (ap (orGiven (o .args .t2)) (overfull (o .args .mv) (o .args .t2) (o .pre) (sym (c .before .before .before .before .before .before .before .before .before .before .before .before .before .before .before .before .before .before .before .before .before .before .before .before .before .before .sure .ensures) ∙ not-false _ (c .before .before .before .before .before .before .before .before .before .before .before .before .before .before .before .before .before .before .before .before .before .before .before .before .before .if1 .left)) _ q
+    (sym (c .before .before .before .before .before .before .before .before .before .before .before .before .before .before .before .unclear .ensures) ∙ c .before .before .before .before .before .before .before .before .before .before .before .before .before .before .if2 .left) _ _ _ (c .before .before .before .before .before .spread .ensures) (c .before .enum-told .given .1)))
 
 pub advance-spec : {M : Type 1} → statement M
 advance-spec =
@@ -82,11 +101,15 @@ advance-spec =
     sure-requires
     refused-requires
     returns
+    slice-aggregate-lay
+    lay-requires
+    slice-aggregate-unclear
     unclear-requires
     refused-requires-2
     returns-2
     slice-aggregate-spread
     slice-aggregate-spread-2
+    slice-aggregate-spread-3
     spread-requires
     enum-known-k
     enum-told

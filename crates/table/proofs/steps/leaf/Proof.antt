@@ -28,7 +28,7 @@ returns : tie.Need-returns
 unfolding image
 returns c =
     let o = c .before .before .before .before in
-    let a = o .before .before .before .before .before .before .before .args in
+    let a = o .before .before .before .before .before .before .before .before .args in
     puts-is _ _ _ _ _ _ _ _
     (ap (λ (x : Literals). x ∷ []) (o .before .replace .ensures ∙ ap (replace (a .piece)) (o .before .before .before .before .results .ensures)))
     (o .offer .ensures)

@@ -3,42 +3,40 @@ use mathlib.Core.Path.{_≡_, refl, sym, ap, _∙_}
 use Prim.Native.Nat.{_-_}
 use native.Mathlib.Omega.{arith}
 use borrow.Author.Needs.{needs}
-use lib.ListN.{drop, length}
+use lib.ListN.{drop}
 use Rattle.sheet.specs.Lists.{anyOf}
-use Rattle.sheet.specs.Decoded.{actionIn}
-use Rattle.sheet.proofs.Prefixes.{part-step, part-end, length-mapped}
-use Rattle.table.specs.Moves.{effectsOf, opposed as opposedBy}
+use Rattle.table.specs.Moves.{effectsAt, opposed as opposedBy}
 use Rattle.table.proofs.Turns.{any-stop, any-on}
+use Rattle.table.proofs.EffectRows.{effects-step, effects-end}
 use Rattle.table.proofs.steps.opposes.Statement.{statement}
 use Rattle.table.proofs.steps.opposes.Tie as tie
+use Rattle.table.proofs.steps.opposes.Reads as reads
+use Rattle.table.proofs.steps.opposes.Lts as lts
+use Rattle.table.proofs.effects.effect_at.Reads as effect-at-reads
+use Rattle.table.proofs.steps.opposed.Reads as opposed-reads
 
 abbrev Inv-loop : tie.InvT-loop
-Inv-loop e from d mv count j₀ j = anyOf (opposedBy e d) (drop from (effectsOf mv)) ≡ anyOf (opposedBy e d) (drop j (effectsOf mv))
+Inv-loop effects size e from d j₀ j = anyOf (opposedBy e d) (drop from (effectsAt size effects)) ≡ anyOf (opposedBy e d) (drop j (effectsAt size effects))
 
 abbrev μ-loop : tie.MeasureT-loop
-μ-loop e from d mv count j₀ j = count - j
+μ-loop effects size e from d j₀ j = size - j
 
 loop-holds : tie.Need-loop-holds Inv-loop μ-loop
 loop-holds c = refl
 
-mul-f : tie.Need-mul-f Inv-loop μ-loop
-mul-f c = search needs
-
-element-copy-out-f : tie.Need-element-copy-out-f Inv-loop μ-loop
-element-copy-out-f c = search needs
+effect-at-requires : tie.Need-effect-at-requires Inv-loop μ-loop
+effect-at-requires c κs = search needs
 
 opposed-requires : tie.Need-opposed-requires Inv-loop μ-loop
 opposed-requires c κs = search needs
 
 returns : tie.Need-returns Inv-loop μ-loop
-unfolding actionIn
 returns c =
-    let o = c .before .before .before .before in
-    let a = o .before .args in
-    let n : length (a .t1 .effects) ≡ 8 = search (needs, length-mapped) in
-    any-stop (opposedBy (a .e) (a .d)) _ _ _ _ (part-step (a .t1 .count) (a .t1 .effects) (o .loop .j) _ (omega arith) (omega arith))
+    let a = c .before .before .before .before .before .before .args in
+    any-stop (opposedBy (a .e) (a .d)) _ _ _ _
+    (effects-step (a .size) (a .effects .now) (c .before .before .before .before .loop .j) _ (c .before .before .before .loop-test .taken) (c .before .before .effect-at .ensures))
     (c .before .opposed .ensures) (c .if1 .taken)
-    ∙ sym (o .loop .inv)
+    ∙ sym (c .before .before .before .before .loop .inv)
 
 add-j : tie.Need-add-j Inv-loop μ-loop
 add-j c = search needs
@@ -47,21 +45,17 @@ loop-less : tie.Need-loop-less Inv-loop μ-loop
 loop-less c = search needs
 
 loop-again : tie.Need-loop-again Inv-loop μ-loop
-unfolding actionIn
 loop-again c =
-    let o = c .before .before .before .before in
-    let a = o .before .args in
-    let n : length (a .t1 .effects) ≡ 8 = search (needs, length-mapped) in
-    o .loop .inv
-    ∙ any-on (opposedBy (a .e) (a .d)) _ _ _ _ (part-step (a .t1 .count) (a .t1 .effects) (o .loop .j) _ (omega arith) (omega arith))
+    let a = c .before .before .before .before .before .before .args in
+    c .before .before .before .before .loop .inv
+    ∙ any-on (opposedBy (a .e) (a .d)) _ _ _ _
+    (effects-step (a .size) (a .effects .now) (c .before .before .before .before .loop .j) _ (c .before .before .before .loop-test .taken) (c .before .before .effect-at .ensures))
     (c .before .opposed .ensures) (c .if1 .left)
 
 returns-2 : tie.Need-returns-2 Inv-loop μ-loop
-unfolding actionIn
 returns-2 c =
-    let a = c .before .before .args in
-    let n : length (a .t1 .effects) ≡ 8 = search (needs, length-mapped) in
-    sym (c .before .loop .inv ∙ ap (anyOf (opposedBy (a .e) (a .d))) (part-end (a .t1 .count) (a .t1 .effects) (c .before .loop .j) (omega arith) (omega arith)))
+    let a = c .before .before .before .args in
+    sym (c .before .loop .inv ∙ ap (anyOf (opposedBy (a .e) (a .d))) (effects-end (a .size) (a .effects .now) (c .before .loop .j) (c .loop-test .left)))
 
 pub opposes-spec : {M : Type 1} → statement M
 opposes-spec =
@@ -70,8 +64,7 @@ opposes-spec =
     Inv-loop
     μ-loop
     loop-holds
-    mul-f
-    element-copy-out-f
+    effect-at-requires
     opposed-requires
     returns
     add-j

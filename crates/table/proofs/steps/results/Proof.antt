@@ -5,14 +5,13 @@ use mathlib.Core.List.{List, _∷_}
 use Prim.Native.Nat.{ℕ, _+_, _-_, _≤_}
 use native.Mathlib.Omega.{arith}
 use borrow.Author.Needs.{needs}
-use lib.ListN.{drop, length}
+use lib.ListN.{drop}
 use Rattle.sheet.specs.declared.Literals.{Literals}
 use Rattle.sheet.specs.declared.Effect.{Effect}
 use Rattle.sheet.specs.Literals.{noLiteral, join, within}
-use Rattle.sheet.specs.Decoded.{actionIn}
-use Rattle.sheet.proofs.Prefixes.{part-step, part-end, length-mapped}
 use Rattle.table.specs.Worlds.{addResult, results as resultsOf}
-use Rattle.table.specs.Moves.{effectsOf}
+use Rattle.table.specs.Moves.{effectsAt}
+use Rattle.table.proofs.EffectRows.{effects-step, effects-end}
 use Rattle.table.proofs.steps.results.Statement.{statement}
 use Rattle.table.proofs.steps.results.Tie as tie
 
@@ -31,28 +30,22 @@ back : (es : List Effect) (d s : Literals) (i : ℕ) → 1 ≤ i → s ≡ resul
 back es d s i h e = let k : i ≡ i - 1 + 1 = omega arith in e ∙ ap (λ (j : ℕ). resultsOf (drop j es) d) k
 
 abbrev Inv-loop : tie.InvT-loop
-Inv-loop piece mv sum₀ i₀ sum i = (i ≤ mv .count) × (sum ≡ resultsOf (drop i (effectsOf mv)) piece)
+Inv-loop effects size piece sum₀ i₀ sum i = (i ≤ size) × (sum ≡ resultsOf (drop i (effectsAt size effects)) piece)
 
 abbrev μ-loop : tie.MeasureT-loop
-μ-loop piece mv sum₀ i₀ sum i = i
+μ-loop effects size piece sum₀ i₀ sum i = i
 
 loop-holds : tie.Need-loop-holds Inv-loop μ-loop
-unfolding actionIn noLiteral
+unfolding noLiteral
 loop-holds c =
-    let a = c .args in
-    let n : length (a .t1 .effects) ≡ 8 = search (needs, length-mapped) in (
-      omega arith,
-      sym (ap (λ (x : List Effect). resultsOf x (a .piece)) (part-end (a .t1 .count) (a .t1 .effects) (a .t1 .count) (omega arith) (omega arith))),
-    )
+    let a = c .before .args in
+    (omega arith, sym (ap (λ (x : List Effect). resultsOf x (a .piece)) (effects-end (a .size) (a .effects .now) (a .size) (omega arith))))
 
 sub-i : tie.Need-sub-i Inv-loop μ-loop
 sub-i c = search needs
 
-mul-e : tie.Need-mul-e Inv-loop μ-loop
-mul-e c = search needs
-
-element-copy-out-e : tie.Need-element-copy-out-e Inv-loop μ-loop
-element-copy-out-e c = search needs
+effect-at-requires : tie.Need-effect-at-requires Inv-loop μ-loop
+effect-at-requires c κs = search needs
 
 within-requires : tie.Need-within-requires Inv-loop μ-loop
 within-requires c κs = search needs
@@ -64,14 +57,12 @@ loop-less : tie.Need-loop-less Inv-loop μ-loop
 loop-less c = search needs
 
 loop-again : tie.Need-loop-again Inv-loop μ-loop
-unfolding actionIn
 loop-again c =
     let o = c .before .before .before .before .before in
-    let a = o .before .args in
-    let n : length (a .t1 .effects) ≡ 8 = search (needs, length-mapped) in (
+    let a = o .before .before .args in (
       omega arith,
-      with-it _ _ _ _ _ (part-step (a .t1 .count) (a .t1 .effects) (o .loop .i - 1) _ (omega arith) (omega arith))
-          (back (effectsOf (a .t1)) (a .piece) _ (o .loop .i) (omega arith) (o .loop .inv .1)) _
+      with-it _ _ _ _ _ (effects-step (a .size) (a .effects .now) (o .loop .i - 1) _ (omega arith) (c .before .before .before .effect-at .ensures))
+          (back (effectsAt (a .size) (a .effects .now)) (a .piece) _ (o .loop .i) (omega arith) (o .loop .inv .1)) _
           (sym (c .before .before .within .ensures) ∙ c .before .if1 .taken) (c .join .ensures),
     )
 
@@ -79,22 +70,20 @@ loop-less-2 : tie.Need-loop-less-2 Inv-loop μ-loop
 loop-less-2 c = search needs
 
 loop-again-2 : tie.Need-loop-again-2 Inv-loop μ-loop
-unfolding actionIn
 loop-again-2 c =
     let o = c .before .before .before .before in
-    let a = o .before .args in
-    let n : length (a .t1 .effects) ≡ 8 = search (needs, length-mapped) in (
+    let a = o .before .before .args in (
       omega arith,
-      passed _ _ _ _ _ (part-step (a .t1 .count) (a .t1 .effects) (o .loop .i - 1) _ (omega arith) (omega arith))
-          (back (effectsOf (a .t1)) (a .piece) _ (o .loop .i) (omega arith) (o .loop .inv .1))
+      passed _ _ _ _ _ (effects-step (a .size) (a .effects .now) (o .loop .i - 1) _ (omega arith) (c .before .before .effect-at .ensures))
+          (back (effectsAt (a .size) (a .effects .now)) (a .piece) _ (o .loop .i) (omega arith) (o .loop .inv .1))
           (sym (c .before .within .ensures) ∙ c .if1 .left),
     )
 
 returns : tie.Need-returns Inv-loop μ-loop
 returns c =
-    let a = c .before .before .args in
+    let a = c .before .before .before .args in
     let z : c .before .loop .i ≡ 0 = omega arith in
-    c .before .loop .inv .1 ∙ ap (λ (j : ℕ). resultsOf (drop j (effectsOf (a .t1))) (a .piece)) z
+    c .before .loop .inv .1 ∙ ap (λ (j : ℕ). resultsOf (drop j (effectsAt (a .size) (a .effects .now))) (a .piece)) z
 
 pub results-spec : {M : Type 1} → statement M
 results-spec =
@@ -104,8 +93,7 @@ results-spec =
     μ-loop
     loop-holds
     sub-i
-    mul-e
-    element-copy-out-e
+    effect-at-requires
     within-requires
     join-requires
     loop-less

@@ -9,7 +9,7 @@ use Rattle.sheet.specs.declared.Literals.{Literals}
 use Rattle.sheet.specs.Lists.{collect}
 use Rattle.table.specs.Step.{pieces, image}
 use Rattle.table.specs.Slots.{entriesOf}
-use Rattle.table.specs.Moves.{effectsOf}
+use Rattle.table.specs.Moves.{effectsAt}
 use Rattle.table.proofs.Pads.{holds-trues-long, holds-falses-long, held-own}
 use Rattle.table.proofs.Growing.{Going, going-start, going-on, going-full, going-end}
 use Rattle.table.proofs.Turns.{entries-next, entries-done}
@@ -18,22 +18,22 @@ use Rattle.table.proofs.steps.spread.Statement.{statement}
 use Rattle.table.proofs.steps.spread.Tie as tie
 
 abbrev Inv-loop : tie.InvT-loop
-Inv-loop mv ts fs m trues₀ falses₀ k sum₀ i₀ trues falses sum i =
+Inv-loop effects size ts fs m trues₀ falses₀ k sum₀ i₀ trues falses sum i =
     (i ≤ m)
-    × Going (map (image (effectsOf mv)) (collect (pieces (effectsOf mv)) (entriesOf m ts fs))) k trues₀ falses₀
-    (map (image (effectsOf mv)) (collect (pieces (effectsOf mv)) (drop i (entriesOf m ts fs)))) sum trues falses
+    × Going (map (image (effectsAt size effects)) (collect (pieces (effectsAt size effects)) (entriesOf m ts fs))) k trues₀ falses₀
+    (map (image (effectsAt size effects)) (collect (pieces (effectsAt size effects)) (drop i (entriesOf m ts fs)))) sum trues falses
 
 abbrev μ-loop : tie.MeasureT-loop
-μ-loop mv ts fs m trues₀ falses₀ k sum₀ i₀ trues falses sum i = m - i
+μ-loop effects size ts fs m trues₀ falses₀ k sum₀ i₀ trues falses sum i = m - i
 
 loop-holds : tie.Need-loop-holds Inv-loop μ-loop
-loop-holds c = (omega arith, going-start _ _ _ _ _ refl (c .before .before .before .before .pre .1 .1))
+loop-holds c = (omega arith, going-start _ _ _ _ _ refl (c .before .before .before .before .before .pre .1 .1))
 
 entry-at-requires : tie.Need-entry-at-requires Inv-loop μ-loop
 entry-at-requires c κs = search needs
 
 split-requires : tie.Need-split-requires Inv-loop μ-loop
-split-requires c κs = (c .before .before .before .before .before .before .before .before .before .pre .0, held-own _ _ _ _ (c .before .before .before .before .loop .inv .1 .held))
+split-requires c κs = (c .before .before .before .before .before .before .before .before .before .before .pre .0, held-own _ _ _ _ (c .before .before .before .before .loop .inv .1 .held))
 
 enum-known-j : tie.Need-enum-known-j Inv-loop μ-loop
 enum-known-j c = search needs
@@ -43,20 +43,20 @@ enum-told c = search needs
 
 same-length : tie.Need-same-length Inv-loop μ-loop
 same-length c =
-    c .before .before .before .before .before .before .split .kept .1 .1 .1 .0
+    c .before .before .before .before .before .before .split .kept .1 .1 .1 .1 .0
     ∙ holds-trues-long _ _ _ _ _ (c .before .before .before .before .before .before .before .before .before .before .before .loop .inv .1 .held)
 
 same-length-2 : tie.Need-same-length-2 Inv-loop μ-loop
 same-length-2 c =
-    c .before .before .before .before .before .before .split .kept .1 .1 .1 .1 .0
+    c .before .before .before .before .before .before .split .kept .1 .1 .1 .1 .1 .0
     ∙ holds-falses-long _ _ _ _ _ (c .before .before .before .before .before .before .before .before .before .before .before .loop .inv .1 .held)
-    ∙ sym (holds-falses-long _ _ _ _ _ (c .before .before .before .before .before .before .before .before .before .before .before .before .before .before .before .before .pre .1 .1))
+    ∙ sym (holds-falses-long _ _ _ _ _ (c .before .before .before .before .before .before .before .before .before .before .before .before .before .before .before .before .before .pre .1 .1))
 
 returns : tie.Need-returns Inv-loop μ-loop
 returns c =
-    let a = c .before .before .before .before .before .before .before .before .before .before .before .before .before .before .before .before .args in
+    let a = c .before .before .before .before .before .before .before .before .before .before .before .before .before .before .before .before .before .args in
     going-full _ _ _ _ _ _ _ _ _ _ _ _ _ (c .before .before .before .before .before .before .before .before .before .before .before .loop .inv .1)
-    (entries-ways (effectsOf (a .mv)) _ _ _
+    (entries-ways (effectsAt (a .size) (a .effects .now)) _ _ _
     (entries-next (a .m) (a .ts .now) (a .fs .now) (c .before .before .before .before .before .before .before .before .before .before .before .loop .i) (c .before .before .before .before .before .before .before .before .before .entry-at .result) (c .before .before .before .before .before .before .before .before .before .before .loop-test .taken) (c .before .before .before .before .before .before .before .before .before .entry-at .ensures)))
     (c .before .before .before .before .before .before .split .ensures) (c .enum-told .given .1)
 
@@ -68,10 +68,10 @@ loop-less c = search needs
 
 loop-again : tie.Need-loop-again Inv-loop μ-loop
 loop-again c =
-    let a = c .before .before .before .before .before .before .before .before .before .before .before .before .before .before .before .before .before .args in (
+    let a = c .before .before .before .before .before .before .before .before .before .before .before .before .before .before .before .before .before .before .args in (
       omega arith,
       going-on _ _ _ _ _ _ _ _ _ _ _ _ _ (c .before .before .before .before .before .before .before .before .before .before .before .before .loop .inv .1)
-          (entries-ways (effectsOf (a .mv)) _ _ _
+          (entries-ways (effectsAt (a .size) (a .effects .now)) _ _ _
           (entries-next (a .m) (a .ts .now) (a .fs .now) (c .before .before .before .before .before .before .before .before .before .before .before .before .loop .i) (c .before .before .before .before .before .before .before .before .before .before .entry-at .result) (c .before .before .before .before .before .before .before .before .before .before .before .loop-test .taken) (c .before .before .before .before .before .before .before .before .before .before .entry-at .ensures)))
           (c .before .before .before .before .before .before .before .split .ensures) _ (c .before .j .given .1),
     )
@@ -80,13 +80,13 @@ same-length-3 : tie.Need-same-length-3 Inv-loop μ-loop
 same-length-3 c = holds-trues-long _ _ _ _ _ (c .before .loop .inv .1 .held)
 
 same-length-4 : tie.Need-same-length-4 Inv-loop μ-loop
-same-length-4 c = holds-falses-long _ _ _ _ _ (c .before .loop .inv .1 .held) ∙ sym (holds-falses-long _ _ _ _ _ (c .before .before .before .before .before .before .pre .1 .1))
+same-length-4 c = holds-falses-long _ _ _ _ _ (c .before .loop .inv .1 .held) ∙ sym (holds-falses-long _ _ _ _ _ (c .before .before .before .before .before .before .before .pre .1 .1))
 
 returns-2 : tie.Need-returns-2 Inv-loop μ-loop
 returns-2 c =
-    let a = c .before .before .before .before .before .before .args in
+    let a = c .before .before .before .before .before .before .before .args in
     going-end _ _ _ _ _ _ _ _ (c .before .loop .inv .1)
-    (ap (λ (x : List Literals). map (image (effectsOf (a .mv))) (collect (pieces (effectsOf (a .mv))) x))
+    (ap (λ (x : List Literals). map (image (effectsAt (a .size) (a .effects .now))) (collect (pieces (effectsAt (a .size) (a .effects .now))) x))
     (entries-done (a .m) (a .ts .now) (a .fs .now) (c .before .loop .i) (c .loop-test .left)))
 
 pub spread-spec : {M : Type 1} → statement M

@@ -5,7 +5,7 @@ use native.Mathlib.Omega.{arith}
 use borrow.Author.Needs.{needs}
 use lib.ListN.{drop}
 use Rattle.table.specs.Pairs.{contradicts}
-use Rattle.table.specs.Moves.{effectsOf}
+use Rattle.table.specs.Moves.{effectsAt}
 use Rattle.sheet.specs.Lists.{anyOf}
 use Rattle.table.specs.Slots.{entriesOf}
 use Rattle.table.proofs.Turns.{any-stop, any-on, entries-next, entries-done}
@@ -13,11 +13,11 @@ use Rattle.table.proofs.steps.unclear.Statement.{statement}
 use Rattle.table.proofs.steps.unclear.Tie as tie
 
 abbrev Inv-loop : tie.InvT-loop
-Inv-loop mv trues falses count i₀ i =
-    (i ≤ count) × (anyOf (λ d. contradicts (effectsOf mv) d) (entriesOf count trues falses) ≡ anyOf (λ d. contradicts (effectsOf mv) d) (drop i (entriesOf count trues falses)))
+Inv-loop effects size trues falses count i₀ i =
+    (i ≤ count) × (anyOf (λ d. contradicts (effectsAt size effects) d) (entriesOf count trues falses) ≡ anyOf (λ d. contradicts (effectsAt size effects) d) (drop i (entriesOf count trues falses)))
 
 abbrev μ-loop : tie.MeasureT-loop
-μ-loop mv trues falses count i₀ i = count - i
+μ-loop effects size trues falses count i₀ i = count - i
 
 loop-holds : tie.Need-loop-holds Inv-loop μ-loop
 loop-holds c = (omega arith, refl)
@@ -30,8 +30,8 @@ contradicts-requires c κs = search needs
 
 returns : tie.Need-returns Inv-loop μ-loop
 returns c =
-    let a = c .before .before .before .before .before .before .before .args in
-    any-stop (λ d. contradicts (effectsOf (a .mv)) d) _ _ _ _
+    let a = c .before .before .before .before .before .before .before .before .args in
+    any-stop (λ d. contradicts (effectsAt (a .size) (a .effects .now)) d) _ _ _ _
     (entries-next (a .count) (a .trues .now) (a .falses .now) (c .before .before .before .before .loop .i) (c .before .before .entry-at .result) (c .before .before .before .loop-test .taken) (c .before .before .entry-at .ensures))
     (c .before .contradicts .ensures) (c .if1 .taken)
     ∙ sym (c .before .before .before .before .loop .inv .1)
@@ -44,18 +44,18 @@ loop-less c = search needs
 
 loop-again : tie.Need-loop-again Inv-loop μ-loop
 loop-again c =
-    let a = c .before .before .before .before .before .before .before .args in (
+    let a = c .before .before .before .before .before .before .before .before .args in (
       omega arith,
       c .before .before .before .before .loop .inv .1
-          ∙ any-on (λ d. contradicts (effectsOf (a .mv)) d) _ _ _ _
+          ∙ any-on (λ d. contradicts (effectsAt (a .size) (a .effects .now)) d) _ _ _ _
           (entries-next (a .count) (a .trues .now) (a .falses .now) (c .before .before .before .before .loop .i) (c .before .before .entry-at .result) (c .before .before .before .loop-test .taken) (c .before .before .entry-at .ensures))
           (c .before .contradicts .ensures) (c .if1 .left),
     )
 
 returns-2 : tie.Need-returns-2 Inv-loop μ-loop
 returns-2 c =
-    let a = c .before .before .before .before .args in
-    sym (c .before .loop .inv .1 ∙ ap (anyOf (λ d. contradicts (effectsOf (a .mv)) d)) (entries-done (a .count) (a .trues .now) (a .falses .now) (c .before .loop .i) (c .loop-test .left)))
+    let a = c .before .before .before .before .before .args in
+    sym (c .before .loop .inv .1 ∙ ap (anyOf (λ d. contradicts (effectsAt (a .size) (a .effects .now)) d)) (entries-done (a .count) (a .trues .now) (a .falses .now) (c .before .loop .i) (c .loop-test .left)))
 
 pub unclear-spec : {M : Type 1} → statement M
 unclear-spec =
