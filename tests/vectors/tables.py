@@ -1,6 +1,6 @@
 """Test cases for tables and pictures, with what is due, from document 01's text by planner.py.
 
-Writes crates/table_cases/stdin and stdout. A line of the input that starts with '#' is a heading. Any other line is bytes in
+Writes stdin and stdout of crates/table_cases (starts and steps) and of crates/picture_cases. A line of the input that starts with '#' is a heading. Any other line is bytes in
 hexadecimal, the first of them says what to do:
   00 SHEET          from here on, this sheet
   01                start; the table it gives is the current one from here on
@@ -18,8 +18,6 @@ import random
 
 import planner as p
 
-lines_in, lines_out = [], []
-
 
 def digest(numbers):
     value = 0
@@ -33,16 +31,17 @@ class Bench:
 
     def __init__(self):
         self.data, self.slots, self.count, self.worlds = b"", [0] * 256, 0, None
+        self.lines_in, self.lines_out = [], []
 
     def heading(self, text):
-        lines_in.append("# " + text)
-        lines_out.append("# " + text)
+        self.lines_in.append("# " + text)
+        self.lines_out.append("# " + text)
 
     def line(self, data):
-        lines_in.append(" ".join("%02x" % b for b in data))
+        self.lines_in.append(" ".join("%02x" % b for b in data))
 
     def out(self, text):
-        lines_out.append(text)
+        self.lines_out.append(text)
 
     def entries(self):
         if self.count > 128:
@@ -117,7 +116,7 @@ class Bench:
 
     def again(self, line):
         """The last line, made three times over, gives the same."""
-        lines_in[-1] = " ".join("%02x" % b for b in line + (3).to_bytes(4, "big"))
+        self.lines_in[-1] = " ".join("%02x" % b for b in line + (3).to_bytes(4, "big"))
 
     def picture(self, length):
         self.line(b"\x04" + length.to_bytes(2, "big"))
@@ -139,6 +138,15 @@ class Bench:
         except p.Fault as fault:
             self.out("refused %d at %d" % (fault.number, fault.position))
         self.out("clauses %d buffer %d" % (clauses, digest(buffer)))
+
+    def write(self, crate):
+        """The crate's stdin and stdout, and a line on what is in them."""
+        folder = Path(__file__).resolve().parents[2] / "crates" / crate
+        (folder / "stdin").write_text("\n".join(self.lines_in) + "\n")
+        (folder / "stdout").write_text("\n".join(self.lines_out) + "\n")
+        answers = [line for line in self.lines_out if line == "accepted" or line.startswith("refused")]
+        kinds = ["accepted"] + ["refused %d " % k for k in (1, 7, 20, 21, 22, 23, 24, 25)]
+        print(crate + ":", len(answers), "calls,", {kind: sum(a.startswith(kind) for a in answers) for kind in kinds})
 
 
 # ---- sheets from parts
@@ -182,7 +190,17 @@ def random_sheet(rng, n, moves):
                  [((random_set(rng, n, 0, 1) if rng.random() < 0.2 else []), [effect() for _ in range(rng.randint(0, 4))]) for _ in range(moves)])
 
 
-def main():
+def random_table(rng, n):
+    """Entries of which none lies in another."""
+    entries = []
+    for _ in range(rng.randint(1, 6)):
+        entry = frozenset((x // 2, x % 2 == 0) for x in random_set(rng, n, 0, n))
+        if not any(entry <= e or e <= entry for e in entries):
+            entries.append(entry)
+    return entries
+
+
+def table_cases():
     b = Bench()
     b.heading("document 01's sheet: start, its move twice, a move that it does not have, pictures on the way")
     b.sheet(PAPER)
@@ -286,20 +304,6 @@ def main():
     b.sheet(sheet(25, moves=[([], [([no(0)] + [yes(3 * i + j) for j in (1, 2, 3)], [yes(0)]) for i in range(7)] + [([], [yes(0)])])]))
     b.table(2, [(1, 0), (0, 1)])
     b.step(0)
-    b.heading("pictures: 256 clauses from two entries of 16 literals; one clause more on the way is full; buffers of every length near the need")
-    b.sheet(sheet(32))
-    b.table(2, [(0xffff, 0), (0xffff0000, 0)])
-    for length in (0, 1, 2, 2049, 2050, 2051, 3000):
-        b.picture(length)
-    b.table(2, [(0x1ffff, 0), (0xffff0000, 0)])
-    b.picture(3000)
-    b.table(3, [(0xff, 0xff00), (0xff0000, 0xff000000), (0x0f0f, 0xf0f0)])
-    b.picture(3000)
-    b.heading("two tables of the same worlds have the same picture")
-    b.sheet(sheet(3))
-    for masks in ([(1, 0), (2, 1)], [(2, 0), (1, 2)], [(1, 0), (2, 0)]):
-        b.table(len(masks), masks)
-        b.picture(100)
     b.heading("random sheets and moves")
     rng = random.Random(19)
     for _ in range(120):
@@ -310,13 +314,53 @@ def main():
             b.step(rng.randrange(moves))
             if rng.random() < 0.5:
                 b.picture(rng.choice((2, 50, 2050)))
-    folder = Path(__file__).resolve().parents[2] / "crates" / "table_cases"
-    folder.mkdir(parents=True, exist_ok=True)
-    (folder / "stdin").write_text("\n".join(lines_in) + "\n")
-    (folder / "stdout").write_text("\n".join(lines_out) + "\n")
-    answers = [line for line in lines_out if line == "accepted" or line.startswith("refused")]
-    print(len(answers), "calls,", {a: sum(x.startswith(a) for x in answers) for a in ["accepted"] + ["refused %d " % k for k in (1, 7, 20, 21, 22, 23, 24, 25)]})
+    b.write("table_cases")
+
+
+def picture_cases():
+    b = Bench()
+    b.heading("the bench examples M4, M5, M11, M13")
+    b.sheet(PAPER)
+    b.start()
+    b.picture(34)
+    b.step(0)
+    b.picture(26)
+    b.sheet(sheet(3))
+    b.table(1, [(0, 0)])
+    b.picture(2)
+    b.table(2, [(1, 0), (2, 1)])
+    b.picture(10)
+    b.heading("pictures: 256 clauses from two entries of 16 literals; one clause more on the way is full; buffers of every length near the need")
+    b.sheet(sheet(32))
+    b.table(2, [(0xffff, 0), (0xffff0000, 0)])
+    for length in (0, 1, 2, 2049, 2050, 2051, 3000):
+        b.picture(length)
+    b.table(2, [(0x1ffff, 0), (0xffff0000, 0)])
+    b.picture(3000)
+    b.table(3, [(0xff, 0xff00), (0xff0000, 0xff000000), (0x0f0f, 0xf0f0)])
+    b.picture(3000)
+    b.heading("the order of the entries: full midway although the last set has 61 clauses, and the same entries in an order that fits")
+    every, mixed_entry = 2 ** 32 - 1, (1, 2)
+    for masks in ([(every, 0), (0, every), mixed_entry], [mixed_entry, (every, 0), (0, every)]):
+        b.table(3, masks)
+        b.picture(3000)
+    b.heading("two tables of the same worlds have the same picture")
+    b.sheet(sheet(3))
+    for masks in ([(1, 0), (2, 1)], [(2, 0), (1, 2)], [(1, 0), (2, 0)]):
+        b.table(len(masks), masks)
+        b.picture(100)
+    b.heading("random tables, with the prime implicates found one by one beside them")
+    rng = random.Random(41)
+    for _ in range(250):
+        n = rng.randint(1, 6)
+        b.sheet(sheet(n))
+        entries = random_table(rng, n)
+        b.table(len(entries), [p.masks(e) for e in entries])
+        need = 2 + 8 * len(p.picture(b.entries()))
+        b.picture(rng.choice((0, 1, need - 1, need, need, need + 1, need + 40)))
+    b.write("picture_cases")
 
 
 if __name__ == "__main__":
-    main()
+    table_cases()
+    picture_cases()

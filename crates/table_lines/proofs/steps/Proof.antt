@@ -1,0 +1,49 @@
+-- `table_lines::steps` is safe and ends. Assumes nothing.
+use Prim.Native.Nat.{_≤_, _<_, _-_}
+use mathlib.Core.Path.{_≡_}
+use native.Mathlib.Omega.{arith}
+use lib.ListN.{length}
+use borrow.Author.Needs.{needs}
+use Rattle.table_lines.proofs.steps.Statement.{statement}
+use Rattle.table_lines.proofs.steps.Tie as tie
+
+abbrev Inv-loop : tie.InvT-loop
+Inv-loop sheet t number times i₀ i = Unit {0}
+
+abbrev μ-loop : tie.MeasureT-loop
+μ-loop sheet t number times i₀ i = times - i
+
+loop-holds : tie.Need-loop-holds Inv-loop μ-loop
+loop-holds c = tt
+
+step-requires : tie.Need-step-requires Inv-loop μ-loop
+step-requires c κs = search needs
+
+add-i : tie.Need-add-i Inv-loop μ-loop
+add-i c = omega arith
+
+loop-less : tie.Need-loop-less Inv-loop μ-loop
+loop-less c = omega arith
+
+loop-again : tie.Need-loop-again Inv-loop μ-loop
+loop-again c = tt
+
+step-requires-2 : tie.Need-step-requires-2 Inv-loop μ-loop
+step-requires-2 c κs = search needs
+
+returns : tie.Need-returns Inv-loop μ-loop
+returns c = tt
+
+pub steps-spec : {M : Type 1} → statement M
+steps-spec =
+    tie.close
+    (tie.spec
+    Inv-loop
+    μ-loop
+    loop-holds
+    step-requires
+    add-i
+    loop-less
+    loop-again
+    step-requires-2
+    returns)
