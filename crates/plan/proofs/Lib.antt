@@ -1,7 +1,7 @@
 -- The laws that belong to no one function.
 pub mod Commuting
 pub mod Exchanging
-pub mod Goals
+pub mod GoalWorlds
 pub mod Running
 pub mod Verdicts
 pub mod Exactly
