@@ -2,6 +2,7 @@
 use table::Table;
 
 pub mod goals;
+pub mod runs;
 
 // What a run says of a place: the place, the entries of its table and the clauses of its picture.
 pub struct Row {
