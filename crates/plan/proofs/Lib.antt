@@ -12,3 +12,9 @@ pub mod Searching
 pub mod SearchRuns
 pub mod Demands
 pub mod PaperRuns
+pub mod Relending
+pub mod LentCalls
+pub mod LentArrays
+pub mod Entering
+pub mod RowCalls
+pub mod RowsWritten
