@@ -18,3 +18,4 @@ pub mod LentArrays
 pub mod Entering
 pub mod RowCalls
 pub mod RowsWritten
+pub mod RowCounts
