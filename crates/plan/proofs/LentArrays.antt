@@ -12,7 +12,7 @@ use base.Fml.{GName, Fml, fsep, fat, flft, flent}
 use prog.Wp.{Heap, Calls}
 use ghost.Atoms.{Atoms, sem}
 use sound.WpLaws.{FmC}
-use types.Kit.{Given, Item, mean, ‵, raw, _⊛_, some, given, later, _$_, _∵_, !, qed, by, move, drop, use1, use3, split, pick, learn, rewrite, fsplit, fjoin, fpick, fpack, feqI, frame, await, updating, now as at-once, show, check, done}
+use types.Kit.{Given, Item, mean, ‵, raw, _⊛_, some, given, later, _$_, _∵_, !, qed, by, move, drop, use1, use3, split, pick, learn, rewrite, fsplit, fjoin, fpick, fpack, feqI, await, updating, now as at-once, show, check, done}
 use types.Tokens.{lft-new, lft-end}
 use types.SemTy.{cells, Arr}
 use types.Share.{arr-parts}

@@ -1,7 +1,7 @@
 -- The rows of a run are back from their numbers: they have the places 0, 1, 2, .., and are at most 65 and no more than were lent. Assumes nothing.
 use mathlib.Core.Path.{_≡_, refl, sym, ap, _∙_}
 use mathlib.Core.Bool.{Bool, true, false, cond}
-use mathlib.Core.List.{List, [], _∷_, _++_, map}
+use mathlib.Core.List.{List, [], _++_, map}
 use mathlib.Core.Logic.{⊎-elim}
 use Prim.Native.Nat.{ℕ, zero, suc, _≤_, _<_}
 use native.Mathlib.Nat.{le-refl, zero-add}
@@ -11,7 +11,6 @@ use lib.Dec.{ltb}
 use lib.ListN.{length, getD, take, drop, length-map, List·getD-map}
 use lib.Seq.{take-suc, take-length}
 use Rattle.sheet.specs.declared.Literals.{Literals}
-use Rattle.sheet.specs.Lists.{pad}
 use Rattle.sheet.specs.Problem.{Action, Statement}
 use Rattle.sheet.specs.Format.{Judgement, accepted, refused, sheetOf}
 use Rattle.table.specs.Minimal.{Outcome, refused as no-table, table}
