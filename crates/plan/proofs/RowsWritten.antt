@@ -1,7 +1,8 @@
 -- Rows stored one after the other from the front: the list is then these rows, and the rest as it was. Assumes nothing.
 use mathlib.Core.Path.{_≡_, refl, sym, _∙_, ap}
 use Prim.Native.Nat.{ℕ, zero, suc, _≤_}
-use native.Mathlib.Nat.{le-of-lt, add-suc, add-zero}
+use native.Mathlib.Nat.{le-of-lt}
+use native.Mathlib.Omega.{arith}
 use mathlib.Core.List.{[], List, _∷_, _++_}
 use lib.ListN.{length, getD, set, drop, length-set, length-append}
 use lib.Seq.{drop-cons, set-at, append-snoc}
@@ -18,9 +19,9 @@ pub length-written : (c : Counts) (n : ℕ) (ys : List Row) → length (written 
 length-written c zero ys = refl
 length-written c (suc n) ys = length-set (written c n ys) n (rowAt c n) ∙ length-written c n ys
 
-pub length-below : (c : Counts) (n : ℕ) → length (rowsBelow c n) ≡ n
+length-below : (c : Counts) (n : ℕ) → length (rowsBelow c n) ≡ n
 length-below c zero = refl
-length-below c (suc n) = length-append (rowsBelow c n) (rowAt c n ∷ []) ∙ add-suc (length (rowsBelow c n)) zero ∙ ap suc (add-zero (length (rowsBelow c n)) ∙ length-below c n)
+length-below c (suc n) = omega (arith, length-append (rowsBelow c n) (rowAt c n ∷ []), length-below c n)
 
 pub written-is : (c : Counts) (n : ℕ) (ys : List Row) → n ≤ length ys → written c n ys ≡ rowsBelow c n ++ drop n ys
 written-is c zero ys l = refl
