@@ -13,3 +13,10 @@ pub mod Searching
 pub mod SearchRuns
 pub mod Demands
 pub mod PaperRuns
+pub mod Relending
+pub mod LentCalls
+pub mod LentArrays
+pub mod Entering
+pub mod RowCalls
+pub mod RowsWritten
+pub mod RowCounts

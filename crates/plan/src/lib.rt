@@ -1,7 +1,13 @@
 // Plans: the run of a plan, the search for one, and the text of the program.
 use table::Table;
+ghost use mathlib.Core.Path.{_≡_};
+ghost use lib.ListN.{length, replicate};
+ghost use Rattle.sheet.specs.Format.{sheetOf};
+ghost use Rattle.plan.specs.Calls.{runOf, rowsAfter};
+ghost use Rattle.plan.specs.Rows.{noRow};
 
 pub mod goals;
+pub mod rows;
 pub mod runs;
 
 // What a run says of a place: the place, the entries of its table and the clauses of its picture.
@@ -52,4 +58,36 @@ pub struct Counts {
 pub struct Course {
     pub ran: Ran,
     pub counts: Counts,
+}
+
+// A run with rows of its own, by value.
+pub struct RanRows {
+    pub ran: Ran,
+    pub rows: [Row; 65],
+}
+
+// The run of a sheet's plan, its rows written into the lent ones.
+pub fn run(bytes: &[u8], rows: &mut [Row]) -> Ran
+    ensures { λ r. ⌜ r ≡ runOf (sheetOf (now (bytes .entry))) (length (now (rows .entry))) ⌝ }
+    ensures { λ r. ⌜ now (rows .exit) ≡ rowsAfter (sheetOf (now (bytes .entry))) (now (rows .entry)) ⌝ }
+{
+    let n = rows.len();
+    let c = runs::course(bytes, n);
+    let counts = c.counts;
+    rows::write_rows(rows, counts);
+    c.ran
+}
+
+// The run for a caller that lends no rows.
+pub fn run_here(bytes: &[u8]) -> RanRows
+    ensures { λ r. ⌜ r .ran ≡ runOf (sheetOf (now (bytes .entry))) 65 ⌝ }
+    ensures { λ r. ⌜ r .rows ≡ rowsAfter (sheetOf (now (bytes .entry))) (replicate 65 noRow) ⌝ }
+{
+    let mut rows = [Row {
+        place: 0,
+        entries: 0,
+        clauses: 0,
+    }; 65];
+    let ran = run(bytes, &mut rows);
+    RanRows { ran, rows }
 }
