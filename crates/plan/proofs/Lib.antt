@@ -12,3 +12,5 @@ pub mod Searching
 pub mod SearchRuns
 pub mod Demands
 pub mod PaperRuns
+pub mod TextExamples
+pub mod Texts

@@ -1,0 +1,23 @@
+-- The rows of a run from its plain numbers, and a row before anything is written.
+use mathlib.Core.List.{List, [], _∷_, _++_}
+use Prim.Native.Nat.{ℕ, zero, suc}
+use lib.ListN.{getD}
+use Rattle.plan.specs.declared.Row.{Row}
+use Rattle.plan.specs.declared.Counts.{Counts}
+
+-- the row of a place: the place, the entries of its table and the clauses of its picture
+abbrev pub rowAt : Counts → ℕ → Row
+rowAt c at = record { place = at; entries = getD (c .entries) at 0; clauses = getD (c .clauses) at 0 }
+
+-- the rows of the places below n
+abbrev pub rowsBelow : Counts → ℕ → List Row
+rowsBelow c zero = []
+rowsBelow c (suc n) = rowsBelow c n ++ (rowAt c n ∷ [])
+
+-- the rows of the places arrived at
+abbrev pub rowsIn : Counts → List Row
+rowsIn c = rowsBelow c (c .count)
+
+-- a row before anything is written
+abbrev pub noRow : Row
+noRow = record { place = 0; entries = 0; clauses = 0 }
