@@ -4,13 +4,18 @@ use mathlib.Core.Bool.{Bool, true, false, cond}
 use mathlib.Core.List.{List, [], _∷_, _++_, append-assoc, append-nil}
 use Prim.Native.Nat.{ℕ, zero, suc, _+_, _/_, _%_, _^_, _≤_, _<_}
 use native.Mathlib.Nat.{mod-eq-of-lt, pow-suc}
+use native.Mathlib.Numerals.{add-one}
 use native.Mathlib.Omega.{arith}
 use lib.Dec.{ltb}
 use lib.ListN.{length, set, take, drop, length-append, take-append-drop}
 use lib.Seq.{paste, take-at, drop-append-add, drop-drop, take-length, length-take-le, set-split}
 use borrow.Author.Tests.{ltb-true, ltb-false, lt-ltb, le-ltb}
 use Rattle.plan.specs.declared.Row.{Row}
-use Rattle.plan.specs.Text.{digitsOf, decimal, rowText, rowsText, Wrote}
+use Rattle.plan.specs.declared.Counts.{Counts}
+use Rattle.plan.specs.Rows.{rowAt, rowsBelow}
+use Rattle.plan.specs.declared.Ran.{Ran}
+use Rattle.plan.specs.Demand3.{refusedVerdict, runRefused}
+use Rattle.plan.specs.Text.{ascii, digitsOf, decimal, rowText, rowsText, lastLine, textOf, Wrote}
 
 -- ---- bytes in a buffer
 -- nothing is written
@@ -26,12 +31,12 @@ wrote-byte b at x h =
     record { place = omega arith; bytes = set-split b at x h ∙ ap (λ (k : ℕ). take at b ++ (x ∷ drop k b)) e }
 
 -- s, then t
-pub wrote-then : (b : List ℕ) (at : ℕ) (s : List ℕ) (q : ℕ) (m t : List ℕ) (r : ℕ) (e : List ℕ) → at + length s ≤ length b
-    → Wrote b at s q m → Wrote m q t r e → Wrote b at (s ++ t) r e
-wrote-then b at s q m t r e h f g =
+pub wrote-then : {b : List ℕ} {at : ℕ} {s : List ℕ} {q : ℕ} {m t : List ℕ} {r : ℕ} {e : List ℕ} → Wrote b at s q m → q ≤ length b → Wrote m q t r e
+    → Wrote b at (s ++ t) r e
+wrote-then {b} {at} {s} {q} {m} {t} {r} {e} f h g =
     let p = take at b ++ s in
     let rest = drop (at + length s) b in
-    let long : length p ≡ q = omega (arith, length-append (take at b) s, length-take-le at b (omega arith), f .place) in
+    let long : length p ≡ q = omega (arith, length-append (take at b) s, length-take-le at b (omega (arith, f .place)), f .place) in
     let is : m ≡ p ++ rest = f .bytes ∙ sym (append-assoc (take at b) s rest) in
     let front : take q m ≡ p = ap (take q) is ∙ take-at p rest q long in
     let both : (at + length s) + length t ≡ at + length (s ++ t) = omega (arith, length-append s t) in
@@ -94,8 +99,47 @@ pub decimal-length : (k n : ℕ) → n < 10 ^ suc k → length (decimal n) ≤ s
 decimal-length zero n h = longer 0 n (ltb n 10) refl (λ g. absurd (omega arith))
 decimal-length (suc k) n h = longer (suc k) n (ltb n 10) refl (λ g. decimal-length k (n / 10) (omega (arith, pow-suc 10 (suc k))))
 
+-- a number of 64 bits has at most 19 digits before the last
+pub few-higher : (n : ℕ) → n < 18446744073709551616 → length (decimal (n / 10)) ≤ 19
+few-higher n h =
+    let i : n / 10 < 10000000000000000000 = omega arith in
+    decimal-length 18 (n / 10) i
+
+-- the digit of a number below 10
+pub wrote-low : (b : List ℕ) (at n : ℕ) → n < 10 → at < length b → Wrote b at (decimal n) (at + 1) (set b at (48 + n))
+wrote-low b at n h i = rw (decimal-low n h) (wrote-byte b at (48 + n) i)
+
+-- the last digit after the higher ones
+pub wrote-high : (b : List ℕ) (at n q : ℕ) (m : List ℕ) → 10 ≤ n → at + length (decimal (n / 10)) < length b → length m ≡ length b
+    → Wrote b at (decimal (n / 10)) q m → Wrote b at (decimal n) (q + 1) (set m q (48 + n % 10))
+wrote-high b at n q m h i e f =
+    rw (decimal-high n h) (wrote-then f (omega (arith, f .place)) (wrote-byte m q (48 + n % 10) (omega (arith, f .place))))
+
 -- ---- rows
 pub rows-snoc : (rows : List Row) (r : Row) → rowsText (rows ++ (r ∷ [])) ≡ rowsText rows ++ rowText r
 unfolding rowsText
 rows-snoc [] r = append-nil (rowText r)
 rows-snoc (x ∷ rows) r = ap (λ (t : List ℕ). rowText x ++ t) (rows-snoc rows r) ∙ sym (append-assoc (rowText x) (rowsText rows) (rowText r))
+
+-- no row
+pub wrote-no-rows : (c : Counts) (b : List ℕ) (at : ℕ) → Wrote b at (rowsText (rowsBelow c 0)) at b
+unfolding rowsText
+wrote-no-rows c b at = wrote-none b at
+
+-- the row of the next place
+pub wrote-row : (c : Counts) (i : ℕ) {b : List ℕ} {at q : ℕ} {m : List ℕ} {r : ℕ} {e : List ℕ} → Wrote b at (rowsText (rowsBelow c i)) q m → q ≤ length b
+    → Wrote m q (rowText (rowAt c i)) r e → Wrote b at (rowsText (rowsBelow c (i + 1))) r e
+wrote-row c i f h g = rw (add-one i, rows-snoc (rowsBelow c i) (rowAt c i)) (wrote-then f h g)
+
+-- ---- the whole text
+-- of a refused run
+pub refused-text : (ran : Ran) (rows : List Row) {b : List ℕ} {r : ℕ} {e : List ℕ} → refusedVerdict (ran .verdict) ≡ true → Wrote b 0 (lastLine (ran .verdict)) r e
+    → Wrote b 0 (textOf ran rows) r e
+unfolding textOf runRefused
+refused-text ran rows h f = rw h f
+
+-- of any other run
+pub whole-text : (ran : Ran) (rows : List Row) {b : List ℕ} {q : ℕ} {m : List ℕ} {r : ℕ} {e : List ℕ} → refusedVerdict (ran .verdict) ≡ false
+    → Wrote b 0 (ascii "place entries clauses\n" ++ rowsText rows) q m → q ≤ length b → Wrote m q (lastLine (ran .verdict)) r e → Wrote b 0 (textOf ran rows) r e
+unfolding textOf runRefused
+whole-text ran rows h f i g = rw h (wrote-then f i g)
