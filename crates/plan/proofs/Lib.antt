@@ -12,5 +12,7 @@ pub mod Searching
 pub mod SearchRuns
 pub mod Demands
 pub mod PaperRuns
+pub mod RowCounts
 pub mod TextExamples
 pub mod Texts
+pub mod Reports

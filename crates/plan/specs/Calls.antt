@@ -1,9 +1,9 @@
 -- The calls `run` and `search` as functions of what they are given (document 01, "Numbers and their order").
 use mathlib.Core.Bool.{Bool, true, false, cond}
-use mathlib.Core.List.{List, []}
+use mathlib.Core.List.{List, [], _++_}
 use Prim.Native.Nat.{ℕ}
 use lib.Dec.{ltb}
-use lib.ListN.{length}
+use lib.ListN.{length, drop}
 use Rattle.sheet.specs.declared.Literals.{Literals}
 use Rattle.sheet.specs.Lists.{pad}
 use Rattle.sheet.specs.Problem.{Problem, Statement}
@@ -54,6 +54,10 @@ plannedRows p plan (Outcome.table t) = rowsFrom 128 0 (actionsOf p plan) t
 unfoldable pub rowsOf : Judgement → ℕ → List Row
 rowsOf (refused k p) rows = []
 rowsOf (accepted x) rows = cond (ltb rows 65) [] (plannedRows (x .problem) (x .plan) (startTable 128 (x .problem)))
+
+-- the lent rows once they are written: those of the run, and the others as they were
+unfoldable pub rowsAfter : Judgement → List Row → List Row
+rowsAfter sheet rows = rowsOf sheet (length rows) ++ drop (length (rowsOf sheet (length rows))) rows
 
 -- ---- search: a fault of the sheet; 8 for a limit above 8; 20 or 21 of the start; then the plans in order
 unfoldable pub refusedSearch : ℕ → ℕ → Searched

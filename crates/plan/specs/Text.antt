@@ -7,10 +7,12 @@ use Prim.Native.Char.{code}
 use Prim.Native.String.{String, [] as none, _∷_ as _then_}
 use lib.Dec.{ltb, eqb}
 use lib.ListN.{length, take, drop}
+use Rattle.sheet.specs.Format.{Judgement}
 use Rattle.plan.specs.declared.Row.{Row}
 use Rattle.plan.specs.declared.Ran.{Ran}
 use Rattle.plan.specs.declared.Verdict.{Verdict}
 use Rattle.plan.specs.declared.Verdict.the-variants.{Reached, Short, Stopped, Full, Refused}
+use Rattle.plan.specs.Calls.{runOf, rowsOf}
 use Rattle.plan.specs.Demand3.{runRefused}
 
 -- the codes of the characters of a text
@@ -54,6 +56,19 @@ lastLine (Refused number position) = numberAt (ascii "refused ") number position
 -- the whole output: the header and the rows, then the last line; "A refused sheet or start prints only `refused N at P`"
 unfoldable pub textOf : Ran → List Row → List ℕ
 textOf r rows = cond (runRefused r) [] (ascii "place entries clauses\n" ++ rowsText rows) ++ lastLine (r .verdict)
+
+-- the whole output for a sheet, by a run with 65 rows
+unfoldable pub outputOf : Judgement → List ℕ
+outputOf sheet = textOf (runOf sheet 65) (rowsOf sheet 65)
+
+-- ---- the call `report`: the output in a lent buffer of at least 8,192 bytes; a shorter one is left as it was
+-- the length of the output, 0 in a buffer that is too short
+unfoldable pub reportOf : Judgement → ℕ → ℕ
+reportOf sheet lent = cond (ltb lent 8192) 0 (length (outputOf sheet))
+
+-- the buffer: the output, and later bytes as they were
+unfoldable pub reportIn : Judgement → List ℕ → List ℕ
+reportIn sheet buffer = cond (ltb (length buffer) 8192) buffer (outputOf sheet ++ drop (length (outputOf sheet)) buffer)
 
 -- ---- bytes in a lent buffer
 -- the bytes s stand from `at` on, the others are kept, and r is the place after s
