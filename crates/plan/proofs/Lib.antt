@@ -1,12 +1,13 @@
 -- The laws that belong to no one function.
 pub mod Commuting
 pub mod Exchanging
-pub mod Goals
+pub mod GoalWorlds
 pub mod Running
 pub mod Verdicts
 pub mod Exactly
 pub mod TableRuns
 pub mod CallRuns
+pub mod Courses
 pub mod FinalPictures
 pub mod Searching
 pub mod SearchRuns

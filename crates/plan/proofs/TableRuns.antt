@@ -32,7 +32,7 @@ use Rattle.plan.specs.Calls.{verdictOf}
 use Rattle.plan.specs.Places.{tableAt, Refuses}
 use Rattle.plan.specs.Meaning.{Ends, Every, Comes, Means}
 use Rattle.plan.specs.Demand3.{takenBy}
-use Rattle.plan.proofs.Goals.{goal-each, goal-lacks, goal-entries}
+use Rattle.plan.proofs.GoalWorlds.{goal-each, goal-lacks, goal-entries}
 use Rattle.plan.proofs.Running.{Story, story, run-ended, run-refused, last-at, taken-all, taken-refused}
 use Rattle.plan.proofs.Verdicts.{Arrives, all-next, arrives, run-means, one-verdict}
 use Rattle.plan.proofs.Exactly.{Exact}

@@ -26,7 +26,7 @@ use Rattle.plan.specs.Places.{tableAt, Refuses}
 use Rattle.plan.specs.Meaning.{Ends, Undefined, At, Inside, Outside, Lacking, Every, Some, Comes, StopsAt, Means}
 use Rattle.plan.specs.Demand3.{Class, isReached, isShort, isStopped}
 use Rattle.plan.proofs.Exchanging.{step-below, run-below}
-use Rattle.plan.proofs.Goals.{goal-each, goal-lacks}
+use Rattle.plan.proofs.GoalWorlds.{goal-each, goal-lacks}
 use Rattle.plan.proofs.Running.{at-later, Story, story, run-ended, run-refused}
 
 -- ---- one plan in one world

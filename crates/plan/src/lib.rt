@@ -1,6 +1,8 @@
 // Plans: the run of a plan, the search for one, and the text of the program.
 use table::Table;
 
+pub mod goals;
+pub mod runs;
 pub mod text;
 
 // What a run says of a place: the place, the entries of its table and the clauses of its picture.
