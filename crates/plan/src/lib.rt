@@ -1,5 +1,9 @@
 // Plans: the run of a plan, the search for one, and the text of the program.
 use table::Table;
+ghost use mathlib.Core.Path.{_≡_};
+ghost use lib.ListN.{length};
+ghost use Rattle.sheet.specs.Format.{sheetOf};
+ghost use Rattle.plan.specs.Text.{reportOf, reportIn};
 
 pub mod goals;
 pub mod runs;
@@ -53,4 +57,16 @@ pub struct Counts {
 pub struct Course {
     pub ran: Ran,
     pub counts: Counts,
+}
+
+// The output of the program `check` for a sheet, and its length; a buffer of fewer than 8,192 bytes is left as it was.
+pub fn report(bytes: &[u8], out: &mut [u8]) -> usize
+    ensures { λ r. ⌜ r ≡ reportOf (sheetOf (now (bytes .entry))) (length (now (out .entry))) ⌝ }
+    ensures { λ r. ⌜ now (out .exit) ≡ reportIn (sheetOf (now (bytes .entry))) (now (out .entry)) ⌝ }
+{
+    if out.len() < 8192 {
+        return 0;
+    }
+    let course = runs::course(bytes, 65);
+    text::write_text(out, course)
 }
