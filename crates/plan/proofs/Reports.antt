@@ -1,14 +1,13 @@
 -- The call `report`: the text of the run with the numbers of its rows is the output for the sheet. Assumes nothing.
-use mathlib.Core.Path.{_≡_, refl, sym, ap, _∙_}
+use mathlib.Core.Path.{_≡_, ap, _∙_}
 use mathlib.Core.Bool.{Bool, true, false, cond}
 use mathlib.Core.List.{List, _++_}
 use Prim.Native.Nat.{ℕ, _+_, _≤_, _<_}
 use native.Mathlib.Omega.{arith}
 use lib.Dec.{ltb}
-use lib.ListN.{length, drop, length-append, length-drop}
+use lib.ListN.{length, drop, length-append}
 use borrow.Author.Tests.{lt-ltb, le-ltb}
 use Rattle.sheet.specs.Format.{Judgement, sheetOf}
-use Rattle.plan.specs.declared.Row.{Row}
 use Rattle.plan.specs.declared.Course.{Course}
 use Rattle.plan.specs.Calls.{runOf, rowsOf}
 use Rattle.plan.specs.Course.{countsOf, courseOf}

@@ -1,6 +1,6 @@
 -- The text of the program `check` at what document 01 shows. Assumes nothing.
 use mathlib.Core.Path.{_≡_, refl}
-use mathlib.Core.List.{List, [], _∷_}
+use mathlib.Core.List.{[], _∷_}
 use Prim.Native.Nat.{ℕ}
 use Rattle.table.specs.Slots.{tableOf}
 use Rattle.plan.specs.declared.Row.{Row}

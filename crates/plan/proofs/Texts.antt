@@ -80,14 +80,17 @@ enough zero k n h i = absurd (omega arith)
 enough (suc j) zero n h i = absurd (omega arith)
 enough (suc j) (suc k) n h i = same-higher n _ _ (ltb n 10) refl (λ g. enough j k (n / 10) (omega arith) (omega arith))
 
+-- the digit of a number below 10
 pub decimal-low : (n : ℕ) → n < 10 → decimal n ≡ (48 + n) ∷ []
 unfolding decimal
 decimal-low n h = rw (lt-ltb n 10 h, mod-eq-of-lt h)
 
+-- the digits of any other number
 pub decimal-high : (n : ℕ) → 10 ≤ n → decimal n ≡ decimal (n / 10) ++ ((48 + n % 10) ∷ [])
 unfolding decimal
 decimal-high n h = rw (le-ltb n 10 h) (ap (λ (x : List ℕ). x ++ ((48 + n % 10) ∷ [])) (enough n (suc (n / 10)) (n / 10) (omega arith) (omega arith)))
 
+-- one digit more
 longer : (k n : ℕ) (b : Bool) → ltb n 10 ≡ b → (10 ≤ n → length (decimal (n / 10)) ≤ k) → length (decimal n) ≤ suc k
 longer k n true e f = omega (arith, ap length (decimal-low n (ltb-true n 10 e)))
 longer k n false e f =
@@ -116,6 +119,7 @@ wrote-high b at n q m h i e f =
     rw (decimal-high n h) (wrote-then f (omega (arith, f .place)) (wrote-byte m q (48 + n % 10) (omega (arith, f .place))))
 
 -- ---- rows
+-- one row more
 pub rows-snoc : (rows : List Row) (r : Row) → rowsText (rows ++ (r ∷ [])) ≡ rowsText rows ++ rowText r
 unfolding rowsText
 rows-snoc [] r = append-nil (rowText r)

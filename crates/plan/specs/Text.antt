@@ -2,7 +2,7 @@
 use mathlib.Core.Path.{_≡_}
 use mathlib.Core.Bool.{cond}
 use mathlib.Core.List.{List, [], _∷_, _++_}
-use Prim.Native.Nat.{ℕ, zero, suc, _+_, _/_, _%_, _≤_}
+use Prim.Native.Nat.{ℕ, zero, suc, _+_, _/_, _%_}
 use Prim.Native.Char.{code}
 use Prim.Native.String.{String, [] as none, _∷_ as _then_}
 use lib.Dec.{ltb, eqb}
@@ -37,6 +37,7 @@ clausesText n = cond (eqb n 257) (ascii "-") (decimal n)
 unfoldable pub rowText : Row → List ℕ
 rowText r = decimal (r .place) ++ (ascii " " ++ (decimal (r .entries) ++ (ascii " " ++ (clausesText (r .clauses) ++ ascii "\n"))))
 
+-- a line for each row
 unfoldable pub rowsText : List Row → List ℕ
 rowsText [] = []
 rowsText (r ∷ rows) = rowText r ++ rowsText rows
