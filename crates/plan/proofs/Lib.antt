@@ -20,3 +20,6 @@ pub mod Entering
 pub mod RowCalls
 pub mod RowsWritten
 pub mod RowCounts
+pub mod TextExamples
+pub mod Texts
+pub mod Reports

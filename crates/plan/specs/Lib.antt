@@ -10,3 +10,4 @@ pub mod Demand3
 pub mod Order
 pub mod Course
 pub mod Rows
+pub mod Text

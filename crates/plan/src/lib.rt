@@ -5,10 +5,12 @@ ghost use lib.ListN.{length, replicate};
 ghost use Rattle.sheet.specs.Format.{sheetOf};
 ghost use Rattle.plan.specs.Calls.{runOf, rowsAfter};
 ghost use Rattle.plan.specs.Rows.{noRow};
+ghost use Rattle.plan.specs.Text.{reportOf, reportIn};
 
 pub mod goals;
 pub mod rows;
 pub mod runs;
+pub mod text;
 
 // What a run says of a place: the place, the entries of its table and the clauses of its picture.
 pub struct Row {
@@ -90,4 +92,16 @@ pub fn run_here(bytes: &[u8]) -> RanRows
     }; 65];
     let ran = run(bytes, &mut rows);
     RanRows { ran, rows }
+}
+
+// The output of the program `check` for a sheet, and its length; a buffer of fewer than 8,192 bytes is left as it was.
+pub fn report(bytes: &[u8], out: &mut [u8]) -> usize
+    ensures { λ r. ⌜ r ≡ reportOf (sheetOf (now (bytes .entry))) (length (now (out .entry))) ⌝ }
+    ensures { λ r. ⌜ now (out .exit) ≡ reportIn (sheetOf (now (bytes .entry))) (now (out .entry)) ⌝ }
+{
+    if out.len() < 8192 {
+        return 0;
+    }
+    let course = runs::course(bytes, 65);
+    text::write_text(out, course)
 }

@@ -1,0 +1,45 @@
+-- The text of the program `check` at what document 01 shows. Assumes nothing.
+use mathlib.Core.Path.{_≡_, refl}
+use mathlib.Core.List.{[], _∷_}
+use Prim.Native.Nat.{ℕ}
+use Rattle.table.specs.Slots.{tableOf}
+use Rattle.plan.specs.declared.Row.{Row}
+use Rattle.plan.specs.declared.Ran.{Ran}
+use Rattle.plan.specs.declared.Verdict.{Verdict}
+use Rattle.plan.specs.declared.Verdict.the-variants.{Reached, Short, Stopped, Full, Refused}
+use Rattle.plan.specs.Text.{ascii, decimal, clausesText, rowText, rowsText, numberAt, lastLine, textOf}
+use Rattle.plan.specs.Demand3.{refusedVerdict, runRefused}
+
+abbrev row : ℕ → ℕ → ℕ → Row
+row place entries clauses = record { place = place; entries = entries; clauses = clauses }
+
+abbrev ends : Verdict → Ran
+ends verdict = record { verdict = verdict; table = tableOf [] }
+
+-- the whole output of the shown sheet
+pub shown : textOf (ends Reached) (row 0 3 4 ∷ row 1 2 3 ∷ row 2 1 3 ∷ []) ≡ ascii "place entries clauses\n0 3 4\n1 2 3\n2 1 3\nreached\n"
+unfolding textOf runRefused refusedVerdict lastLine rowsText rowText clausesText decimal
+shown = refl
+
+-- a full picture, and each other last line
+pub full-picture : textOf (ends Short) (row 0 128 257 ∷ []) ≡ ascii "place entries clauses\n0 128 -\nshort\n"
+unfolding textOf runRefused refusedVerdict lastLine rowsText rowText clausesText decimal
+full-picture = refl
+
+pub stops : textOf (ends (Stopped 1 24)) (row 0 10 256 ∷ []) ≡ ascii "place entries clauses\n0 10 256\nstopped 24 at 1\n"
+unfolding textOf runRefused refusedVerdict lastLine rowsText rowText clausesText decimal numberAt
+stops = refl
+
+pub is-full : textOf (ends (Full 1)) (row 0 1 0 ∷ []) ≡ ascii "place entries clauses\n0 1 0\nfull at 1\n"
+unfolding textOf runRefused refusedVerdict lastLine rowsText rowText clausesText decimal
+is-full = refl
+
+-- nothing but the refusal
+pub is-refused : textOf (ends (Refused 7 3711)) (row 0 1 0 ∷ []) ≡ ascii "refused 7 at 3711\n"
+unfolding textOf runRefused refusedVerdict lastLine decimal numberAt
+is-refused = refl
+
+-- the largest number of 64 bits
+pub largest : decimal 18446744073709551615 ≡ ascii "18446744073709551615"
+unfolding decimal
+largest = refl

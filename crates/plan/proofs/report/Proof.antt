@@ -1,0 +1,25 @@
+-- `report` meets its contract. Assumes nothing.
+use borrow.Author.Needs.{needs}
+use Rattle.plan.proofs.Reports.{few-rows, reports, no-report}
+use Rattle.plan.proofs.report.Statement.{statement}
+use Rattle.plan.proofs.report.Tie as tie
+
+returns : tie.Need-returns
+returns c = no-report (c .before .before .before .args .bytes .now) _ (c .if1 .taken)
+
+course-requires : tie.Need-course-requires
+course-requires c κs = search needs
+
+write-text-requires : tie.Need-write-text-requires
+write-text-requires c κs = (few-rows _ _ (c .before .course .ensures), c .before .before .if1 .left)
+
+same-length : tie.Need-same-length
+same-length c = search needs
+
+returns-2 : tie.Need-returns-2
+returns-2 c =
+    let k = c .before .before .before .before in
+    reports _ _ (k .course .ensures) _ _ _ (k .before .if1 .left) (c .before .before .write-text .ensures)
+
+pub report-spec : {M : Type 1} → statement M
+report-spec = tie.close (tie.spec returns course-requires write-text-requires same-length returns-2)

@@ -1,0 +1,147 @@
+// The text of the program `check`, written into a lent buffer.
+use crate::Counts;
+use crate::Course;
+use crate::Row;
+use crate::Verdict;
+ghost use mathlib.Core.Path.{_≡_};
+ghost use Prim.Native.Nat.{_+_, _*_, _≤_};
+ghost use lib.ListN.{length};
+ghost use Rattle.plan.specs.Demand3.{refusedVerdict};
+ghost use Rattle.plan.specs.Rows.{rowsIn};
+ghost use Rattle.plan.specs.Text.{decimal, clausesText, rowText, rowsText, numberAt, lastLine, textOf, Wrote};
+
+// The bytes s.
+pub fn write_bytes(out: &mut [u8], at: usize, s: &[u8]) -> usize
+    requires { ⌜ at + length (now s) ≤ length (now out) ⌝ }
+    ensures { λ r. ⌜ Wrote (now (out .entry)) at (now (s .entry)) r (now (out .exit)) ⌝ }
+{
+    let mut i: usize = 0;
+    while i < s.len() {
+        out[at + i] = s[i];
+        i += 1;
+    }
+    at + i
+}
+
+// The number n in decimal.
+pub fn write_number(out: &mut [u8], at: usize, n: usize) -> usize
+    requires { ⌜ at + 20 ≤ length (now out) ⌝ }
+    ensures { λ r. ⌜ Wrote (now (out .entry)) at (decimal n) r (now (out .exit)) ⌝ }
+    ensures { λ r. ⌜ r ≤ at + 20 ⌝ }
+{
+    if n < 10 {
+        out[at] = (48 + n) as u8;
+        return at + 1;
+    }
+    let last = write_number(out, at, n / 10);
+    out[last] = (48 + n % 10) as u8;
+    last + 1
+}
+
+// The clauses of a row: `-` for a full picture.
+pub fn write_clauses(out: &mut [u8], at: usize, clauses: usize) -> usize
+    requires { ⌜ at + 20 ≤ length (now out) ⌝ }
+    ensures { λ r. ⌜ Wrote (now (out .entry)) at (clausesText clauses) r (now (out .exit)) ⌝ }
+    ensures { λ r. ⌜ r ≤ at + 20 ⌝ }
+{
+    if clauses == 257 {
+        return write_bytes(out, at, b"-");
+    }
+    write_number(out, at, clauses)
+}
+
+// A row as a line.
+pub fn write_row(out: &mut [u8], at: usize, row: Row) -> usize
+    requires { ⌜ at + 63 ≤ length (now out) ⌝ }
+    ensures { λ r. ⌜ Wrote (now (out .entry)) at (rowText row) r (now (out .exit)) ⌝ }
+    ensures { λ r. ⌜ r ≤ at + 63 ⌝ }
+{
+    let a = write_number(out, at, row.place);
+    let b = write_bytes(out, a, b" ");
+    let c = write_number(out, b, row.entries);
+    let d = write_bytes(out, c, b" ");
+    let e = write_clauses(out, d, row.clauses);
+    write_bytes(out, e, b"\n")
+}
+
+// The rows of the places arrived at.
+pub fn write_rows(out: &mut [u8], at: usize, counts: Counts) -> usize
+    requires { ⌜ counts .count ≤ 65 ⌝ }
+    requires { ⌜ at + 63 * counts .count ≤ length (now out) ⌝ }
+    ensures { λ r. ⌜ Wrote (now (out .entry)) at (rowsText (rowsIn counts)) r (now (out .exit)) ⌝ }
+    ensures { λ r. ⌜ r ≤ at + 63 * counts .count ⌝ }
+{
+    let count = counts.count;
+    let mut next = at;
+    let mut i: usize = 0;
+    while i < count {
+        let row = Row {
+            place: i,
+            entries: counts.entries[i],
+            clauses: counts.clauses[i],
+        };
+        next = write_row(out, next, row);
+        i += 1;
+    }
+    next
+}
+
+// A word, a number, `at` and a place, as a line.
+pub fn write_at(out: &mut [u8], at: usize, word: &[u8], number: u8, place: usize) -> usize
+    requires { ⌜ (at + length (now word)) + 45 ≤ length (now out) ⌝ }
+    ensures { λ r. ⌜ Wrote (now (out .entry)) at (numberAt (now (word .entry)) number place) r (now (out .exit)) ⌝ }
+{
+    let a = write_bytes(out, at, word);
+    let b = write_number(out, a, number as usize);
+    let c = write_bytes(out, b, b" at ");
+    let d = write_number(out, c, place);
+    write_bytes(out, d, b"\n")
+}
+
+// The last line of the run.
+pub fn write_verdict(out: &mut [u8], at: usize, verdict: Verdict) -> usize
+    requires { ⌜ at + 53 ≤ length (now out) ⌝ }
+    ensures { λ r. ⌜ Wrote (now (out .entry)) at (lastLine verdict) r (now (out .exit)) ⌝ }
+{
+    match verdict {
+        Verdict::Reached => write_bytes(out, at, b"reached\n"),
+        Verdict::Short => write_bytes(out, at, b"short\n"),
+        Verdict::Stopped(place, number) => write_at(out, at, b"stopped ", number, place),
+        Verdict::Full(place) => {
+            let a = write_bytes(out, at, b"full at ");
+            let b = write_number(out, a, place);
+            write_bytes(out, b, b"\n")
+        }
+        Verdict::Refused(number, position) => write_at(out, at, b"refused ", number, position),
+    }
+}
+
+// The run was refused.
+pub fn refused(verdict: Verdict) -> bool
+    ensures { λ r. ⌜ r ≡ refusedVerdict verdict ⌝ }
+{
+    match verdict {
+        Verdict::Reached => false,
+        Verdict::Short => false,
+        Verdict::Stopped(_, _) => false,
+        Verdict::Full(_) => false,
+        Verdict::Refused(_, _) => true,
+    }
+}
+
+// The whole text of a run.
+pub fn write_text(out: &mut [u8], course: Course) -> usize
+    requires { ⌜ course .counts .count ≤ 65 ⌝ }
+    requires { ⌜ 8192 ≤ length (now out) ⌝ }
+    ensures { λ r. ⌜ Wrote (now (out .entry)) 0 (textOf (course .ran) (rowsIn (course .counts))) r (now (out .exit)) ⌝ }
+{
+    let ran = course.ran;
+    let verdict = ran.verdict;
+    if refused(verdict) {
+        return write_verdict(out, 0, verdict);
+    }
+    let counts = course.counts;
+    let a = write_bytes(out, 0, b"place entries clauses\n");
+    let b = write_rows(out, a, counts);
+    write_verdict(out, b, verdict)
+}
