@@ -27,7 +27,7 @@ use Rattle.plan.specs.Exchange.{changed, reads, named, touch, exchanges}
 use Rattle.plan.specs.Demand3.{fullVerdict, refusedVerdict, runFull, runRefused, finalClauses, finalPicture, SamePlanSheet}
 use Rattle.plan.proofs.Demands.{run-call}
 
-abbrev first : List Literals
+abbrev pub first : List Literals
 first = set 1 6 ∷ set 2 5 ∷ set 4 3 ∷ []
 
 -- its run is reached, and its final picture has the three clauses f, ¬g, ¬h
@@ -46,7 +46,7 @@ came : (runFrom 128 (paper .problem .goal) 0 (actionsOf (paper .problem) (paper 
 unfolding actionsOf actionAt stepTable split missing image put within join clash consistent flip literal single sign replace noLiteral members membersFrom contains mem has inGoal meets
 came = (refl, refl)
 
-given : runOf (sheetOf bytes) 65 ≡ record { verdict = verdictOf reached; table = tableOf (set 1 6 ∷ []) }
+pub given : runOf (sheetOf bytes) 65 ≡ record { verdict = verdictOf reached; table = tableOf (set 1 6 ∷ []) }
 given =
     run-call bytes paper (bench .says) first (bench .M1) 65 (omega arith) .0
     ∙ ap₂ {C = Ran} (λ (v : Verdict) (u : List Literals). record { verdict = verdictOf v; table = tableOf u }) (came .0) (came .1)

@@ -1,14 +1,27 @@
 -- The text of the program `check` at what document 01 shows. Assumes nothing.
-use mathlib.Core.Path.{_≡_, refl}
-use mathlib.Core.List.{[], _∷_}
+use mathlib.Core.Path.{_≡_, refl, ap₂, _∙_}
+use mathlib.Core.List.{List, [], _∷_}
 use Prim.Native.Nat.{ℕ}
+use native.Mathlib.Omega.{arith}
+use Rattle.sheet.specs.Literals.{has, noLiteral, mem, within, clash, consistent, join, flip, replace, single, sign, literal, contains, membersFrom, members}
+use Rattle.sheet.specs.Format.{sheetOf}
+use Rattle.table.specs.Minimal.{put}
+use Rattle.table.specs.Step.{missing, split, image, stepTable}
+use Rattle.table.specs.Picture.{units, unions, fold, primes, before, insert, sortOnto, sort, picture}
+use Rattle.table.specs.Calls.{actionAt}
+use Rattle.table.specs.Counts.{sizeOf}
 use Rattle.table.specs.Slots.{tableOf}
+use Rattle.table.proofs.Examples.{bytes, paper, bench}
 use Rattle.plan.specs.declared.Row.{Row}
 use Rattle.plan.specs.declared.Ran.{Ran}
 use Rattle.plan.specs.declared.Verdict.{Verdict}
 use Rattle.plan.specs.declared.Verdict.the-variants.{Reached, Short, Stopped, Full, Refused}
-use Rattle.plan.specs.Text.{ascii, decimal, clausesText, rowText, rowsText, numberAt, lastLine, textOf}
+use Rattle.plan.specs.Text.{ascii, decimal, clausesText, rowText, rowsText, numberAt, lastLine, textOf, outputOf}
+use Rattle.plan.specs.Run.{actionsOf, rowOf, rowsFrom}
+use Rattle.plan.specs.Calls.{verdictOf}
 use Rattle.plan.specs.Demand3.{refusedVerdict, runRefused}
+use Rattle.plan.proofs.Demands.{run-call}
+use Rattle.plan.proofs.PaperRuns.{first, given}
 
 abbrev row : ℕ → ℕ → ℕ → Row
 row place entries clauses = record { place = place; entries = entries; clauses = clauses }
@@ -43,3 +56,17 @@ is-refused = refl
 pub largest : decimal 18446744073709551615 ≡ ascii "18446744073709551615"
 unfolding decimal
 largest = refl
+
+-- ---- the sheet of document 01
+abbrev paperRows : List Row
+paperRows = row 0 3 4 ∷ row 1 2 3 ∷ row 2 1 3 ∷ []
+
+-- its rows
+paper-rows : rowsFrom 128 0 (actionsOf (paper .problem) (paper .plan)) first ≡ paperRows
+unfolding rowOf actionsOf actionAt stepTable split missing image put within join clash consistent flip literal single sign replace noLiteral members membersFrom contains mem has units unions fold primes before insert sortOnto sort picture sizeOf
+paper-rows = refl
+
+-- its whole output
+pub paper-output : outputOf (sheetOf bytes) ≡ ascii "place entries clauses\n0 3 4\n1 2 3\n2 1 3\nreached\n"
+unfolding outputOf verdictOf textOf runRefused refusedVerdict lastLine rowsText rowText clausesText decimal
+paper-output = ap₂ textOf given (run-call bytes paper (bench .says) first (bench .M1) 65 (omega arith) .1 ∙ paper-rows)
