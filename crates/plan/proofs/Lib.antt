@@ -10,5 +10,8 @@ pub mod CallRuns
 pub mod FinalPictures
 pub mod Searching
 pub mod SearchRuns
+pub mod FirstAnswers
+pub mod Walking
+pub mod Beginning
 pub mod Demands
 pub mod PaperRuns

@@ -9,3 +9,5 @@ pub mod Meaning
 pub mod Demand3
 pub mod Order
 pub mod Course
+pub mod Packed
+pub mod Walks
