@@ -10,6 +10,7 @@ pub mod CallRuns
 pub mod FinalPictures
 pub mod Searching
 pub mod SearchRuns
+pub mod Packing
 pub mod FirstAnswers
 pub mod Walking
 pub mod Beginning

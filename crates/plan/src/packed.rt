@@ -66,3 +66,60 @@ pub fn move_at(packed: &[u32], m: usize) -> Move
         effects: effects_at(packed, i + 3),
     }
 }
+
+// A set laid from number i on.
+pub fn lay_set(packed: &mut [u32], i: usize, a: Literals)
+    requires { ⌜ i + 2 ≤ length (now packed) ⌝ }
+    ensures { λ r. ⌜ P.Kept i (now (packed .entry)) (now (packed .exit)) × (P.setAt (now (packed .exit)) i ≡ a) ⌝ }
+{
+    packed[i] = a.trues;
+    packed[i + 1] = a.falses;
+}
+
+// An effect laid from number i on.
+pub fn lay_effect(packed: &mut [u32], i: usize, e: Effect)
+    requires { ⌜ i + 4 ≤ length (now packed) ⌝ }
+    ensures { λ r. ⌜ P.Kept i (now (packed .entry)) (now (packed .exit)) × (P.effectAt (now (packed .exit)) i ≡ e) ⌝ }
+{
+    lay_set(packed, i, e.condition);
+    lay_set(packed, i + 2, e.result);
+}
+
+// The effects of a move laid from number i on.
+pub fn lay_effects(packed: &mut [u32], i: usize, mv: Move)
+    requires { ⌜ i + 32 ≤ length (now packed) ⌝ }
+    ensures { λ r. ⌜ P.Kept i (now (packed .entry)) (now (packed .exit)) × (P.effectsAt (now (packed .exit)) i ≡ mv .effects) ⌝ }
+{
+    let mut j: usize = 0;
+    while j < 8 {
+        let e = mv.effects[j];
+        lay_effect(packed, i + 4 * j, e);
+        j += 1;
+    }
+}
+
+// A move laid from number i on.
+pub fn lay_move(packed: &mut [u32], i: usize, mv: Move)
+    requires { ⌜ (i + 35 ≤ length (now packed)) × (mv .count ≤ 8) ⌝ }
+    ensures { λ r. ⌜ P.Kept i (now (packed .entry)) (now (packed .exit)) × (P.moveFrom (now (packed .exit)) i ≡ mv) ⌝ }
+{
+    lay_set(packed, i, mv.precondition);
+    packed[i + 2] = mv.count as u32;
+    lay_effects(packed, i + 3, mv);
+}
+
+// The moves laid out.
+pub fn pack(moves: Moves) -> [u32; 1120]
+    requires { ⌜ (moves .count ≤ 32) × P.Small moves ⌝ }
+    ensures { λ r. ⌜ P.Packs moves r ⌝ }
+{
+    let count = moves.count;
+    let mut packed = [0u32; 1120];
+    let mut m: usize = 0;
+    while m < count {
+        let mv = moves.items[m];
+        lay_move(&mut packed, m * 35, mv);
+        m += 1;
+    }
+    packed
+}
