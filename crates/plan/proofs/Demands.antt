@@ -23,10 +23,11 @@ use Rattle.table.specs.Start.{startTable}
 use Rattle.table.specs.Picture.{picture}
 use Rattle.table.specs.Slots.{tableOf}
 use Rattle.table.specs.PictureCalls.{pictureOf, bufferOf}
+use Rattle.table.specs.Counts.{sizeOf}
 use Rattle.table.specs.Calls.{actionAt}
 use Rattle.plan.specs.declared.Row.{Row}
 use Rattle.plan.specs.declared.Ran.{Ran}
-use Rattle.plan.specs.Run.{actionsOf, Verdict, reached, short, stopped, full, runFrom, lastTable, movesTaken, sizeOf, rowOf, rowsFrom}
+use Rattle.plan.specs.Run.{actionsOf, Verdict, reached, short, stopped, full, runFrom, lastTable, movesTaken, rowOf, rowsFrom}
 use Rattle.plan.specs.Search.{found, fullAt, nothing}
 use Rattle.plan.specs.Calls.{verdictOf, runOf, rowsOf, refusedSearch, answered, searchedFrom, searched, searchOf}
 use Rattle.plan.specs.Exchange.{touch, exchanges}

@@ -27,18 +27,18 @@ pad-zeros (suc n) zero zero = ap {B = List ℕ} (λ l. 0 ∷ l) (pad-zeros n zer
 pad-zeros (suc n) zero (suc b) = ap {B = List ℕ} (λ l. 0 ∷ l) (pad-zeros n zero b)
 pad-zeros (suc n) (suc a) b = ap {B = List ℕ} (λ l. 0 ∷ l) (pad-zeros n a b)
 
-pad-set : (n at m : ℕ) (p : List ℕ) → set (pad n 0 (replicate (suc at) 0 ++ p)) at m ≡ pad n 0 (replicate at 0 ++ (m ∷ p))
+pad-write : (n at m : ℕ) (p : List ℕ) → set (pad n 0 (replicate (suc at) 0 ++ p)) at m ≡ pad n 0 (replicate at 0 ++ (m ∷ p))
 unfolding pad
-pad-set zero at m p = refl
-pad-set (suc n) zero m p = refl
-pad-set (suc n) (suc at) m p = ap {B = List ℕ} (λ l. 0 ∷ l) (pad-set n at m p)
+pad-write zero at m p = refl
+pad-write (suc n) zero m p = refl
+pad-write (suc n) (suc at) m p = ap {B = List ℕ} (λ l. 0 ∷ l) (pad-write n at m p)
 
 -- an answer with byte `at` set
 abbrev pub written : Searched → ℕ → ℕ → Searched
 written a at m = record { kind = a .kind; plan = set (a .plan) at m; length = a .length }
 
 bytes-set : (at m : ℕ) (p : List ℕ) → set (pad 8 0 (replicate (at + 1) 0 ++ p)) at m ≡ pad 8 0 (replicate at 0 ++ (m ∷ p))
-bytes-set at m p = ap (λ (i : ℕ). set (pad 8 0 (replicate i 0 ++ p)) at m) (add-one at) ∙ pad-set 8 at m p
+bytes-set at m p = ap (λ (i : ℕ). set (pad 8 0 (replicate i 0 ++ p)) at m) (add-one at) ∙ pad-write 8 at m p
 
 written-consed : (at m : ℕ) (f : Answer) → some f ≡ true → written (answeredAt (at + 1) f) at m ≡ answeredAt at (consed m f)
 unfolding answeredAt
@@ -56,7 +56,7 @@ unfolding answeredAt
 full-here at left m k =
     let q : at + suc (length {A = ℕ} (replicate left 0)) ≡ at + 1 + left = omega (arith, length-replicate {A = ℕ} left 0) in
     ap₂ {C = Searched} (λ (l : List ℕ) (n : ℕ). record { kind = kind.Full k; plan = l; length = n })
-    (sym (pad-set 8 at m (replicate left 0)) ∙ ap (λ (l : List ℕ). set l at m) (pad-zeros 8 (suc at) left)) q
+    (sym (pad-write 8 at m (replicate left 0)) ∙ ap (λ (l : List ℕ). set l at m) (pad-zeros 8 (suc at) left)) q
 
 -- from the first byte on, it is the answer of the call
 from-start : (f : Answer) → answeredAt 0 f ≡ answered f

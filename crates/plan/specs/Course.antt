@@ -1,13 +1,22 @@
 -- A run with its rows as plain numbers: what the call `run` writes into the rows, and the program `check` into its text.
-use mathlib.Core.List.{List, map}
-use Prim.Native.Nat.{ℕ}
-use lib.ListN.{length}
+use mathlib.Core.Path.{_≡_}
+use mathlib.Core.List.{List, [], _++_, map}
+use Prim.Native.Nat.{ℕ, _+_}
+use lib.ListN.{length, set}
+use Rattle.sheet.specs.declared.Literals.{Literals}
 use Rattle.sheet.specs.Lists.{pad}
 use Rattle.sheet.specs.Format.{Judgement}
+use Rattle.sheet.specs.Problem.{Action, Problem}
+use Rattle.table.specs.declared.Table.{Table}
+use Rattle.table.specs.Minimal.{Described, Outcome}
+use Rattle.table.specs.Picture.{picture}
+use Rattle.table.specs.Counts.{sizeOf}
+use Rattle.table.specs.Slots.{entries, tableOf}
 use Rattle.plan.specs.declared.Row.{Row}
 use Rattle.plan.specs.declared.Counts.{Counts}
 use Rattle.plan.specs.declared.Course.{Course}
-use Rattle.plan.specs.Calls.{runOf, rowsOf}
+use Rattle.plan.specs.Run.{runFrom, lastTable, rowsFrom}
+use Rattle.plan.specs.Calls.{verdictOf, refusedRun, planned, plannedRows, runOf, rowsOf}
 
 -- the numbers of some rows, in slots with zeros after them
 unfoldable pub countsOf : List Row → Counts
@@ -16,3 +25,34 @@ countsOf rows = record { count = length rows; entries = pad 65 0 (map (λ r. r .
 -- the run on a sheet with so many rows lent
 unfoldable pub courseOf : Judgement → ℕ → Course
 courseOf sheet lent = record { ran = runOf sheet lent; counts = countsOf (rowsOf sheet lent) }
+
+-- ---- its parts
+-- one row more, of the table t
+unfoldable pub noted : Counts → List Literals → Counts
+noted c t =
+    record {
+      count = c .count + 1;
+      entries = set (c .entries) (c .count) (length t);
+      clauses = set (c .clauses) (c .count) (sizeOf (picture t));
+    }
+
+-- a refusal: no table, and no row
+unfoldable pub refusedCourse : ℕ → ℕ → Course
+refusedCourse number position = record { ran = refusedRun number position; counts = countsOf [] }
+
+-- the rest of a plan from the table t, `place` moves already taken, after some rows
+unfoldable pub courseFrom : List Literals → List Row → ℕ → List Action → List Literals → Course
+courseFrom goal rows place plan t =
+    record {
+      ran = record { verdict = verdictOf (runFrom 128 goal place plan t); table = tableOf (lastTable 128 plan t) };
+      counts = countsOf (rows ++ rowsFrom 128 place plan t);
+    }
+
+-- any plan of a problem, from what its start gave
+unfoldable pub plannedCourse : Problem → List ℕ → Outcome → Course
+plannedCourse p plan start = record { ran = planned p plan start; counts = countsOf (plannedRows p plan start) }
+
+-- a table that a run can take: as document 01 describes it, with zeros after its entries
+pub record Ready (n : ℕ) (t : Table) : Type 0 where
+  pub described : Described 128 n (entries t)
+  pub zeros : t ≡ tableOf (entries t)

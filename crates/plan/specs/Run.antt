@@ -1,7 +1,6 @@
 -- Runs (document 01, "Run, touching moves, picture"): a plan stepped from a table. Place 0 is the start, place k the k-th move.
 use mathlib.Core.Bool.{Bool, true, false}
 use mathlib.Core.List.{List, [], _∷_, map}
-use mathlib.Core.Option.{Option, none, some}
 use Prim.Native.Nat.{ℕ, suc}
 use lib.Dec.{eqb}
 use lib.ListN.{length}
@@ -12,6 +11,7 @@ use Rattle.sheet.specs.Problem.{Action, Problem}
 use Rattle.table.specs.Minimal.{Outcome, refused, table}
 use Rattle.table.specs.Step.{stepTable}
 use Rattle.table.specs.Picture.{picture}
+use Rattle.table.specs.Counts.{sizeOf}
 use Rattle.table.specs.Calls.{actionAt}
 use Rattle.plan.specs.declared.Row.{Row}
 
@@ -65,12 +65,7 @@ abbrev pub movesTaken : ℕ → List Action → List Literals → ℕ
 movesTaken cap [] t = 0
 movesTaken cap (a ∷ plan) t = countOr (stepTable cap a t) (λ u. movesTaken cap plan u)
 
--- ---- the rows of the places arrived at: place, entries, picture clauses
--- 257 if the picture is full
-abbrev pub sizeOf : Option (List Literals) → ℕ
-sizeOf none = 257
-sizeOf (some s) = length s
-
+-- ---- the rows of the places arrived at: place, entries, picture clauses (257 if the picture is full)
 unfoldable pub rowOf : ℕ → List Literals → Row
 rowOf place t = record { place = place; entries = length t; clauses = sizeOf (picture t) }
 

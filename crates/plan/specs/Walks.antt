@@ -10,7 +10,6 @@ use Rattle.sheet.specs.Problem.{Action}
 use Rattle.sheet.specs.Encoding.{ProperAction}
 use Rattle.sheet.specs.Decoded.{actionIn, setsIn}
 use Rattle.table.specs.declared.Table.{Table}
-use Rattle.table.specs.Minimal.{Described}
 use Rattle.table.specs.Slots.{entries}
 use Rattle.plan.specs.declared.Searched.{Searched}
 use Rattle.plan.specs.declared.Kind.{Kind}
@@ -18,6 +17,7 @@ use Rattle.plan.specs.declared.Kind.the-variants as kind
 use Rattle.plan.specs.Run.{Verdict, runFrom}
 use Rattle.plan.specs.Search.{plansOf, plansUpTo, Answer, found, fullAt, nothing, firstOf}
 use Rattle.plan.specs.Calls.{answered}
+use Rattle.plan.specs.Course.{Ready}
 use Rattle.plan.specs.Packed.{moveAt}
 
 -- ---- the first answer from the table t, `place` moves already taken, by the numbers of the moves f
@@ -51,17 +51,17 @@ unfoldable pub actionOf : List ℕ → ℕ → Action
 actionOf packed i = actionIn (moveAt packed i)
 
 -- moves, goal and table over the same n propositions, within their slots
-pub record Ready (packed : List ℕ) (count : ℕ) (goal : Sets) (t : Table) : Type 0 where
+pub record Searchable (packed : List ℕ) (count : ℕ) (goal : Sets) (t : Table) : Type 0 where
   pub n : ℕ
   pub n-most : n ≤ 32
   pub least : 1 ≤ count
   pub most : count ≤ 32
   pub room : count * 35 ≤ length packed
   pub effects-most : (i : ℕ) → i < count → moveAt packed i .count ≤ 8
-  pub actions : (i : ℕ) → i < count → ProperAction n (actionIn (moveAt packed i))
+  pub actions : (i : ℕ) → i < count → ProperAction n (actionOf packed i)
   pub goal-most : goal .count ≤ 8
   pub entries-most : t .count ≤ 128
-  pub described : Described 128 n (entries t)
+  pub ready : Ready n t
 
 -- ---- what the inner calls answer
 abbrev pub walked : List ℕ → ℕ → Sets → Table → ℕ → ℕ → Searched

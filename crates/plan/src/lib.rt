@@ -3,6 +3,7 @@ use table::Table;
 
 pub mod goals;
 pub mod packed;
+pub mod runs;
 pub mod searches;
 
 // What a run says of a place: the place, the entries of its table and the clauses of its picture.

@@ -73,7 +73,7 @@ fn begin(
     left: usize,
     m: usize,
 ) -> Searched
-    requires { ⌜ W.Ready (now packed) moves goal table ⌝ }
+    requires { ⌜ W.Searchable (now packed) moves goal table ⌝ }
     requires { ⌜ (at + left < 8) × (m < moves) ⌝ }
     ensures { λ r. ⌜ r ≡ W.begun (now (packed .entry)) moves goal table at left m ⌝ }
 {
@@ -105,7 +105,7 @@ fn begin(
 
 // The plans with the moves taken so far, which led to the table, and `left` moves more, in ascending order.
 fn walk(packed: &[u32], moves: usize, goal: Sets, table: Table, at: usize, left: usize) -> Searched
-    requires { ⌜ W.Ready (now packed) moves goal table ⌝ }
+    requires { ⌜ W.Searchable (now packed) moves goal table ⌝ }
     requires { ⌜ at + left ≤ 8 ⌝ }
     ensures { λ r. ⌜ r ≡ W.walked (now (packed .entry)) moves goal table at left ⌝ }
 {
@@ -133,7 +133,7 @@ fn walk(packed: &[u32], moves: usize, goal: Sets, table: Table, at: usize, left:
 
 // Plans of at most `limit` moves, shorter first.
 pub fn lengths(packed: &[u32], moves: usize, goal: Sets, table: Table, limit: usize) -> Searched
-    requires { ⌜ W.Ready (now packed) moves goal table ⌝ }
+    requires { ⌜ W.Searchable (now packed) moves goal table ⌝ }
     requires { ⌜ limit ≤ 8 ⌝ }
     ensures { λ r. ⌜ r ≡ W.searchedBy (now (packed .entry)) moves goal table limit ⌝ }
 {

@@ -142,14 +142,14 @@ module _ (y : Statement) (h : ProperStatement y) (i : ℕ) (e : Move) (lt : i < 
       }
 
 module _ (x : Sheet) (g : Filled x) (t : Table) (i : ℕ) where
-  problem-is : problemIn x ≡ g .statement .problem
+  pub problem-is : problemIn x ≡ g .statement .problem
   problem-is = ap problemIn (g .is) ∙ problem-slots (g .statement) (g .proper)
 
-  count-is : x .moves .count ≡ length (g .statement .problem .actions)
+  pub count-is : x .moves .count ≡ length (g .statement .problem .actions)
   unfolding slots movesOf
   count-is = ap (λ (s : Sheet). s .moves .count) (g .is)
 
-  actions-are : x .moves .count ≡ length (problemIn x .actions)
+  pub actions-are : x .moves .count ≡ length (problemIn x .actions)
   actions-are = count-is ∙ sym (ap (λ (p : Problem). length (p .actions)) problem-is)
 
   pub moves-most : x .moves .count ≤ 32
@@ -173,6 +173,12 @@ module _ (x : Sheet) (g : Filled x) (t : Table) (i : ℕ) where
     unfolding orGiven
     undescribed d = by-known false d
 
+    pub move-is : (e : Move) → actionIn (getD (x .moves .items) i e) ≡ actionAt (problemIn x) i
+    move-is e =
+        ap (λ (s : Sheet). actionIn (getD (s .moves .items) i e)) (g .is)
+        ∙ its-back (g .statement) (g .proper) i e (rw (← count-is) lt)
+        ∙ ap (λ (p : Problem). actionAt p i) (sym problem-is)
+
     module _ (d : described 128 (x .n) (entries t) ≡ true) (e : Move) where
       pub steps-of : Steps (getD (x .moves .items) i e) t
       unfolding slots
@@ -181,11 +187,7 @@ module _ (x : Sheet) (g : Filled x) (t : Table) (i : ℕ) where
           (its-steps (g .statement) (g .proper) i e (rw (← count-is) lt) t) d
 
       pub known-step : orGiven t (stepTable 128 (actionIn (getD (x .moves .items) i e)) (entries t)) ≡ whole
-      known-step =
-          ap (λ (a : Action). orGiven t (stepTable 128 a (entries t)))
-          (ap (λ (s : Sheet). actionIn (getD (s .moves .items) i e)) (g .is) ∙ its-back (g .statement) (g .proper) i e (rw (← count-is) lt)
-          ∙ ap (λ (p : Problem). actionAt p i) (sym problem-is))
-          ∙ by-known true d
+      known-step = ap (λ (a : Action). orGiven t (stepTable 128 a (entries t))) (move-is e) ∙ by-known true d
 
 -- ---- the call on bytes
 pub said-filled : (s : List ℕ) (d : Decoded) → Said s d → Filled (d .sheet)
