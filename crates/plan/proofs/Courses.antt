@@ -1,32 +1,39 @@
 -- A run over the slots of a sheet that was read: the moves that are left, the rows so far, and how it ends. Assumes nothing.
 use mathlib.Core.Path.{_≡_, refl, sym, ap, ap₂, subst, _∙_}
-use mathlib.Core.Bool.{true}
+use mathlib.Core.Bool.{Bool, true, false, cond}
 use mathlib.Core.List.{List, [], _∷_, _++_, map, map-append, append-assoc}
 use Prim.Native.Nat.{ℕ, suc, _+_, _≤_, _<_}
 use native.Mathlib.Numerals.{add-one}
 use native.Mathlib.Omega.{arith}
-use lib.Dec.{eqb}
+use borrow.Author.Tests.{lt-ltb, le-ltb}
+use lib.Dec.{eqb, ltb}
 use lib.ListN.{length, getD, drop, set, length-map, length-append}
 use Rattle.sheet.specs.declared.Answer.the-variants.{Accepted, Refused}
 use Rattle.sheet.specs.declared.Literals.{Literals}
 use Rattle.sheet.specs.declared.Move.{Move}
 use Rattle.sheet.specs.declared.Sheet.{Sheet}
+use Rattle.sheet.specs.declared.Decoded.{Decoded}
 use Rattle.sheet.specs.Lists.{allOf, pad}
-use Rattle.sheet.specs.Problem.{Action, Problem, Statement}
-use Rattle.sheet.specs.Decoded.{setsOf, planOf, slots, actionIn, setsIn, planIn, problemIn}
+use Rattle.sheet.specs.Problem.{Action, Statement}
+use Rattle.sheet.specs.Decoded.{setsOf, planOf, slots, actionIn, setsIn, planIn, problemIn, statementIn}
+use Rattle.sheet.specs.Format.{Judgement, accepted, refused as faulty, sheetOf}
+use Rattle.sheet.specs.Calls.{decodedOf}
 use Rattle.sheet.specs.Encoding.{ProperAction, ProperProblem, ProperStatement}
 use Rattle.sheet.proofs.Prefixes.{part-step, part-end}
 use Rattle.sheet.proofs.Reading.{pad-set}
-use Rattle.sheet.proofs.SlotLaws.{not-both}
+use Rattle.sheet.proofs.SlotLaws.{statement-slots, not-both, Said}
 use Rattle.table.specs.declared.Table.{Table}
 use Rattle.table.specs.declared.Tabled.{Tabled}
 use Rattle.table.specs.Minimal.{Described, described, Outcome, refused, table}
+use Rattle.table.specs.Start.{startTable}
 use Rattle.table.specs.Step.{stepTable}
 use Rattle.table.specs.Slots.{entries, tableOf}
 use Rattle.table.specs.Calls.{actionAt, orGiven}
 use Rattle.table.specs.Moves.{Steps, Filled}
+use Rattle.table.specs.Reads.{Readable}
 use Rattle.table.proofs.Pads.{length-pad, length-entriesOf, getD-pad}
-use Rattle.table.proofs.Started.{all-at}
+use Rattle.table.proofs.Started.{all-at, readable}
+use Rattle.table.proofs.Demands.{start-table}
 use Rattle.table.proofs.Describing.{described-iff}
 use Rattle.table.proofs.Stepping as stepping
 use Rattle.table.proofs.Advancing.{problem-is, count-is, actions-are, moves-most, move-is, steps-of}
@@ -35,8 +42,8 @@ use Rattle.plan.specs.declared.Counts.{Counts}
 use Rattle.plan.specs.declared.Course.{Course}
 use Rattle.plan.specs.declared.Verdict as case
 use Rattle.plan.specs.Run.{actionsOf, inGoal, ended, endedBy, onward, runFrom, tableOr, lastTable, rowOf, rowsOr, rowsFrom}
-use Rattle.plan.specs.Calls.{verdictOf}
-use Rattle.plan.specs.Course.{countsOf, noted, courseFrom, Ready}
+use Rattle.plan.specs.Calls.{verdictOf, refusedRun, planned, runOf, plannedRows, rowsOf}
+use Rattle.plan.specs.Course.{countsOf, courseOf, noted, refusedCourse, courseFrom, plannedCourse, Ready}
 use Rattle.plan.proofs.TableRuns.{entries-table, at-proper}
 
 -- ---- one row more
@@ -231,3 +238,65 @@ module _ (x : Sheet) (g : Filled x) (whole : Course) (i : ℕ) (t : Table) (c : 
           })
           ∙ sym (halted (problemIn x .goal) (h .rows) i (actionIn mv) (left x (i + 1)) (entries t) k (stopped t _ s k p is a))
           ∙ unrolled
+
+-- ---- the run of a sheet that was read
+pub filled-readable : (x : Sheet) → Filled x → Readable x
+filled-readable x g = subst Readable (sym (g .is)) (readable (g .statement) (g .proper))
+
+module _ (x : Sheet) (g : Filled x) (s : Tabled) (is : s ≡ orGiven (tableOf []) (startTable 128 (problemIn x))) where
+  abbrev all : Course
+  all = plannedCourse (problemIn x) (planIn (x .plan)) (startTable 128 (problemIn x))
+
+  -- the start gave a table
+  module _ (a : s .answer ≡ Accepted) where
+    first : (u : List Literals) × (startTable 128 (problemIn x) ≡ table u) × (s .table ≡ tableOf u)
+    first = stepped (tableOf []) _ s is a
+
+    first-described : Described 128 (x .n) (first .0)
+    unfolding problemIn
+    first-described = start-table (problemIn x) (proper x g) 128 (first .0) (first .1) .0 (omega arith)
+
+    pub start-ready : Ready (x .n) (s .table)
+    start-ready = subst (Ready (x .n)) (sym (first .2)) (ready-table (x .n) (first .0) first-described)
+
+    pub start-run : courseFrom (problemIn x .goal) [] 0 (left x 0) (entries (s .table)) ≡ all
+    unfolding courseFrom plannedCourse planned plannedRows
+    start-run =
+        ap (λ (u : List Literals). courseFrom (problemIn x .goal) [] 0 (left x 0) u) (ap entries (first .2) ∙ entries-table (first .0) (first-described .most))
+        ∙ sym (ap (plannedCourse (problemIn x) (planIn (x .plan))) (first .1))
+
+  -- the start was refused
+  pub start-halt : (k p : ℕ) → s .answer ≡ Refused k p → refusedCourse k 0 ≡ all
+  unfolding refusedCourse plannedCourse planned plannedRows
+  start-halt k p a = sym (ap (plannedCourse (problemIn x) (planIn (x .plan))) (stopped (tableOf []) _ s k p is a))
+
+-- ---- the run on bytes
+module _ (s : List ℕ) (d : Decoded) (lent : ℕ) (h : Said s d) where
+  abbrev start : Outcome
+  start = startTable 128 (h .statement .problem)
+
+  -- by whether the rows are too few
+  abbrev byRows : Bool → Course
+  byRows b = record {
+    ran = cond b (refusedRun 23 0) (planned (h .statement .problem) (h .statement .plan) start);
+    counts = countsOf (cond b [] (plannedRows (h .statement .problem) (h .statement .plan) start));
+  }
+
+  by-rows : (b : Bool) → ltb lent 65 ≡ b → byRows b ≡ courseOf (sheetOf s) lent
+  unfolding courseOf runOf rowsOf
+  by-rows b e = sym (ap (λ (j : Judgement). courseOf j lent) (h .judged) ∙ ap byRows e)
+
+  pub course-few : lent < 65 → refusedCourse 23 0 ≡ courseOf (sheetOf s) lent
+  unfolding refusedCourse
+  course-few lt = by-rows true (lt-ltb lent 65 lt)
+
+  pub course-run : 65 ≤ lent → plannedCourse (problemIn (d .sheet)) (planIn (d .sheet .plan)) (startTable 128 (problemIn (d .sheet))) ≡ courseOf (sheetOf s) lent
+  unfolding statementIn plannedCourse
+  course-run le =
+      ap (λ (y : Statement). plannedCourse (y .problem) (y .plan) (startTable 128 (y .problem))) (ap statementIn (h .is) ∙ statement-slots (h .statement) (h .proper))
+      ∙ by-rows false (le-ltb lent 65 le)
+
+pub course-fault : (j : Judgement) (d : Decoded) (k p lent : ℕ) → d ≡ decodedOf j → d .answer ≡ Refused k p → refusedCourse k p ≡ courseOf j lent
+unfolding courseOf runOf rowsOf refusedCourse decodedOf
+course-fault (accepted x) d k p lent e a = not-both (d .answer) k p (ap (λ (y : Decoded). y .answer) e) a
+course-fault (faulty m q) d k p lent e a = let z : Refused k p ≡ Refused m q = sym a ∙ ap (λ (y : Decoded). y .answer) e in cc z

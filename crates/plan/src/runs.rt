@@ -123,3 +123,54 @@ pub fn run_from(sheet: Sheet, table: Table, place: usize) -> Course
         counts: note(counts, last),
     }
 }
+
+// A refusal: no table, and no row.
+pub fn refused(number: u8, position: usize) -> Course
+    ensures { λ r. ⌜ r ≡ C.refusedCourse number position ⌝ }
+{
+    Course {
+        ran: Ran {
+            verdict: Verdict::Refused(number, position),
+            table: Table {
+                count: 0,
+                trues: [0u32; 128],
+                falses: [0u32; 128],
+            },
+        },
+        counts: no_rows(),
+    }
+}
+
+// The run of a sheet that was read: 20 or 21 of its start, otherwise its plan from the first table.
+pub fn run_sheet(sheet: Sheet) -> Course
+    requires { ⌜ Filled sheet ⌝ }
+    ensures { λ r. ⌜ r ≡ C.plannedCourse (problemIn sheet) (planIn (sheet .plan)) (startTable 128 (problemIn sheet)) ⌝ }
+{
+    let start = first_table(sheet);
+    let answer = start.answer;
+    match answer {
+        Answer::Accepted => {
+            let table = start.table;
+            run_from(sheet, table, 0)
+        }
+        Answer::Refused(number, _) => refused(number, 0),
+    }
+}
+
+// The run of a sheet with so many rows lent: a fault of the sheet, 23 for fewer than 65 rows, then the run.
+pub fn course(bytes: &[u8], lent: usize) -> Course
+    ensures { λ r. ⌜ r ≡ C.courseOf (sheetOf (now (bytes .entry))) lent ⌝ }
+{
+    let decoded = sheet::decode(bytes);
+    let answer = decoded.answer;
+    match answer {
+        Answer::Refused(number, position) => refused(number, position),
+        Answer::Accepted => {
+            if lent < 65 {
+                return refused(23, 0);
+            }
+            let sheet = decoded.sheet;
+            run_sheet(sheet)
+        }
+    }
+}
