@@ -15,5 +15,6 @@ pub mod Packing
 pub mod FirstAnswers
 pub mod Walking
 pub mod Beginning
+pub mod SearchCalls
 pub mod Demands
 pub mod PaperRuns

@@ -1,5 +1,9 @@
 // Plans: the run of a plan, the search for one, and the text of the program.
+use sheet::Answer;
 use table::Table;
+ghost use mathlib.Core.Path.{_≡_};
+ghost use Rattle.sheet.specs.Format.{sheetOf};
+ghost use Rattle.plan.specs.Calls.{searchOf};
 
 pub mod goals;
 pub mod packed;
@@ -54,4 +58,22 @@ pub struct Counts {
 pub struct Course {
     pub ran: Ran,
     pub counts: Counts,
+}
+
+// The first plan of at most `limit` moves that is reached or full.
+pub fn search(bytes: &[u8], limit: usize) -> Searched
+    ensures { λ r. ⌜ r ≡ searchOf (sheetOf (now (bytes .entry))) limit ⌝ }
+{
+    let decoded = sheet::decode(bytes);
+    let answer = decoded.answer;
+    match answer {
+        Answer::Refused(number, position) => searches::refused(number, position),
+        Answer::Accepted => {
+            if 8 < limit {
+                return searches::refused(8, 0);
+            }
+            let sheet = decoded.sheet;
+            searches::search_sheet(sheet, limit)
+        }
+    }
 }

@@ -3,6 +3,7 @@ use crate::Kind;
 use crate::Searched;
 use crate::goals::all_in_goal;
 use crate::packed::move_at;
+use crate::packed::pack;
 use sheet::Answer;
 use sheet::Sets;
 use sheet::Sheet;
@@ -13,10 +14,12 @@ ghost use mathlib.Core.Path.{_≡_};
 ghost use Prim.Native.Nat.{_+_, _≤_, _<_};
 ghost use Rattle.sheet.specs.Lists.{allOf};
 ghost use Rattle.sheet.specs.Decoded.{setsIn, problemIn};
+ghost use Rattle.table.specs.Start.{startTable};
 ghost use Rattle.table.specs.Slots.{entries};
+ghost use Rattle.table.specs.Moves.{Filled};
 ghost use Rattle.plan.specs.Run.{inGoal};
 ghost use Rattle.plan.specs.Search.{nothing};
-ghost use Rattle.plan.specs.Calls.{refusedSearch, answered};
+ghost use Rattle.plan.specs.Calls.{refusedSearch, answered, searched};
 ghost use Rattle.plan.specs.Walks as W;
 
 // No plan.
@@ -146,4 +149,21 @@ pub fn lengths(packed: &[u32], moves: usize, goal: Sets, table: Table, limit: us
         length += 1;
     }
     none()
+}
+
+// The search on a sheet that was read: 20 or 21 of the start, then the plans.
+pub fn search_sheet(sheet: Sheet, limit: usize) -> Searched
+    requires { ⌜ Filled sheet ⌝ }
+    requires { ⌜ limit ≤ 8 ⌝ }
+    ensures { λ r. ⌜ r ≡ searched (problemIn sheet) limit (startTable 128 (problemIn sheet)) ⌝ }
+{
+    let start = first_table(sheet);
+    let answer = start.answer;
+    match answer {
+        Answer::Accepted => {
+            let packed = pack(sheet.moves);
+            lengths(&packed, sheet.moves.count, sheet.goal, start.table, limit)
+        }
+        Answer::Refused(number, _) => refused(number, 0),
+    }
 }
