@@ -88,12 +88,12 @@ module _ (goal : List Literals) (rows : List Row) (place : ℕ) (a : Action) (pl
   }
 
 -- ---- what a step answers
-stepped : (t : Table) (o : Outcome) (s : Tabled) → s ≡ orGiven t o → s .answer ≡ Accepted → (u : List Literals) × (o ≡ table u) × (s .table ≡ tableOf u)
+pub stepped : (t : Table) (o : Outcome) (s : Tabled) → s ≡ orGiven t o → s .answer ≡ Accepted → (u : List Literals) × (o ≡ table u) × (s .table ≡ tableOf u)
 unfolding orGiven
 stepped t (refused k) s e a = not-both (s .answer) k 0 a (ap (λ (x : Tabled). x .answer) e)
 stepped t (table u) s e a = (u, refl, ap (λ (x : Tabled). x .table) e)
 
-stopped : (t : Table) (o : Outcome) (s : Tabled) (k p : ℕ) → s ≡ orGiven t o → s .answer ≡ Refused k p → o ≡ refused k
+pub stopped : (t : Table) (o : Outcome) (s : Tabled) (k p : ℕ) → s ≡ orGiven t o → s .answer ≡ Refused k p → o ≡ refused k
 unfolding orGiven
 stopped t (refused i) s k p e a = let q = sym (ap (λ (x : Tabled). x .answer) e) ∙ a in let z : i ≡ k = cc in ap refused z
 stopped t (table u) s k p e a = not-both (s .answer) k p (ap (λ (x : Tabled). x .answer) e) a
@@ -141,7 +141,7 @@ module _ (x : Sheet) (g : Filled x) where
   unfolding slots setsOf
   goal-most = let e : x .goal .count ≡ length (g .statement .problem .goal) = ap (λ (s : Sheet). s .goal .count) (g .is) in rw e (g .proper .problem .goal .most)
 
-  proper : ProperProblem (problemIn x)
+  pub proper : ProperProblem (problemIn x)
   proper = subst ProperProblem (sym (problem-is x g (tableOf []) 0)) (g .proper .problem)
 
   module _ (i : ℕ) where

@@ -11,6 +11,11 @@ pub mod Courses
 pub mod FinalPictures
 pub mod Searching
 pub mod SearchRuns
+pub mod Packing
+pub mod FirstAnswers
+pub mod Walking
+pub mod Beginning
+pub mod SearchCalls
 pub mod Demands
 pub mod PaperRuns
 pub mod Relending

@@ -26,7 +26,7 @@ upto-below zero = tt
 upto-below (suc k) =
     all-append (λ j. j < suc k) (upto k) (k ∷ []) (all-map (λ j. j < k) (λ j. j < suc k) (λ j h. omega arith) (upto k) (upto-below k)) (omega arith, tt)
 
-collect-append : {A B : Type 0} (f : A → List B) (xs ys : List A) → collect f (xs ++ ys) ≡ collect f xs ++ collect f ys
+pub collect-append : {A B : Type 0} (f : A → List B) (xs ys : List A) → collect f (xs ++ ys) ≡ collect f xs ++ collect f ys
 collect-append f [] ys = refl
 collect-append {A} {B} f (x ∷ xs) ys = ap {B = List B} (λ r. f x ++ r) (collect-append f xs ys) ∙ sym (append-assoc (f x) (collect f xs) (collect f ys))
 
@@ -40,7 +40,7 @@ plans-in k (i ∷ p) h =
     (any-map (λ q. q ≡ p) (λ q. j ∷ q ≡ i ∷ p) (λ q f. cc) (plansOf k (length p)) (plans-in k p (h .1))))
     (upto k) (in-upto k i (h .0)))
 
-plans-out : (k m : ℕ) → All (λ p. All (λ i. i < k) p × (length p ≡ m)) (plansOf k m)
+pub plans-out : (k m : ℕ) → All (λ p. All (λ i. i < k) p × (length p ≡ m)) (plansOf k m)
 plans-out k zero = ((tt, refl), tt)
 plans-out k (suc m) =
     all-collected (λ i. map (λ p. i ∷ p) (plansOf k m)) (λ p. All (λ i. i < k) p × (length p ≡ suc m)) (upto k)

@@ -1,15 +1,18 @@
 // Plans: the run of a plan, the search for one, and the text of the program.
+use sheet::Answer;
 use table::Table;
 ghost use mathlib.Core.Path.{_≡_};
 ghost use lib.ListN.{length, replicate};
 ghost use Rattle.sheet.specs.Format.{sheetOf};
-ghost use Rattle.plan.specs.Calls.{runOf, rowsAfter};
+ghost use Rattle.plan.specs.Calls.{runOf, rowsAfter, searchOf};
 ghost use Rattle.plan.specs.Rows.{noRow};
 ghost use Rattle.plan.specs.Text.{reportOf, reportIn};
 
 pub mod goals;
+pub mod packed;
 pub mod rows;
 pub mod runs;
+pub mod searches;
 pub mod text;
 
 // What a run says of a place: the place, the entries of its table and the clauses of its picture.
@@ -104,4 +107,22 @@ pub fn report(bytes: &[u8], out: &mut [u8]) -> usize
     }
     let course = runs::course(bytes, 65);
     text::write_text(out, course)
+}
+
+// The first plan of at most `limit` moves that is reached or full.
+pub fn search(bytes: &[u8], limit: usize) -> Searched
+    ensures { λ r. ⌜ r ≡ searchOf (sheetOf (now (bytes .entry))) limit ⌝ }
+{
+    let decoded = sheet::decode(bytes);
+    let answer = decoded.answer;
+    match answer {
+        Answer::Refused(number, position) => searches::refused(number, position),
+        Answer::Accepted => {
+            if 8 < limit {
+                return searches::refused(8, 0);
+            }
+            let sheet = decoded.sheet;
+            searches::search_sheet(sheet, limit)
+        }
+    }
 }

@@ -1,0 +1,74 @@
+-- The search in the middle of a plan: what is left to find from a table, some moves already taken, and the answer so far.
+use mathlib.Core.Bool.{Bool, true, false}
+use mathlib.Core.List.{List, _∷_, _++_, map}
+use Prim.Native.Nat.{ℕ, _+_, _*_, _≤_, _<_}
+use lib.ListN.{length, replicate}
+use Rattle.sheet.specs.declared.Literals.{Literals}
+use Rattle.sheet.specs.declared.Sets.{Sets}
+use Rattle.sheet.specs.Lists.{pad}
+use Rattle.sheet.specs.Problem.{Action}
+use Rattle.sheet.specs.Encoding.{ProperAction}
+use Rattle.sheet.specs.Decoded.{actionIn, setsIn}
+use Rattle.table.specs.declared.Table.{Table}
+use Rattle.table.specs.Slots.{entries}
+use Rattle.plan.specs.declared.Searched.{Searched}
+use Rattle.plan.specs.declared.Kind.{Kind}
+use Rattle.plan.specs.declared.Kind.the-variants as kind
+use Rattle.plan.specs.Run.{Verdict, runFrom}
+use Rattle.plan.specs.Search.{plansOf, plansUpTo, Answer, found, fullAt, nothing, firstOf}
+use Rattle.plan.specs.Calls.{answered}
+use Rattle.plan.specs.Course.{Ready}
+use Rattle.plan.specs.Packed.{moveAt}
+
+-- ---- the first answer from the table t, `place` moves already taken, by the numbers of the moves f
+-- the verdict of a plan
+abbrev pub ranFrom : List Literals → (ℕ → Action) → ℕ → List Literals → List ℕ → Verdict
+ranFrom goal f place t plan = runFrom 128 goal place (map f plan) t
+
+-- among the plans of n of the k moves
+abbrev pub firstFrom : List Literals → (ℕ → Action) → ℕ → ℕ → List Literals → ℕ → Answer
+firstFrom goal f k place t n = firstOf (ranFrom goal f place t) (plansOf k n)
+
+-- among those of move m and n more
+abbrev pub firstBy : List Literals → (ℕ → Action) → ℕ → ℕ → List Literals → ℕ → ℕ → Answer
+firstBy goal f k place t n m = firstOf (ranFrom goal f place t) (map (λ p. m ∷ p) (plansOf k n))
+
+-- ---- the answer of an inner call: its plan from byte `at` on, zeros before it for the moves taken
+unfoldable pub answeredAt : ℕ → Answer → Searched
+answeredAt at (found p) = record { kind = kind.Reached; plan = pad 8 0 (replicate at 0 ++ p); length = at + length p }
+answeredAt at (fullAt p k) = record { kind = kind.Full k; plan = pad 8 0 (replicate at 0 ++ p); length = at + length p }
+answeredAt at nothing = answered nothing
+
+-- it is an end: not nothing
+abbrev pub endedBy : Kind → Bool
+endedBy kind.Reached = true
+endedBy (kind.Full k) = true
+endedBy kind.Nothing = false
+endedBy (kind.Refused number position) = true
+
+-- ---- the moves laid out as numbers
+unfoldable pub actionOf : List ℕ → ℕ → Action
+actionOf packed i = actionIn (moveAt packed i)
+
+-- moves, goal and table over the same n propositions, within their slots
+pub record Searchable (packed : List ℕ) (count : ℕ) (goal : Sets) (t : Table) : Type 0 where
+  pub n : ℕ
+  pub n-most : n ≤ 32
+  pub least : 1 ≤ count
+  pub most : count ≤ 32
+  pub room : count * 35 ≤ length packed
+  pub effects-most : (i : ℕ) → i < count → moveAt packed i .count ≤ 8
+  pub actions : (i : ℕ) → i < count → ProperAction n (actionOf packed i)
+  pub goal-most : goal .count ≤ 8
+  pub entries-most : t .count ≤ 128
+  pub ready : Ready n t
+
+-- ---- what the inner calls answer
+abbrev pub walked : List ℕ → ℕ → Sets → Table → ℕ → ℕ → Searched
+walked packed count goal t at left = answeredAt at (firstFrom (setsIn goal) (actionOf packed) count at (entries t) left)
+
+abbrev pub begun : List ℕ → ℕ → Sets → Table → ℕ → ℕ → ℕ → Searched
+begun packed count goal t at left m = answeredAt at (firstBy (setsIn goal) (actionOf packed) count at (entries t) left m)
+
+abbrev pub searchedBy : List ℕ → ℕ → Sets → Table → ℕ → Searched
+searchedBy packed count goal t limit = answered (firstOf (ranFrom (setsIn goal) (actionOf packed) 0 (entries t)) (plansUpTo count limit))
