@@ -17,7 +17,7 @@ fn empty() -> Table {
 }
 
 // A digest of all slots of a table.
-fn digest(t: Table) -> u64 {
+pub fn digest(t: Table) -> u64 {
     let mut value: u64 = 0;
     let mut i: usize = 0;
     while i < 128 {
@@ -203,7 +203,7 @@ fn act(sheet: &[u8], t: Table, bytes: &[u8]) -> Table {
 }
 
 // The bytes after the first, kept as the current sheet.
-fn keep(bytes: &[u8], sheet: &mut [u8]) -> usize
+pub fn keep(bytes: &[u8], sheet: &mut [u8]) -> usize
     ensures { λ r. ⌜ r ≤ length (now (sheet .exit)) ⌝ }
 {
     let mut n: usize = 0;
