@@ -23,10 +23,11 @@ use Rattle.plan.specs.declared.Kind.the-variants as kind
 use Rattle.plan.specs.Search.{nothing}
 use Rattle.plan.specs.Calls.{answered}
 use Rattle.plan.specs.Packed.{moveAt}
-use Rattle.plan.specs.Walks.{endedBy, actionOf, Searchable, walked, begun}
+use Rattle.plan.specs.Walks.{answeredAt, endedBy, actionOf, Searchable, Unmet, walked, begun}
 use Rattle.plan.specs.Course.{Ready}
 use Rattle.plan.proofs.TableRuns.{entries-table}
 use Rattle.plan.proofs.Courses.{stepped, stopped, ready-table, ready-count}
+use Rattle.plan.proofs.Pruning.{quiet-after, unchanged}
 use Rattle.plan.proofs.Walking.{written, onward-ended, onward-not, at-stop, at-full}
 
 module _ (packed : List ℕ) (k : ℕ) (goal : Sets) (t : Table) (h : Searchable packed k goal t) (m : ℕ) (lt : m < k) (mv : Move) (is : mv ≡ moveAt packed m) where
@@ -81,6 +82,15 @@ module _ (packed : List ℕ) (k : ℕ) (goal : Sets) (t : Table) (h : Searchable
 
     -- ---- the returns
     module _ (at left : ℕ) where
+      module _ (e : a .answer ≡ Accepted) (q : Unmet packed k goal t at (left + 1)) where
+        pub unmet-after : Unmet packed k goal (a .table) (at + 1) left
+        unmet-after = quiet-after (setsIn goal) (actionOf packed) k at (entries t) m left (entries (a .table)) (accepted e .0) q lt
+
+        pub begun-same : entries (a .table) ≡ entries t → (r : Searched) → r ≡ answered nothing → r ≡ begun packed k goal t at left m
+        unfolding answeredAt
+        begun-same z r w =
+            w ∙ sym (ap (answeredAt at) (unchanged (setsIn goal) (actionOf packed) k at (entries t) m left (entries (a .table)) (accepted e .0) q z))
+
       module _ (e : a .answer ≡ Accepted) (r : Searched) (w : r ≡ walked packed k goal (a .table) (at + 1) left) where
         pub begun-ended : endedBy (r .kind) ≡ true → written r at m ≡ begun packed k goal t at left m
         begun-ended b = onward-ended (setsIn goal) (actionOf packed) k at (entries t) left m _ r (accepted e .0) w b

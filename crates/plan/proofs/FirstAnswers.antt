@@ -77,6 +77,19 @@ found-here g m (suc k) h l e = go (ℕ-discrete m k) (λ l′. found-here g m k 
     go (yes q) below = ap (λ (x : ℕ). orElse (firstBelow g x) (g x)) (sym q) ∙ ap (λ (x : Answer). orElse x (g m)) h
     go (no n) below = ap (λ (x : Answer). orElse x (g k)) (below (omega arith)) ∙ or-some (g m) (g k) e
 
+or-nothing : (f g : Answer) → orElse f g ≡ nothing → (f ≡ nothing) × (g ≡ nothing)
+or-nothing (found p) g e = absurd (true≢false (ap some e))
+or-nothing (fullAt p k) g e = absurd (true≢false (ap some e))
+or-nothing nothing g e = (refl, e)
+
+pub each-nothing : (g : ℕ → Answer) (k : ℕ) → firstBelow g k ≡ nothing → (m : ℕ) → m < k → g m ≡ nothing
+each-nothing g zero e m h = absurd (not-suc-le-zero h)
+each-nothing g (suc k) e m h = go (ℕ-discrete m k) (or-nothing (firstBelow g k) (g k) e) (each-nothing g k)
+  where
+    go : Dec (m ≡ k) → (firstBelow g k ≡ nothing) × (g k ≡ nothing) → (firstBelow g k ≡ nothing → (i : ℕ) → i < k → g i ≡ nothing) → g m ≡ nothing
+    go (yes q) x below = ap g q ∙ x .1
+    go (no n) x below = below (x .0) m (omega arith)
+
 -- ---- plans that begin with one move
 -- the answer with move m before its plan
 abbrev pub consed : ℕ → Answer → Answer

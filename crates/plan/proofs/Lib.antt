@@ -13,6 +13,7 @@ pub mod Searching
 pub mod SearchRuns
 pub mod Packing
 pub mod FirstAnswers
+pub mod Pruning
 pub mod Walking
 pub mod Beginning
 pub mod SearchCalls

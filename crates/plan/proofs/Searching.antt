@@ -31,7 +31,7 @@ collect-append f [] ys = refl
 collect-append {A} {B} f (x ∷ xs) ys = ap {B = List B} (λ r. f x ++ r) (collect-append f xs ys) ∙ sym (append-assoc (f x) (collect f xs) (collect f ys))
 
 -- ---- the plans are those within the limit
-plans-in : (k : ℕ) (p : List ℕ) → All (λ i. i < k) p → Any (λ q. q ≡ p) (plansOf k (length p))
+pub plans-in : (k : ℕ) (p : List ℕ) → All (λ i. i < k) p → Any (λ q. q ≡ p) (plansOf k (length p))
 plans-in k [] h = inl refl
 plans-in k (i ∷ p) h =
     any-collected (λ j. map (λ q. j ∷ q) (plansOf k (length p))) (λ q. q ≡ i ∷ p) (upto k)
@@ -178,8 +178,12 @@ module _ (run : List ℕ → Verdict) where
   first-is : (ps : List (List ℕ)) (p : List ℕ) (v : Verdict) → (a : FirstIn ps p v) → firstOf run ps ≡ orNext v p (firstOf run (a .1))
   first-is ps p v a = ap (firstOf run) (a .2) ∙ skip (a .0) (p ∷ a .1) (a .3) ∙ ap (λ (u : Verdict). orNext u p (firstOf run (a .1))) (a .4)
 
-  none-is : (ps : List (List ℕ)) → All (λ q. Fails (run q)) ps → firstOf run ps ≡ nothing
+  pub none-is : (ps : List (List ℕ)) → All (λ q. Fails (run q)) ps → firstOf run ps ≡ nothing
   none-is ps h = ap (firstOf run) (sym (append-nil ps)) ∙ skip ps [] h
+
+  pub none-each : (ps : List (List ℕ)) → firstOf run ps ≡ nothing → All (λ q. Fails (run q)) ps
+  unfolding Says
+  none-each ps e = subst (Says ps) e (first-says ps)
 
   -- ---- among the plans within a limit
   module _ (k limit : ℕ) where

@@ -5,7 +5,7 @@ use Prim.Native.Nat.{ℕ, _+_, _*_, _≤_, _<_}
 use lib.ListN.{length, replicate}
 use Rattle.sheet.specs.declared.Literals.{Literals}
 use Rattle.sheet.specs.declared.Sets.{Sets}
-use Rattle.sheet.specs.Lists.{pad}
+use Rattle.sheet.specs.Lists.{All, pad}
 use Rattle.sheet.specs.Problem.{Action}
 use Rattle.sheet.specs.Encoding.{ProperAction}
 use Rattle.sheet.specs.Decoded.{actionIn, setsIn}
@@ -16,6 +16,7 @@ use Rattle.plan.specs.declared.Kind.{Kind}
 use Rattle.plan.specs.declared.Kind.the-variants as kind
 use Rattle.plan.specs.Run.{Verdict, runFrom}
 use Rattle.plan.specs.Search.{plansOf, plansUpTo, Answer, found, fullAt, nothing, firstOf}
+use Rattle.plan.specs.Order.{Fails}
 use Rattle.plan.specs.Calls.{answered}
 use Rattle.plan.specs.Course.{Ready}
 use Rattle.plan.specs.Packed.{moveAt}
@@ -32,6 +33,10 @@ firstFrom goal f k place t n = firstOf (ranFrom goal f place t) (plansOf k n)
 -- among those of move m and n more
 abbrev pub firstBy : List Literals → (ℕ → Action) → ℕ → ℕ → List Literals → ℕ → ℕ → Answer
 firstBy goal f k place t n m = firstOf (ranFrom goal f place t) (map (λ p. m ∷ p) (plansOf k n))
+
+-- no plan of fewer than n of the k moves is reached or full
+abbrev pub Quiet : List Literals → (ℕ → Action) → ℕ → ℕ → List Literals → ℕ → Type 0
+Quiet goal f k place t n = (q : List ℕ) → All (λ i. i < k) q → length q < n → Fails (ranFrom goal f place t q)
 
 -- ---- the answer of an inner call: its plan from byte `at` on, zeros before it for the moves taken
 unfoldable pub answeredAt : ℕ → Answer → Searched
@@ -62,6 +67,10 @@ pub record Searchable (packed : List ℕ) (count : ℕ) (goal : Sets) (t : Table
   pub goal-most : goal .count ≤ 8
   pub entries-most : t .count ≤ 128
   pub ready : Ready n t
+
+-- no shorter plan from here has an answer
+abbrev pub Unmet : List ℕ → ℕ → Sets → Table → ℕ → ℕ → Type 0
+Unmet packed count goal t at left = Quiet (setsIn goal) (actionOf packed) count at (entries t) left
 
 -- ---- what the inner calls answer
 abbrev pub walked : List ℕ → ℕ → Sets → Table → ℕ → ℕ → Searched

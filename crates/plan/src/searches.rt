@@ -11,6 +11,7 @@ use table::Table;
 use table::first::first_table;
 use table::steps::advance;
 ghost use mathlib.Core.Path.{_≡_};
+ghost use mathlib.Core.Bool.{true};
 ghost use Prim.Native.Nat.{_+_, _≤_, _<_};
 ghost use Rattle.sheet.specs.Lists.{allOf};
 ghost use Rattle.sheet.specs.Decoded.{setsIn, problemIn};
@@ -66,7 +67,30 @@ pub fn arrived(goal: Sets, table: Table) -> bool
     all_in_goal(goal, &table.trues, &table.falses, count)
 }
 
-// The plans with the moves taken so far, move m next and `left` moves more.
+// Said true only of tables with the same entries, in the same order.
+pub fn same(a: Table, b: Table) -> bool
+    requires { ⌜ a .count ≤ 128 ⌝ }
+    ensures { λ r. ⌜ (r ≡ true → entries a ≡ entries b) ⌝ }
+{
+    let count = a.count;
+    if count != b.count {
+        return false;
+    }
+    let mut i: usize = 0;
+    while i < count {
+        if a.trues[i] != b.trues[i] {
+            return false;
+        }
+        if a.falses[i] != b.falses[i] {
+            return false;
+        }
+        i += 1;
+    }
+    true
+}
+
+// The plans with the moves taken so far, move m next and `left` moves more. No shorter plan has an answer, so a move that leaves the
+// table as it was is not followed.
 fn begin(
     packed: &[u32],
     moves: usize,
@@ -78,6 +102,7 @@ fn begin(
 ) -> Searched
     requires { ⌜ W.Searchable (now packed) moves goal table ⌝ }
     requires { ⌜ (at + left < 8) × (m < moves) ⌝ }
+    requires { ⌜ W.Unmet (now packed) moves goal table at (left + 1) ⌝ }
     ensures { λ r. ⌜ r ≡ W.begun (now (packed .entry)) moves goal table at left m ⌝ }
 {
     let step = advance(move_at(packed, m), table);
@@ -85,7 +110,11 @@ fn begin(
     let next = at + 1;
     match answer {
         Answer::Accepted => {
-            let mut r = walk(packed, moves, goal, step.table, next, left);
+            let after = step.table;
+            if same(after, table) {
+                return none();
+            }
+            let mut r = walk(packed, moves, goal, after, next, left);
             if ended(r) {
                 r.plan[at] = m as u8;
             }
@@ -110,6 +139,7 @@ fn begin(
 fn walk(packed: &[u32], moves: usize, goal: Sets, table: Table, at: usize, left: usize) -> Searched
     requires { ⌜ W.Searchable (now packed) moves goal table ⌝ }
     requires { ⌜ at + left ≤ 8 ⌝ }
+    requires { ⌜ W.Unmet (now packed) moves goal table at left ⌝ }
     ensures { λ r. ⌜ r ≡ W.walked (now (packed .entry)) moves goal table at left ⌝ }
 {
     if left == 0 {

@@ -11,7 +11,7 @@ use Rattle.plan.specs.Search.{nothing}
 use Rattle.plan.specs.Walks.{firstBy, actionOf}
 use Rattle.plan.proofs.FirstAnswers.{firstBelow}
 use Rattle.plan.proofs.Walking.{at-goal, at-short, not-yet, found-now, none-at-all}
-use Rattle.plan.proofs.Beginning.{can-step, ready-after, begun-ended, begun-not, begun-full, begun-stopped}
+use Rattle.plan.proofs.Beginning.{can-step, ready-after, unmet-after, begun-same, begun-ended, begun-not, begun-full, begun-stopped}
 use Prim.Native.Nat.{ℕ, _<_}
 use borrow.Fn.Kinds.{In}
 use borrow.Fn.PlainCycle.{Measures, is, falls, and}
@@ -25,6 +25,7 @@ use Rattle.plan.proofs.packed.move_at.Reads as move-at-reads
 use Rattle.plan.proofs.searches.arrived.Reads as arrived-reads
 use Rattle.plan.proofs.searches.ended.Reads as ended-reads
 use Rattle.plan.proofs.searches.none.Reads as none-reads
+use Rattle.plan.proofs.searches.same.Reads as same-reads
 use Rattle.table.proofs.steps.advance.Reads as advance-reads
 use Rattle.plan.proofs.searches.+begin+walk.{statement}
 use Rattle.plan.proofs.searches.+begin+walk.Tie.{close}
@@ -53,12 +54,14 @@ begin-claims t = (
   move-at-reads.Learnt,
   advance-reads.Asked,
   advance-reads.Learnt,
+  same-reads.Asked,
+  same-reads.Learnt,
+  none-reads.Asked,
+  none-reads.Learnt,
   walk-below t,
   walk.Post,
   ended-reads.Asked,
   ended-reads.Learnt,
-  none-reads.Asked,
-  none-reads.Learnt,
 )
 
 abbrev walk-claims : ℕ → walk-lts.Claims
@@ -80,7 +83,7 @@ begin-advance-requires : (t : ℕ) → begin-lts.Need-advance-requires (begin-cl
 begin-advance-requires t c κs =
     let z = c .before .before in
     let s = z .args in
-    can-step (now (s .packed)) (s .moves) (s .goal) (s .table) (z .pre .1 .0) (s .m) (z .pre .1 .1 .1) _ (c .move-at .ensures)
+    can-step (now (s .packed)) (s .moves) (s .goal) (s .table) (z .pre .1 .0) (s .m) (z .pre .1 .1 .0 .1) _ (c .move-at .ensures)
 
 begin-add-next : (t : ℕ) → begin-lts.Need-add-next (begin-claims t) (begin-at t) begin.Post
 begin-add-next t c = search needs
@@ -88,11 +91,26 @@ begin-add-next t c = search needs
 begin-enum-told : (t : ℕ) → begin-lts.Need-enum-told (begin-claims t) (begin-at t) begin.Post
 begin-enum-told t c = search needs
 
+begin-same-requires : (t : ℕ) → begin-lts.Need-same-requires (begin-claims t) (begin-at t) begin.Post
+begin-same-requires t c κs =
+    let z = c .before .before .before .before .before .before in
+    let s = z .args in
+    ready-after (now (s .packed)) (s .moves) (s .goal) (s .table) (z .pre .1 .0) (s .m) (z .pre .1 .1 .0 .1) _ (c .before .before .before .before .move-at .ensures) _ (c .before .before .before .advance .ensures) (c .before .enum-told .given .1) .entries-most
+
+begin-none-requires : (t : ℕ) → begin-lts.Need-none-requires (begin-claims t) (begin-at t) begin.Post
+begin-none-requires t c κs = search needs
+
+begin-returns : (t : ℕ) → begin-lts.Need-returns (begin-claims t) (begin-at t) begin.Post
+begin-returns t c =
+    let z = c .before .before .before .before .before .before .before .before .before in
+    let s = z .args in
+    begun-same (now (s .packed)) (s .moves) (s .goal) (s .table) (z .pre .1 .0) (s .m) (z .pre .1 .1 .0 .1) _ (c .before .before .before .before .before .before .before .move-at .ensures) _ (c .before .before .before .before .before .before .advance .ensures) (s .at) (s .left) (c .before .before .before .before .enum-told .given .1) (z .pre .1 .1 .1) (c .before .before .same .ensures (c .before .if1 .taken)) _ (c .none .ensures)
+
 begin-walk-requires : (t : ℕ) → begin-lts.Need-walk-requires (begin-claims t) (begin-at t) begin.Post
 begin-walk-requires t c κs =
-    let z = c .before .before .before .before .before in
+    let z = c .before .before .before .before .before .before .before .before in
     let s = z .args in
-    (omega arith, (ready-after (now (s .packed)) (s .moves) (s .goal) (s .table) (z .pre .1 .0) (s .m) (z .pre .1 .1 .1) _ (c .before .before .before .move-at .ensures) _ (c .before .before .advance .ensures) (c .enum-told .given .1), omega arith))
+    (omega arith, (ready-after (now (s .packed)) (s .moves) (s .goal) (s .table) (z .pre .1 .0) (s .m) (z .pre .1 .1 .0 .1) _ (c .before .before .before .before .before .before .move-at .ensures) _ (c .before .before .before .before .before .advance .ensures) (c .before .before .before .enum-told .given .1), (omega arith, unmet-after (now (s .packed)) (s .moves) (s .goal) (s .table) (z .pre .1 .0) (s .m) (z .pre .1 .1 .0 .1) _ (c .before .before .before .before .before .before .move-at .ensures) _ (c .before .before .before .before .before .advance .ensures) (s .at) (s .left) (c .before .before .before .enum-told .given .1) (z .pre .1 .1 .1))))
 
 begin-ended-requires : (t : ℕ) → begin-lts.Need-ended-requires (begin-claims t) (begin-at t) begin.Post
 begin-ended-requires t c κs = search needs
@@ -112,35 +130,35 @@ begin-cast-plan t c = search needs
 begin-array-write-plan : (t : ℕ) → begin-lts.Need-array-write-plan (begin-claims t) (begin-at t) begin.Post
 begin-array-write-plan t c = search needs
 
-begin-add-t27 : (t : ℕ) → begin-lts.Need-add-t27 (begin-claims t) (begin-at t) begin.Post
-begin-add-t27 t c = search needs
-
-begin-returns : (t : ℕ) → begin-lts.Need-returns (begin-claims t) (begin-at t) begin.Post
-begin-returns t c =
-    let z = c .before .before .before .before .before .before .before in
-    let s = z .args in
-    begun-full (now (s .packed)) (s .moves) (s .goal) (s .table) (z .pre .1 .0) (s .m) (z .pre .1 .1 .1) _ (c .before .before .before .before .before .move-at .ensures) _ (c .before .before .before .before .advance .ensures) (s .at) (s .left) _ _ (c .before .before .answer .given .1) (c .if2 .taken)
-
-begin-none-requires : (t : ℕ) → begin-lts.Need-none-requires (begin-claims t) (begin-at t) begin.Post
-begin-none-requires t c κs = search needs
+begin-add-t29 : (t : ℕ) → begin-lts.Need-add-t29 (begin-claims t) (begin-at t) begin.Post
+begin-add-t29 t c = search needs
 
 begin-returns-2 : (t : ℕ) → begin-lts.Need-returns-2 (begin-claims t) (begin-at t) begin.Post
 begin-returns-2 t c =
-    let z = c .before .before .before .before .before .before .before .before in
+    let z = c .before .before .before .before .before .before .before in
     let s = z .args in
-    begun-ended (now (s .packed)) (s .moves) (s .goal) (s .table) (z .pre .1 .0) (s .m) (z .pre .1 .1 .1) _ (c .before .before .before .before .before .before .move-at .ensures) _ (c .before .before .before .before .before .advance .ensures) (s .at) (s .left) (c .before .before .before .enum-told .given .1) _ (c .before .before .walk .ensures) (sym (c .before .ended .ensures) ∙ c .if1 .taken)
+    begun-full (now (s .packed)) (s .moves) (s .goal) (s .table) (z .pre .1 .0) (s .m) (z .pre .1 .1 .0 .1) _ (c .before .before .before .before .before .move-at .ensures) _ (c .before .before .before .before .advance .ensures) (s .at) (s .left) _ _ (c .before .before .answer .given .1) (c .if3 .taken)
+
+begin-none-requires-2 : (t : ℕ) → begin-lts.Need-none-requires-2 (begin-claims t) (begin-at t) begin.Post
+begin-none-requires-2 t c κs = search needs
 
 begin-returns-3 : (t : ℕ) → begin-lts.Need-returns-3 (begin-claims t) (begin-at t) begin.Post
 begin-returns-3 t c =
-    let z = c .before .before .before .before .before .before .before .before in
+    let z = c .before .before .before .before .before .before .before .before .before .before .before in
     let s = z .args in
-    begun-not (now (s .packed)) (s .moves) (s .goal) (s .table) (z .pre .1 .0) (s .m) (z .pre .1 .1 .1) _ (c .before .before .before .before .before .before .move-at .ensures) _ (c .before .before .before .before .before .advance .ensures) (s .at) (s .left) (c .before .before .before .enum-told .given .1) _ (c .before .before .walk .ensures) (sym (c .before .ended .ensures) ∙ c .if1 .left)
+    begun-ended (now (s .packed)) (s .moves) (s .goal) (s .table) (z .pre .1 .0) (s .m) (z .pre .1 .1 .0 .1) _ (c .before .before .before .before .before .before .before .before .before .move-at .ensures) _ (c .before .before .before .before .before .before .before .before .advance .ensures) (s .at) (s .left) (c .before .before .before .before .before .before .enum-told .given .1) _ (c .before .before .walk .ensures) (sym (c .before .ended .ensures) ∙ c .if2 .taken)
 
 begin-returns-4 : (t : ℕ) → begin-lts.Need-returns-4 (begin-claims t) (begin-at t) begin.Post
 begin-returns-4 t c =
+    let z = c .before .before .before .before .before .before .before .before .before .before .before in
+    let s = z .args in
+    begun-not (now (s .packed)) (s .moves) (s .goal) (s .table) (z .pre .1 .0) (s .m) (z .pre .1 .1 .0 .1) _ (c .before .before .before .before .before .before .before .before .before .move-at .ensures) _ (c .before .before .before .before .before .before .before .before .advance .ensures) (s .at) (s .left) (c .before .before .before .before .before .before .enum-told .given .1) _ (c .before .before .walk .ensures) (sym (c .before .ended .ensures) ∙ c .if2 .left)
+
+begin-returns-5 : (t : ℕ) → begin-lts.Need-returns-5 (begin-claims t) (begin-at t) begin.Post
+begin-returns-5 t c =
     let z = c .before .before .before .before .before .before .before .before in
     let s = z .args in
-    begun-stopped (now (s .packed)) (s .moves) (s .goal) (s .table) (z .pre .1 .0) (s .m) (z .pre .1 .1 .1) _ (c .before .before .before .before .before .before .move-at .ensures) _ (c .before .before .before .before .before .advance .ensures) (s .at) (s .left) _ _ (c .before .before .before .answer .given .1) (c .before .if2 .left) _ (c .none .ensures)
+    begun-stopped (now (s .packed)) (s .moves) (s .goal) (s .table) (z .pre .1 .0) (s .m) (z .pre .1 .1 .0 .1) _ (c .before .before .before .before .before .before .move-at .ensures) _ (c .before .before .before .before .before .advance .ensures) (s .at) (s .left) _ _ (c .before .before .before .answer .given .1) (c .before .if3 .left) _ (c .none2 .ensures)
 
 abbrev walk-Inv-loop : walk-lts.InvT-loop
 walk-Inv-loop packed moves goal table at left fewer m₀ m =
@@ -174,7 +192,7 @@ walk-loop-holds t c = (refl, omega arith)
 walk-begin-requires : (t : ℕ) → walk-lts.Need-begin-requires (walk-claims t) (walk-at t) walk.Post walk-Inv-loop walk-μ-loop
 walk-begin-requires t c κs =
     let z = c .before .before .before .before in
-    (omega arith, (z .pre .1 .0, (omega arith, omega arith)))
+    (omega arith, (z .pre .1 .0, ((omega arith, omega arith), λ q i l. z .pre .1 .1 .1 q i (omega arith))))
 
 walk-ended-requires : (t : ℕ) → walk-lts.Need-ended-requires (walk-claims t) (walk-at t) walk.Post walk-Inv-loop walk-μ-loop
 walk-ended-requires t c κs = search needs
@@ -211,6 +229,9 @@ pub +begin+walk-spec : {M : Type 1} → statement M
     (begin-advance-requires t)
     (begin-add-next t)
     (begin-enum-told t)
+    (begin-same-requires t)
+    (begin-none-requires t)
+    (begin-returns t)
     (begin-walk-requires t)
     (begin-ended-requires t)
     (begin-cast-r t)
@@ -218,12 +239,12 @@ pub +begin+walk-spec : {M : Type 1} → statement M
     (begin-enum-known-answer t)
     (begin-cast-plan t)
     (begin-array-write-plan t)
-    (begin-add-t27 t)
-    (begin-returns t)
-    (begin-none-requires t)
+    (begin-add-t29 t)
     (begin-returns-2 t)
+    (begin-none-requires-2 t)
     (begin-returns-3 t)
-    (begin-returns-4 t))
+    (begin-returns-4 t)
+    (begin-returns-5 t))
     λ t. walk-lts.spec (walk-claims t)
     (walk-at t)
     walk.Post

@@ -9,6 +9,7 @@ use Rattle.table.specs.Slots.{entries}
 use Rattle.plan.specs.Search.{nothing}
 use Rattle.plan.specs.Walks.{firstFrom, actionOf}
 use Rattle.plan.proofs.FirstAnswers.{firstBelow}
+use Rattle.plan.proofs.Pruning.{quiet-lengths}
 use Rattle.plan.proofs.Walking.{length-found, length-next, length-none}
 use Rattle.plan.proofs.searches.lengths.Statement.{statement}
 use Rattle.plan.proofs.searches.lengths.Tie as tie
@@ -23,7 +24,10 @@ loop-holds : tie.Need-loop-holds Inv-loop μ-loop
 loop-holds c = (refl, omega arith)
 
 walk-requires : tie.Need-walk-requires Inv-loop μ-loop
-walk-requires c κs = (c .before .before .before .pre .0, omega arith)
+walk-requires c κs =
+    let z = c .before .before .before in
+    let s = z .args in
+    (z .pre .0, (omega arith, quiet-lengths (setsIn (s .goal)) (actionOf (now (s .packed))) (s .moves) (entries (s .table)) (c .before .loop .length) (c .before .loop .inv .0)))
 
 ended-requires : tie.Need-ended-requires Inv-loop μ-loop
 ended-requires c κs = search needs

@@ -1,0 +1,102 @@
+-- `plan::searches::same` meets its contract. The invariant: the slots passed agree. Assumes nothing.
+use mathlib.Core.Path.{_≡_, sym}
+use mathlib.Core.Bool.{true≢false}
+use Prim.Native.Nat.{_-_, _≤_}
+use native.Mathlib.Nat.{not-suc-le-zero}
+use native.Mathlib.Omega.{arith}
+use borrow.Author.Needs.{needs}
+use borrow.Author.Count.{below-more}
+use lib.ListN.{getD}
+use Rattle.table.specs.Slots.{entries}
+use Rattle.plan.proofs.Pruning.{Agree, agree-entries}
+use Rattle.plan.proofs.searches.same.Statement.{statement}
+use Rattle.plan.proofs.searches.same.Tie as tie
+
+abbrev Inv-loop : tie.InvT-loop
+Inv-loop a b count i₀ i = (i ≤ count) × Agree (a .trues) (b .trues) i × Agree (a .falses) (b .falses) i
+
+abbrev μ-loop : tie.MeasureT-loop
+μ-loop a b count i₀ i = count - i
+
+returns : tie.Need-returns Inv-loop μ-loop
+returns c = λ e. absurd (true≢false (sym e))
+
+loop-holds : tie.Need-loop-holds Inv-loop μ-loop
+loop-holds c = (omega arith, λ k l. absurd (not-suc-le-zero l), λ k l. absurd (not-suc-le-zero l))
+
+mul-if2 : tie.Need-mul-if2 Inv-loop μ-loop
+mul-if2 c = search needs
+
+element-copy-out-if2 : tie.Need-element-copy-out-if2 Inv-loop μ-loop
+element-copy-out-if2 c = search needs
+
+mul-if2-2 : tie.Need-mul-if2-2 Inv-loop μ-loop
+mul-if2-2 c = search needs
+
+element-copy-out-if2-2 : tie.Need-element-copy-out-if2-2 Inv-loop μ-loop
+element-copy-out-if2-2 c = search needs
+
+returns-2 : tie.Need-returns-2 Inv-loop μ-loop
+returns-2 c = λ e. absurd (true≢false (sym e))
+
+mul-if3 : tie.Need-mul-if3 Inv-loop μ-loop
+mul-if3 c = search needs
+
+element-copy-out-if3 : tie.Need-element-copy-out-if3 Inv-loop μ-loop
+element-copy-out-if3 c = search needs
+
+mul-if3-2 : tie.Need-mul-if3-2 Inv-loop μ-loop
+mul-if3-2 c = search needs
+
+element-copy-out-if3-2 : tie.Need-element-copy-out-if3-2 Inv-loop μ-loop
+element-copy-out-if3-2 c = search needs
+
+returns-3 : tie.Need-returns-3 Inv-loop μ-loop
+returns-3 c = λ e. absurd (true≢false (sym e))
+
+add-i : tie.Need-add-i Inv-loop μ-loop
+add-i c = search needs
+
+loop-less : tie.Need-loop-less Inv-loop μ-loop
+loop-less c = search needs
+
+loop-again : tie.Need-loop-again Inv-loop μ-loop
+loop-again c =
+    let v = c .before .before .before .before .before .before .before .loop in
+    let s = c .before .before .before .before .before .before .before .before .before .args in (
+      omega arith,
+      below-more (λ k. getD (s .t1 .trues) k 0 ≡ getD (s .t2 .trues) k 0) (v .i) (v .inv .1) (c .before .before .before .if2 .left),
+      below-more (λ k. getD (s .t1 .falses) k 0 ≡ getD (s .t2 .falses) k 0) (v .i) (v .inv .2) (c .if3 .left),
+    )
+
+returns-4 : tie.Need-returns-4 Inv-loop μ-loop
+unfolding entries
+returns-4 c = λ _.
+    let s = c .before .before .before .args in
+    let v = c .before .loop in
+    let i : v .i ≡ s .t1 .count = omega (arith, v .inv .0, c .loop-test .left) in
+    agree-entries (s .t1 .count) (s .t2 .count) (s .t1 .trues) (s .t1 .falses) (s .t2 .trues) (s .t2 .falses) (c .before .before .if1 .left)
+    (λ k l. v .inv .1 k (omega arith)) (λ k l. v .inv .2 k (omega arith))
+
+pub same-spec : {M : Type 1} → statement M
+same-spec =
+    tie.close
+    (tie.spec
+    Inv-loop
+    μ-loop
+    returns
+    loop-holds
+    mul-if2
+    element-copy-out-if2
+    mul-if2-2
+    element-copy-out-if2-2
+    returns-2
+    mul-if3
+    element-copy-out-if3
+    mul-if3-2
+    element-copy-out-if3-2
+    returns-3
+    add-i
+    loop-less
+    loop-again
+    returns-4)
