@@ -1,5 +1,6 @@
-// The twin of table_cases in plain Rust, for the benchmark: the same lines in, the same lines out, the same algorithms on the same
-// data layout, nothing proved. tests/vectors/tables.py says what each line means.
+// The twin of the programs table_cases and search_cases in plain Rust, for the benchmark: the same lines in, the same lines out, the
+// same algorithms on the same data layout, nothing proved. tests/vectors/tables.py says what each line means, and plans.py for the lines
+// on plans, which the twin takes with the argument `plans`.
 use std::hint::black_box;
 use std::io::{Read, Write};
 
@@ -127,13 +128,11 @@ struct Clauses {
     items: [Sets; 8],
 }
 
-#[allow(dead_code)]
 struct Plan {
     count: usize,
     numbers: [u8; 64],
 }
 
-#[allow(dead_code)]
 struct Sheet {
     n: usize,
     known: Literals,
@@ -462,7 +461,10 @@ fn grow_all(exclusive: bool, clauses: &Clauses, t: Table) -> Result<Table, Fault
 
 // The first table of a sheet.
 fn start(s: &[u8]) -> Result<Table, Fault> {
-    let sheet = decode(s)?;
+    first_table(&decode(s)?)
+}
+
+fn first_table(sheet: &Sheet) -> Result<Table, Fault> {
     let mut first = EMPTY;
     first.count = 1;
     first.trues[0] = sheet.known.trues;
@@ -690,6 +692,122 @@ fn picture(s: &[u8], t: &Table, buffer: &mut [u8]) -> Result<usize, Fault> {
     Ok(k)
 }
 
+// ---- plans
+
+// Each clause of the goal shares a literal with each entry.
+fn in_goal(goal: &Sets, t: &Table) -> bool {
+    (0..t.count).all(|i| (0..goal.count).all(|j| clash(flip(goal.items[j]), at(&t.trues, &t.falses, i))))
+}
+
+#[derive(Clone, Copy)]
+struct Row {
+    place: usize,
+    entries: usize,
+    clauses: usize,
+}
+
+enum Verdict {
+    Reached,
+    Short,
+    Stopped(usize, u8),
+    Full(usize),
+}
+
+// The clauses of the picture, 257 if they are too many.
+fn clause_count(t: &Table) -> usize {
+    match clauses_of(t) {
+        Ok(c) => c.count,
+        Err(Full) => 257,
+    }
+}
+
+// The run of a sheet's plan: the verdict, the last table, and the rows.
+fn run(s: &[u8], rows: &mut [Row; 65]) -> Result<(Verdict, Table), Fault> {
+    let sheet = decode(s)?;
+    let mut t = first_table(&sheet)?;
+    for i in 0..sheet.plan.count {
+        rows[i] = Row { place: i, entries: t.count, clauses: clause_count(&t) };
+        match advance(&sheet.moves.items[sheet.plan.numbers[i] as usize], &t) {
+            Ok(next) => t = next,
+            Err(Fault(21, _)) => return Ok((Verdict::Full(i + 1), t)),
+            Err(Fault(number, _)) => return Ok((Verdict::Stopped(i + 1, number), t)),
+        }
+    }
+    let last = sheet.plan.count;
+    rows[last] = Row { place: last, entries: t.count, clauses: clause_count(&t) };
+    Ok((if in_goal(&sheet.goal, &t) { Verdict::Reached } else { Verdict::Short }, t))
+}
+
+enum Kind {
+    Reached,
+    Full(usize),
+    Nothing,
+}
+
+struct Searched {
+    kind: Kind,
+    plan: [u8; 8],
+    length: usize,
+}
+
+const NO_PLAN: Searched = Searched { kind: Kind::Nothing, plan: [0; 8], length: 0 };
+
+fn same(a: &Table, b: &Table) -> bool {
+    a.count == b.count && (0..a.count).all(|i| a.trues[i] == b.trues[i] && a.falses[i] == b.falses[i])
+}
+
+// The plans with the moves taken so far, move m next and `left` moves more.
+fn begin(moves: &Moves, goal: &Sets, t: &Table, place: usize, left: usize, m: usize) -> Searched {
+    match advance(&moves.items[m], t) {
+        Ok(after) => {
+            if same(&after, t) {
+                return NO_PLAN;
+            }
+            let mut r = walk(moves, goal, &after, place + 1, left);
+            if !matches!(r.kind, Kind::Nothing) {
+                r.plan[place] = m as u8;
+            }
+            r
+        }
+        Err(Fault(21, _)) => {
+            let mut plan = [0; 8];
+            plan[place] = m as u8;
+            Searched { kind: Kind::Full(place + 1), plan, length: place + 1 + left }
+        }
+        Err(_) => NO_PLAN,
+    }
+}
+
+// The plans with the moves taken so far and `left` moves more, in ascending order.
+fn walk(moves: &Moves, goal: &Sets, t: &Table, place: usize, left: usize) -> Searched {
+    if left == 0 {
+        return if in_goal(goal, t) { Searched { kind: Kind::Reached, plan: [0; 8], length: place } } else { NO_PLAN };
+    }
+    for m in 0..moves.count {
+        let r = begin(moves, goal, t, place, left - 1, m);
+        if !matches!(r.kind, Kind::Nothing) {
+            return r;
+        }
+    }
+    NO_PLAN
+}
+
+// The first plan of at most `limit` moves, shorter first, that is reached or full.
+fn search(s: &[u8], limit: usize) -> Result<Searched, Fault> {
+    let sheet = decode(s)?;
+    if 8 < limit {
+        return Err(Fault(8, 0));
+    }
+    let t = first_table(&sheet)?;
+    for length in 0..=limit {
+        let r = walk(&sheet.moves, &sheet.goal, &t, 0, length);
+        if !matches!(r.kind, Kind::Nothing) {
+            return Ok(r);
+        }
+    }
+    Ok(NO_PLAN)
+}
+
 // ---- the lines
 
 fn mixed(digest: u32, number: u32) -> u32 {
@@ -790,6 +908,44 @@ fn act(out: &mut Vec<u8>, sheet: &[u8], t: &Table, bytes: &[u8]) -> Table {
     }
 }
 
+fn show_run(out: &mut Vec<u8>, sheet: &[u8], times: u64) {
+    let mut rows = [Row { place: 0, entries: 0, clauses: 0 }; 65];
+    let given = repeat(times, || run(black_box(sheet), &mut rows));
+    let (words, t) = match given {
+        Ok((Verdict::Reached, t)) => ("reached".to_string(), t),
+        Ok((Verdict::Short, t)) => ("short".to_string(), t),
+        Ok((Verdict::Stopped(place, number), t)) => (format!("stopped {number} at {place}"), t),
+        Ok((Verdict::Full(place), t)) => (format!("full at {place}"), t),
+        Err(Fault(number, position)) => (format!("refused {number} at {position}"), EMPTY),
+    };
+    let numbers = rows.iter().flat_map(|r| [r.place, r.entries, r.clauses]).fold(0, |value, x| mixed(value, x as u32));
+    writeln!(out, "{words}\ncount {} slots {}\nrows 65 numbers {numbers}", t.count, digest(&t)).expect("memory");
+}
+
+fn show_search(out: &mut Vec<u8>, sheet: &[u8], limit: usize, times: u64) {
+    let given = repeat(times, || search(black_box(sheet), black_box(limit)));
+    let (words, found) = match given {
+        Ok(found) => match found.kind {
+            Kind::Reached => ("reached".to_string(), found),
+            Kind::Full(place) => (format!("full at {place}"), found),
+            Kind::Nothing => ("none".to_string(), found),
+        },
+        Err(Fault(number, position)) => (format!("refused {number} at {position}"), NO_PLAN),
+    };
+    let plan = found.plan.iter().fold(0, |value, &x| mixed(value, x as u32));
+    writeln!(out, "{words}\nlength {} plan {plan}", found.length).expect("memory");
+}
+
+// What a line on plans says, done.
+fn act_on_plans(out: &mut Vec<u8>, sheet: &[u8], bytes: &[u8]) {
+    match bytes[0] {
+        3 => show_run(out, sheet, 1),
+        4 => show_search(out, sheet, number(bytes, 1, 8) as usize, 1),
+        5 => show_run(out, sheet, number(bytes, 1, 4)),
+        _ => show_search(out, sheet, number(bytes, 1, 8) as usize, number(bytes, 9, 4)),
+    }
+}
+
 fn bytes_of(line: &str) -> Vec<u8> {
     line.split_ascii_whitespace().map(|word| u8::from_str_radix(word, 16).expect("two hexadecimal digits")).collect()
 }
@@ -800,6 +956,7 @@ fn main() {
     let mut out = Vec::new();
     let mut sheet = Vec::new();
     let mut t = EMPTY;
+    let plans = std::env::args().any(|a| a == "plans");
     for line in text.lines() {
         if line.starts_with('#') {
             writeln!(out, "{line}").expect("memory");
@@ -811,6 +968,8 @@ fn main() {
         }
         if bytes[0] == 0 {
             sheet = bytes[1..].to_vec();
+        } else if plans {
+            act_on_plans(&mut out, &sheet, &bytes);
         } else {
             t = act(&mut out, &sheet, &t, &bytes);
         }

@@ -30,11 +30,13 @@ use Rattle.table.specs.Worlds.{results}
 use Rattle.table.specs.Minimal.{described, putAll, Outcome, refused}
 use Rattle.table.specs.Step.{pieces, image, orFull, stepClear, stepSure, stepTable}
 use Rattle.table.specs.Pairs.{contradicts}
-use Rattle.table.specs.Slots.{pairs, entriesOf, entries, tableOf, Grew, Puts}
+use Rattle.table.specs.Slots.{pairs, entriesOf, entries, tableOf, Grew, Held, Puts}
 use Rattle.table.specs.Calls.{orGiven, actionAt, stepKnown, stepMove, stepOf}
-use Rattle.table.specs.Moves.{effectsOf, Steps, Filled}
+use Rattle.table.specs.declared.steps.Stepped.{Stepped}
+use Rattle.table.specs.declared.steps.Stepped.the-variants as moved
+use Rattle.table.specs.Moves.{effectsOf, lent, tabled, Steps, Filled}
 use Rattle.table.proofs.Pads.{length-entriesOf}
-use Rattle.table.proofs.Started.{all-at}
+use Rattle.table.proofs.Started.{all-at, no-entries}
 use Rattle.table.proofs.PairLaws.{pairs-contradict}
 use Rattle.table.proofs.Describing.{described-iff}
 
@@ -102,6 +104,50 @@ module _ (m : Move) (t : Table) (h : Steps m t) where
           let f = g .1 in
           (λ j. record { answer = Accepted; table = record { count = f .count-is j; trues = f .trues-are j; falses = f .falses-are j } })
           ∙ sym (ap (orGiven t) (by-clear false u ∙ ap orFull (g .0)))
+
+-- ---- the same in lent arrays, into arrays of zeros
+module _ (us gs : List ℕ) (e : us ≡ replicate 128 0) (f : gs ≡ replicate 128 0) where
+  pub fresh-held : Held (length us) 0 us gs
+  fresh-held = subst (λ (x : List ℕ). Held (length x) 0 x gs) (sym e) (subst (λ (y : List ℕ). Held 128 0 (replicate 128 0) y) (sym f) no-entries)
+
+  fresh-puts : (cs : List Literals) (r : Grown) (vs hs : List ℕ) → Puts cs 0 us gs r vs hs → Puts cs 0 (replicate 128 0) (replicate 128 0) r vs hs
+  fresh-puts cs r vs hs p = subst (λ (y : List ℕ). Puts cs 0 (replicate 128 0) y r vs hs) f (subst (λ (x : List ℕ). Puts cs 0 x gs r vs hs) e p)
+
+module _ (m : Move) (n : ℕ) (ts fs : List ℕ) (h : Steps m (lent n ts fs)) where
+  abbrev given : Table
+  given = lent n ts fs
+
+  abbrev due : Tabled
+  due = orGiven given (stepTable 128 (actionIn m) (entriesOf n ts fs))
+
+  pub lent-unsure : allOf (λ d. within (m .precondition) d) (entriesOf n ts fs) ≡ false → tabled given (moved.Refused 24) [] [] ≡ due
+  unfolding entries orGiven
+  lent-unsure s = sym (ap (orGiven given) (unsure m given h s))
+
+  module _ (s : allOf (λ d. within (m .precondition) d) (entriesOf n ts fs) ≡ true) (es : List Effect) (known : effectsOf m ≡ es) where
+    pub lent-unclear : anyOf (λ d. contradicts es d) (entriesOf n ts fs) ≡ true → tabled given (moved.Refused 25) [] [] ≡ due
+    unfolding entries orGiven
+    lent-unclear u = sym (ap (orGiven given) (unclear m given h s es known u))
+
+    module _ (u : anyOf (λ d. contradicts es d) (entriesOf n ts fs) ≡ false) (us gs : List ℕ) (e : us ≡ replicate 128 0) (f : gs ≡ replicate 128 0)
+        (r : Grown) (vs hs : List ℕ) (w : Puts (map (image es) (collect (pieces es) (entriesOf n ts fs))) 0 us gs r vs hs) where
+      pub lent-full : r ≡ grown.Full → tabled given (moved.Refused 21) vs hs ≡ due
+      unfolding entries orGiven
+      lent-full q = sym (ap (orGiven given) (overfull m given h s es known u r vs hs (fresh-puts us gs e f _ r vs hs w) q))
+
+      pub lent-to : (k : ℕ) → r ≡ grown.To k → tabled given (moved.To k) vs hs ≡ due
+      unfolding entries
+      lent-to k q = stepped m given h s es known u r vs hs (fresh-puts us gs e f _ r vs hs w) k q
+
+-- a table and a refusal, as the call by value gives them
+pub lent-given : (t : Table) (d : Tabled) (r : Stepped) (us gs : List ℕ) (k : ℕ) → r ≡ moved.To k → tabled t r us gs ≡ d
+    → record { answer = Accepted; table = record { count = k; trues = us; falses = gs } } ≡ d
+lent-given t d r us gs k q e = sym (ap (λ (x : Stepped). tabled t x us gs) q) ∙ e
+
+pub lent-refused : (t : Table) (o : Outcome) (r : Stepped) (us gs : List ℕ) (number : ℕ) → r ≡ moved.Refused number → tabled t r us gs ≡ orGiven t o
+    → orGiven t (refused number) ≡ orGiven t o
+unfolding orGiven
+lent-refused t o r us gs number q e = sym (ap (λ (x : Stepped). tabled t x us gs) q) ∙ e
 
 -- ---- the move of a number on a sheet that was read
 pad-member : {A B : Type 0} (f : B → A) (n : ℕ) (d e : A) (xs : List B) (z : B) (i : ℕ) → i < length xs → length xs ≤ n

@@ -13,7 +13,11 @@ use Rattle.sheet.specs.declared.Sheet.{Sheet}
 use Rattle.sheet.specs.Problem.{Statement}
 use Rattle.sheet.specs.Encoding.{ProperAction, ProperStatement}
 use Rattle.sheet.specs.Decoded.{actionIn, slots}
+use Rattle.sheet.specs.declared.Answer.the-variants.{Accepted, Refused}
 use Rattle.table.specs.declared.Table.{Table}
+use Rattle.table.specs.declared.Tabled.{Tabled}
+use Rattle.table.specs.declared.steps.Stepped.{Stepped}
+use Rattle.table.specs.declared.steps.Stepped.the-variants as stepped
 use Rattle.table.specs.Slots.{entries}
 
 -- the set in slot i of two arrays
@@ -43,6 +47,15 @@ effectsAt (suc n) row = effectAt row 0 ∷ effectsAt n (drop 4 row)
 -- the results of e and f clash, and d admits both conditions
 abbrev pub opposed : Effect → Literals → Effect → Bool
 opposed e d f = clash (e .result) (f .result) && consistent (join d (join (e .condition) (f .condition)))
+
+-- ---- a table in lent arrays
+abbrev pub lent : ℕ → List ℕ → List ℕ → Table
+lent n ts fs = record { count = n; trues = ts; falses = fs }
+
+-- what a step of the table t gave, with the arrays that it was put in
+abbrev pub tabled : Table → Stepped → List ℕ → List ℕ → Tabled
+tabled t (stepped.To k) us gs = record { answer = Accepted; table = lent k us gs }
+tabled t (stepped.Refused number) us gs = record { answer = Refused number 0; table = t }
 
 -- a move and a table over the same n propositions, within their slots
 pub record Steps (m : Move) (t : Table) : Type 0 where

@@ -17,7 +17,7 @@ ghost use mathlib.Core.Path.{_≡_};
 ghost use mathlib.Core.Bool.{_||_};
 ghost use mathlib.Core.List.{[], _∷_, map};
 ghost use Prim.Native.Nat.{_≤_, _<_, _*_};
-ghost use lib.ListN.{length, drop};
+ghost use lib.ListN.{length, drop, replicate};
 ghost use Rattle.sheet.specs.Literals as L;
 ghost use Rattle.sheet.specs.Lists.{anyOf, allOf, collect};
 ghost use lib.Dec.{ltb};
@@ -87,11 +87,11 @@ pub fn contradicts<'a>(effects: &'a [u32], size: usize, d: Literals) -> bool
 }
 
 // Two effects are opposed in some entry (25).
-pub fn unclear<'a>(
+pub fn unclear<'a, 'b>(
     effects: &'a [u32],
     size: usize,
-    trues: &'a [u32],
-    falses: &'a [u32],
+    trues: &'b [u32],
+    falses: &'b [u32],
     count: usize,
 ) -> bool
     requires { ⌜ 4 * size ≤ length (now effects) ⌝ }
@@ -213,14 +213,14 @@ pub fn split<'a, 'b>(
 }
 
 // The pieces of the first m entries of ts and fs, each put in its turn.
-pub fn spread<'a, 'b>(
+pub fn spread<'a, 'b, 'c>(
     effects: &'a [u32],
     size: usize,
-    ts: &'a [u32],
-    fs: &'a [u32],
+    ts: &'b [u32],
+    fs: &'b [u32],
     m: usize,
-    trues: &'b mut [u32],
-    falses: &'b mut [u32],
+    trues: &'c mut [u32],
+    falses: &'c mut [u32],
     k: usize,
 ) -> Grown
     requires { ⌜ 4 * size ≤ length (now effects) ⌝ }
@@ -250,35 +250,59 @@ pub fn refused(number: u8, table: Table) -> Tabled
     }
 }
 
+// What a step gave: so many entries in the lent arrays, or the number of a refusal.
+pub enum Stepped {
+    To(usize),
+    Refused(u8),
+}
+
+// The step of a lent table by a move, into arrays of zeros.
+pub fn step_into<'a, 'b>(
+    mv: Move,
+    ts: &'a [u32],
+    fs: &'a [u32],
+    n: usize,
+    us: &'b mut [u32],
+    gs: &'b mut [u32],
+) -> Stepped
+    requires { ⌜ M.Steps mv (M.lent n (now ts) (now fs)) ⌝ }
+    requires { ⌜ (n ≤ length (now ts)) × (n ≤ length (now fs)) ⌝ }
+    requires { ⌜ (now us ≡ replicate 128 0) × (now gs ≡ replicate 128 0) ⌝ }
+    ensures { λ r. ⌜ M.tabled (M.lent n (now (ts .entry)) (now (fs .entry))) r (now (us .exit)) (now (gs .exit)) ≡ orGiven (M.lent n (now (ts .entry)) (now (fs .entry))) (S.stepTable 128 (actionIn mv) (entriesOf n (now (ts .entry)) (now (fs .entry)))) ⌝ }
+{
+    let precondition = mv.precondition;
+    if !sure(precondition, ts, fs, n) {
+        return Stepped::Refused(24);
+    }
+    let size = mv.count;
+    let mut row = [0u32; 32];
+    effects::lay(mv, &mut row);
+    if unclear(&row, size, ts, fs, n) {
+        return Stepped::Refused(25);
+    }
+    match spread(&row, size, ts, fs, n, us, gs, 0) {
+        Grown::To(k) => Stepped::To(k),
+        Grown::Full => Stepped::Refused(21),
+    }
+}
+
 // The step of a table by a move.
 pub fn advance(mv: Move, table: Table) -> Tabled
     requires { ⌜ M.Steps mv table ⌝ }
     ensures { λ r. ⌜ r ≡ orGiven table (S.stepTable 128 (actionIn mv) (entries table)) ⌝ }
 {
     let count = table.count;
-    let precondition = mv.precondition;
-    if !sure(precondition, &table.trues, &table.falses, count) {
-        return refused(24, table);
-    }
-    let size = mv.count;
-    let mut row = [0u32; 32];
-    effects::lay(mv, &mut row);
-    if unclear(&row, size, &table.trues, &table.falses, count) {
-        return refused(25, table);
-    }
     let mut trues = [0u32; 128];
     let mut falses = [0u32; 128];
-    match spread(
-        &row,
-        size,
+    match step_into(
+        mv,
         &table.trues,
         &table.falses,
         count,
         &mut trues,
         &mut falses,
-        0,
     ) {
-        Grown::To(k) => Tabled {
+        Stepped::To(k) => Tabled {
             answer: Answer::Accepted,
             table: Table {
                 count: k,
@@ -286,7 +310,7 @@ pub fn advance(mv: Move, table: Table) -> Tabled
                 falses,
             },
         },
-        Grown::Full => refused(21, table),
+        Stepped::Refused(number) => refused(number, table),
     }
 }
 
