@@ -34,15 +34,15 @@ use Rattle.plan.proofs.Pruning.{quiet-after, unchanged}
 use Rattle.plan.proofs.Walking.{written, onward-ended, onward-not, at-stop, at-full}
 
 -- the slots hold the entries
-pub slots-room : (packed : List ℕ) (k : ℕ) (goal : Sets) (n : ℕ) (ts fs : List ℕ) → Searchable packed k goal (lent n ts fs) → (n ≤ length ts) × (n ≤ length fs)
+pub slots-room : {packed : List ℕ} {k : ℕ} {goal : Sets} {n : ℕ} {ts fs : List ℕ} → Searchable packed k goal (lent n ts fs) → (n ≤ length ts) × (n ≤ length fs)
 unfolding tableOf
-slots-room packed k goal n ts fs h =
+slots-room {packed} {k} {goal} {n} {ts} {fs} h =
     let z = h .ready .zeros in
     let a : length ts ≡ 128 = ap (λ (t : Table). length (t .trues)) z ∙ length-pad 128 0 _ in
     let b : length fs ≡ 128 = ap (λ (t : Table). length (t .falses)) z ∙ length-pad 128 0 _ in
     (omega (arith, h .entries-most), omega (arith, h .entries-most))
 
-module _ (packed : List ℕ) (k : ℕ) (goal : Sets) (n : ℕ) (ts fs : List ℕ) (h : Searchable packed k goal (lent n ts fs)) (m : ℕ) (lt : m < k) (mv : Move)
+module _ {packed : List ℕ} {k : ℕ} {goal : Sets} {n : ℕ} {ts fs : List ℕ} (h : Searchable packed k goal (lent n ts fs)) {m : ℕ} (lt : m < k) {mv : Move}
     (is : mv ≡ moveAt packed m) where
   abbrev t : Table
   t = lent n ts fs
@@ -67,7 +67,7 @@ module _ (packed : List ℕ) (k : ℕ) (goal : Sets) (n : ℕ) (ts fs : List ℕ
     step-is x e = ap (λ (y : Taken). tabled t y us gs) (sym e) ∙ told ∙ ap (λ (y : Move). orGiven t (stepTable 128 (actionIn y) (entriesOf n ts fs))) is
 
     -- ---- the step gave a table to go on from
-    module _ (j : ℕ) (e : r ≡ taken.To j) where
+    module _ {j : ℕ} (e : r ≡ taken.To j) where
       abbrev u : Table
       u = lent j us gs
 
@@ -99,11 +99,11 @@ module _ (packed : List ℕ) (k : ℕ) (goal : Sets) (n : ℕ) (ts fs : List ℕ
           pub unmet-after : Unmet packed k goal u (at + 1) left
           unmet-after = quiet-after (setsIn goal) (actionOf packed) k at (entries t) m left (entries u) came q lt
 
-          pub begun-same : entriesOf j us gs ≡ entriesOf n ts fs → (a : Searched) → a ≡ answered nothing → a ≡ begun packed k goal t at left m
+          pub begun-same : entriesOf j us gs ≡ entriesOf n ts fs → {a : Searched} → a ≡ answered nothing → a ≡ begun packed k goal t at left m
           unfolding answeredAt entries
-          begun-same z a w = w ∙ sym (ap (answeredAt at) (unchanged (setsIn goal) (actionOf packed) k at (entries t) m left (entries u) came q z))
+          begun-same z {a} w = w ∙ sym (ap (answeredAt at) (unchanged (setsIn goal) (actionOf packed) k at (entries t) m left (entries u) came q z))
 
-        module _ (a : Searched) (w : a ≡ walked packed k goal u (at + 1) left) where
+        module _ {a : Searched} (w : a ≡ walked packed k goal u (at + 1) left) where
           pub begun-ended : endedBy (a .kind) ≡ true → written a at m ≡ begun packed k goal t at left m
           begun-ended b = onward-ended (setsIn goal) (actionOf packed) k at (entries t) left m (entries u) a came w b
 
@@ -111,12 +111,12 @@ module _ (packed : List ℕ) (k : ℕ) (goal : Sets) (n : ℕ) (ts fs : List ℕ
           begun-not b = onward-not (setsIn goal) (actionOf packed) k at (entries t) left m (entries u) a came w b
 
     -- ---- the step was refused
-    module _ (code : ℕ) (e : r ≡ taken.Refused code) (at left : ℕ) where
+    module _ {code : ℕ} (e : r ≡ taken.Refused code) (at left : ℕ) where
       refused-by : outcome ≡ refused code
       refused-by = stopped t outcome (tabled t (taken.Refused code) us gs) code 0 (step-is (taken.Refused code) e) refl
 
       pub begun-full : code ≡ 21 → record { kind = kind.Full (at + 1); plan = set (replicate 8 0) at m; length = at + 1 + left } ≡ begun packed k goal t at left m
       begun-full z = at-full (setsIn goal) (actionOf packed) k at (entries t) left m (h .least) (refused-by ∙ ap refused z)
 
-      pub begun-stopped : (code ≡ 21 → ⊥) → (a : Searched) → a ≡ answered nothing → a ≡ begun packed k goal t at left m
-      begun-stopped z a w = at-stop (setsIn goal) (actionOf packed) k at (entries t) left m code a refused-by z w
+      pub begun-stopped : (code ≡ 21 → ⊥) → {a : Searched} → a ≡ answered nothing → a ≡ begun packed k goal t at left m
+      begun-stopped z {a} w = at-stop (setsIn goal) (actionOf packed) k at (entries t) left m code a refused-by z w

@@ -89,7 +89,7 @@ begin-take-requires : (t : ℕ) → begin-lts.Need-take-requires (begin-claims t
 begin-take-requires t c κs =
     let z = c .before .before .before .before .before .before in
     let s = z .args in
-    (can-step (now (s .packed)) (s .moves) (s .goal) (s .n) (now (s .ts)) (now (s .fs)) (z .pre .1 .0) (s .m) (z .pre .1 .1 .0 .1) _ (c .before .before .move-at .ensures), (slots-room (now (s .packed)) (s .moves) (s .goal) (s .n) (now (s .ts)) (now (s .fs)) (z .pre .1 .0), (refl, refl)))
+    (can-step (z .pre .1 .0) (z .pre .1 .1 .0 .1) (c .before .before .move-at .ensures), (slots-room (z .pre .1 .0), (refl, refl)))
 
 begin-add-next : (t : ℕ) → begin-lts.Need-add-next (begin-claims t) (begin-at t) begin.Post
 begin-add-next t c = search needs
@@ -107,7 +107,7 @@ begin-same-requires : (t : ℕ) → begin-lts.Need-same-requires (begin-claims t
 begin-same-requires t c κs =
     let z = c .before .before .before .before .before .before .before .before .before .before .before .before .before .before in
     let s = z .args in
-    (slots-room (now (s .packed)) (s .moves) (s .goal) _ _ _ (ready-after (now (s .packed)) (s .moves) (s .goal) (s .n) (now (s .ts)) (now (s .fs)) (z .pre .1 .0) (s .m) (z .pre .1 .1 .0 .1) _ (c .before .before .before .before .before .before .before .before .before .before .move-at .ensures) _ _ _ (c .before .before .before .before .before .before .before .take .ensures) _ (c .before .before .before .taken .given .1)), slots-room (now (s .packed)) (s .moves) (s .goal) (s .n) (now (s .ts)) (now (s .fs)) (z .pre .1 .0))
+    (slots-room (ready-after (z .pre .1 .0) (z .pre .1 .1 .0 .1) (c .before .before .before .before .before .before .before .before .before .before .move-at .ensures) _ _ _ (c .before .before .before .before .before .before .before .take .ensures) (c .before .before .before .taken .given .1)), slots-room (z .pre .1 .0))
 
 begin-none-requires : (t : ℕ) → begin-lts.Need-none-requires (begin-claims t) (begin-at t) begin.Post
 begin-none-requires t c κs = search needs
@@ -116,7 +116,7 @@ begin-returns : (t : ℕ) → begin-lts.Need-returns (begin-claims t) (begin-at 
 begin-returns t c =
     let z = c .before .before .before .before .before .before .before .before .before .before .before .before .before .before .before .before .before in
     let s = z .args in
-    begun-same (now (s .packed)) (s .moves) (s .goal) (s .n) (now (s .ts)) (now (s .fs)) (z .pre .1 .0) (s .m) (z .pre .1 .1 .0 .1) _ (c .before .before .before .before .before .before .before .before .before .before .before .before .before .move-at .ensures) _ _ _ (c .before .before .before .before .before .before .before .before .before .before .take .ensures) _ (c .before .before .before .before .before .before .taken .given .1) (s .at) (s .left) (z .pre .1 .1 .1) (c .before .before .same .ensures (c .before .if1 .taken)) _ (c .none .ensures)
+    begun-same (z .pre .1 .0) (z .pre .1 .1 .0 .1) (c .before .before .before .before .before .before .before .before .before .before .before .before .before .move-at .ensures) _ _ _ (c .before .before .before .before .before .before .before .before .before .before .take .ensures) (c .before .before .before .before .before .before .taken .given .1) (s .at) (s .left) (z .pre .1 .1 .1) (c .before .before .same .ensures (c .before .if1 .taken)) (c .none .ensures)
 
 begin-slice-aggregate-walk : (t : ℕ) → begin-lts.Need-slice-aggregate-walk (begin-claims t) (begin-at t) begin.Post
 begin-slice-aggregate-walk t c = search needs
@@ -128,7 +128,7 @@ begin-walk-requires : (t : ℕ) → begin-lts.Need-walk-requires (begin-claims t
 begin-walk-requires t c κs =
     let z = c .before .before .before .before .before .before .before .before .before .before .before .before .before .before .before .before .before .before in
     let s = z .args in
-    (omega arith, (ready-after (now (s .packed)) (s .moves) (s .goal) (s .n) (now (s .ts)) (now (s .fs)) (z .pre .1 .0) (s .m) (z .pre .1 .1 .0 .1) _ (c .before .before .before .before .before .before .before .before .before .before .before .before .before .before .move-at .ensures) _ _ _ (c .before .before .before .before .before .before .before .before .before .before .before .take .ensures) _ (c .before .before .before .before .before .before .before .taken .given .1), (omega (arith, z .pre .1 .1 .0 .0), unmet-after (now (s .packed)) (s .moves) (s .goal) (s .n) (now (s .ts)) (now (s .fs)) (z .pre .1 .0) (s .m) (z .pre .1 .1 .0 .1) _ (c .before .before .before .before .before .before .before .before .before .before .before .before .before .before .move-at .ensures) _ _ _ (c .before .before .before .before .before .before .before .before .before .before .before .take .ensures) _ (c .before .before .before .before .before .before .before .taken .given .1) (s .at) (s .left) (z .pre .1 .1 .1))))
+    (omega arith, (ready-after (z .pre .1 .0) (z .pre .1 .1 .0 .1) (c .before .before .before .before .before .before .before .before .before .before .before .before .before .before .move-at .ensures) _ _ _ (c .before .before .before .before .before .before .before .before .before .before .before .take .ensures) (c .before .before .before .before .before .before .before .taken .given .1), (omega (arith, z .pre .1 .1 .0 .0), unmet-after (z .pre .1 .0) (z .pre .1 .1 .0 .1) (c .before .before .before .before .before .before .before .before .before .before .before .before .before .before .move-at .ensures) _ _ _ (c .before .before .before .before .before .before .before .before .before .before .before .take .ensures) (c .before .before .before .before .before .before .before .taken .given .1) (s .at) (s .left) (z .pre .1 .1 .1))))
 
 begin-ended-requires : (t : ℕ) → begin-lts.Need-ended-requires (begin-claims t) (begin-at t) begin.Post
 begin-ended-requires t c κs = search needs
@@ -159,7 +159,7 @@ begin-returns-2 : (t : ℕ) → begin-lts.Need-returns-2 (begin-claims t) (begin
 begin-returns-2 t c =
     let z = c .before .before .before .before .before .before .before .before .before .before .before .before .before in
     let s = z .args in
-    begun-full (now (s .packed)) (s .moves) (s .goal) (s .n) (now (s .ts)) (now (s .fs)) (z .pre .1 .0) (s .m) (z .pre .1 .1 .0 .1) _ (c .before .before .before .before .before .before .before .before .before .move-at .ensures) _ _ _ (c .before .before .before .before .before .before .take .ensures) _ (c .before .before .taken2 .given .1) (s .at) (s .left) (c .if3 .taken)
+    begun-full (z .pre .1 .0) (z .pre .1 .1 .0 .1) (c .before .before .before .before .before .before .before .before .before .move-at .ensures) _ _ _ (c .before .before .before .before .before .before .take .ensures) (c .before .before .taken2 .given .1) (s .at) (s .left) (c .if3 .taken)
 
 begin-none-requires-2 : (t : ℕ) → begin-lts.Need-none-requires-2 (begin-claims t) (begin-at t) begin.Post
 begin-none-requires-2 t c κs = search needs
@@ -168,19 +168,19 @@ begin-returns-3 : (t : ℕ) → begin-lts.Need-returns-3 (begin-claims t) (begin
 begin-returns-3 t c =
     let z = c .before .before .before .before .before .before .before .before .before .before .before .before .before .before .before .before .before .before .before .before .before in
     let s = z .args in
-    begun-ended (now (s .packed)) (s .moves) (s .goal) (s .n) (now (s .ts)) (now (s .fs)) (z .pre .1 .0) (s .m) (z .pre .1 .1 .0 .1) _ (c .before .before .before .before .before .before .before .before .before .before .before .before .before .before .before .before .before .move-at .ensures) _ _ _ (c .before .before .before .before .before .before .before .before .before .before .before .before .before .before .take .ensures) _ (c .before .before .before .before .before .before .before .before .before .before .taken .given .1) (s .at) (s .left) _ (c .before .before .walk .ensures) (sym (c .before .ended .ensures) ∙ c .if2 .taken)
+    begun-ended (z .pre .1 .0) (z .pre .1 .1 .0 .1) (c .before .before .before .before .before .before .before .before .before .before .before .before .before .before .before .before .before .move-at .ensures) _ _ _ (c .before .before .before .before .before .before .before .before .before .before .before .before .before .before .take .ensures) (c .before .before .before .before .before .before .before .before .before .before .taken .given .1) (s .at) (s .left) (c .before .before .walk .ensures) (sym (c .before .ended .ensures) ∙ c .if2 .taken)
 
 begin-returns-4 : (t : ℕ) → begin-lts.Need-returns-4 (begin-claims t) (begin-at t) begin.Post
 begin-returns-4 t c =
     let z = c .before .before .before .before .before .before .before .before .before .before .before .before .before .before .before .before .before .before .before .before .before in
     let s = z .args in
-    begun-not (now (s .packed)) (s .moves) (s .goal) (s .n) (now (s .ts)) (now (s .fs)) (z .pre .1 .0) (s .m) (z .pre .1 .1 .0 .1) _ (c .before .before .before .before .before .before .before .before .before .before .before .before .before .before .before .before .before .move-at .ensures) _ _ _ (c .before .before .before .before .before .before .before .before .before .before .before .before .before .before .take .ensures) _ (c .before .before .before .before .before .before .before .before .before .before .taken .given .1) (s .at) (s .left) _ (c .before .before .walk .ensures) (sym (c .before .ended .ensures) ∙ c .if2 .left)
+    begun-not (z .pre .1 .0) (z .pre .1 .1 .0 .1) (c .before .before .before .before .before .before .before .before .before .before .before .before .before .before .before .before .before .move-at .ensures) _ _ _ (c .before .before .before .before .before .before .before .before .before .before .before .before .before .before .take .ensures) (c .before .before .before .before .before .before .before .before .before .before .taken .given .1) (s .at) (s .left) (c .before .before .walk .ensures) (sym (c .before .ended .ensures) ∙ c .if2 .left)
 
 begin-returns-5 : (t : ℕ) → begin-lts.Need-returns-5 (begin-claims t) (begin-at t) begin.Post
 begin-returns-5 t c =
     let z = c .before .before .before .before .before .before .before .before .before .before .before .before .before .before in
     let s = z .args in
-    begun-stopped (now (s .packed)) (s .moves) (s .goal) (s .n) (now (s .ts)) (now (s .fs)) (z .pre .1 .0) (s .m) (z .pre .1 .1 .0 .1) _ (c .before .before .before .before .before .before .before .before .before .before .move-at .ensures) _ _ _ (c .before .before .before .before .before .before .before .take .ensures) _ (c .before .before .before .taken2 .given .1) (s .at) (s .left) (c .before .if3 .left) _ (c .none2 .ensures)
+    begun-stopped (z .pre .1 .0) (z .pre .1 .1 .0 .1) (c .before .before .before .before .before .before .before .before .before .before .move-at .ensures) _ _ _ (c .before .before .before .before .before .before .before .take .ensures) (c .before .before .before .taken2 .given .1) (s .at) (s .left) (c .before .if3 .left) (c .none2 .ensures)
 
 abbrev walk-Inv-loop : walk-lts.InvT-loop
 walk-Inv-loop packed moves goal ts fs n at left fewer m₀ m =
@@ -193,7 +193,7 @@ walk-all-in-goal-requires : (t : ℕ) → walk-lts.Need-all-in-goal-requires (wa
 walk-all-in-goal-requires t c κs =
     let z = c .before .before .before .before in
     let s = z .args in
-    (z .pre .1 .0 .goal-most, slots-room (now (s .packed)) (s .moves) (s .goal) (s .n) (now (s .ts)) (now (s .fs)) (z .pre .1 .0))
+    (z .pre .1 .0 .goal-most, slots-room (z .pre .1 .0))
 
 walk-returns : (t : ℕ) → walk-lts.Need-returns (walk-claims t) (walk-at t) walk.Post walk-Inv-loop walk-μ-loop
 unfolding entries
