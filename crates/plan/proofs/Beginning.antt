@@ -1,7 +1,7 @@
 -- One move of the search on tables in their slots: the step that it takes, and what is left after it. Assumes nothing.
 use mathlib.Core.Path.{_≡_, refl, sym, ap, subst, _∙_}
 use mathlib.Core.Bool.{true, false}
-use mathlib.Core.List.{List}
+use mathlib.Core.List.{List, _∷_}
 use Prim.Native.Nat.{ℕ, _+_, _≤_, _<_}
 use native.Mathlib.Omega.{arith}
 use lib.ListN.{length, set, replicate}
@@ -20,10 +20,9 @@ use Rattle.table.specs.Moves.{Steps}
 use Rattle.table.proofs.Demands.{step-table}
 use Rattle.table.proofs.Pads.{length-pad}
 use Rattle.plan.specs.declared.Searched.{Searched}
-use Rattle.plan.specs.declared.Kind.the-variants as kind
 use Rattle.plan.specs.declared.searches.Taken.{Taken}
 use Rattle.plan.specs.declared.searches.Taken.the-variants as taken
-use Rattle.plan.specs.Search.{nothing}
+use Rattle.plan.specs.Search.{fullAt, nothing}
 use Rattle.plan.specs.Calls.{answered}
 use Rattle.plan.specs.Packed.{moveAt}
 use Rattle.plan.specs.Walks.{answeredAt, endedBy, lent, tabled, actionOf, Searchable, Unmet, walked, begun}
@@ -115,8 +114,8 @@ module _ {packed : List ℕ} {k : ℕ} {goal : Sets} {n : ℕ} {ts fs : List ℕ
       refused-by : outcome ≡ refused code
       refused-by = stopped t outcome (tabled t (taken.Refused code) us gs) code 0 (step-is (taken.Refused code) e) refl
 
-      pub begun-full : code ≡ 21 → record { kind = kind.Full (at + 1); plan = set (replicate 8 0) at m; length = at + 1 + left } ≡ begun packed k goal t at left m
-      begun-full z = at-full (setsIn goal) (actionOf packed) k at (entries t) left m (h .least) (refused-by ∙ ap refused z)
+      pub begun-full : code ≡ 21 → {a : Searched} → a ≡ answeredAt at (fullAt (m ∷ replicate left 0) (at + 1)) → a ≡ begun packed k goal t at left m
+      begun-full z {a} w = at-full (setsIn goal) (actionOf packed) k at (entries t) left m a (h .least) (refused-by ∙ ap refused z) w
 
       pub begun-stopped : (code ≡ 21 → ⊥) → {a : Searched} → a ≡ answered nothing → a ≡ begun packed k goal t at left m
       begun-stopped z {a} w = at-stop (setsIn goal) (actionOf packed) k at (entries t) left m code a refused-by z w

@@ -15,6 +15,7 @@ use table::steps::sure;
 use table::steps::unclear;
 ghost use mathlib.Core.Path.{_≡_};
 ghost use mathlib.Core.Bool.{true};
+ghost use mathlib.Core.List.{_∷_};
 ghost use Prim.Native.Nat.{_+_, _≤_, _<_};
 ghost use lib.ListN.{length, replicate};
 ghost use Rattle.sheet.specs.Decoded.{actionIn, problemIn};
@@ -24,7 +25,7 @@ ghost use Rattle.table.specs.Slots.{entriesOf};
 ghost use Rattle.table.specs.Calls.{orGiven};
 ghost use Rattle.table.specs.Moves as M;
 ghost use Rattle.table.specs.Moves.{Filled};
-ghost use Rattle.plan.specs.Search.{nothing};
+ghost use Rattle.plan.specs.Search.{fullAt, nothing};
 ghost use Rattle.plan.specs.Calls.{refusedSearch, answered, searched};
 ghost use Rattle.plan.specs.Walks as W;
 
@@ -47,6 +48,21 @@ pub fn refused(number: u8, position: usize) -> Searched
         kind: Kind::Refused(number, position),
         plan: [0u8; 8],
         length: 0,
+    }
+}
+
+// Full at move m: the first of the plans with `left` moves more has move 0 for each.
+pub fn full(at: usize, left: usize, m: usize) -> Searched
+    requires { ⌜ (at + left < 8) × (m < 32) ⌝ }
+    ensures { λ r. ⌜ r ≡ W.answeredAt at (fullAt (m ∷ replicate left 0) (at + 1)) ⌝ }
+{
+    let next = at + 1;
+    let mut plan = [0u8; 8];
+    plan[at] = m as u8;
+    Searched {
+        kind: Kind::Full(next),
+        plan,
+        length: next + left,
     }
 }
 
@@ -159,13 +175,7 @@ fn begin<'a, 'b>(
         }
         Taken::Refused(number) => {
             if number == 21 {
-                let mut plan = [0u8; 8];
-                plan[at] = m as u8;
-                return Searched {
-                    kind: Kind::Full(next),
-                    plan,
-                    length: next + left,
-                };
+                return full(at, left, m);
             }
             none()
         }

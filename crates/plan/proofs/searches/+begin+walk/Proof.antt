@@ -24,6 +24,7 @@ use Rattle.plan.proofs.searches.+begin+walk.Lts-walk as walk-lts
 use Rattle.plan.proofs.goals.all_in_goal.Reads as all-in-goal-reads
 use Rattle.plan.proofs.packed.move_at.Reads as move-at-reads
 use Rattle.plan.proofs.searches.ended.Reads as ended-reads
+use Rattle.plan.proofs.searches.full.Reads as full-reads
 use Rattle.plan.proofs.searches.none.Reads as none-reads
 use Rattle.plan.proofs.searches.same.Reads as same-reads
 use Rattle.plan.proofs.searches.take.Reads as take-reads
@@ -62,6 +63,8 @@ begin-claims t = (
   walk.Post,
   ended-reads.Asked,
   ended-reads.Learnt,
+  full-reads.Asked,
+  full-reads.Learnt,
 )
 
 abbrev walk-claims : ℕ → walk-lts.Claims
@@ -146,20 +149,14 @@ begin-element-write-r t c =
 begin-enum-known-taken-2 : (t : ℕ) → begin-lts.Need-enum-known-taken-2 (begin-claims t) (begin-at t) begin.Post
 begin-enum-known-taken-2 t c = search needs
 
-begin-cast-plan : (t : ℕ) → begin-lts.Need-cast-plan (begin-claims t) (begin-at t) begin.Post
-begin-cast-plan t c = search needs
-
-begin-array-write-plan : (t : ℕ) → begin-lts.Need-array-write-plan (begin-claims t) (begin-at t) begin.Post
-begin-array-write-plan t c = search needs
-
-begin-add-t44 : (t : ℕ) → begin-lts.Need-add-t44 (begin-claims t) (begin-at t) begin.Post
-begin-add-t44 t c = search needs
+begin-full-requires : (t : ℕ) → begin-lts.Need-full-requires (begin-claims t) (begin-at t) begin.Post
+begin-full-requires t c κs = let z = c .before .before .before .before .before .before .before .before .before .before .before .before .before in (z .pre .1 .1 .0 .0, omega (arith, z .pre .1 .1 .0 .1, z .pre .1 .0 .most))
 
 begin-returns-2 : (t : ℕ) → begin-lts.Need-returns-2 (begin-claims t) (begin-at t) begin.Post
 begin-returns-2 t c =
-    let z = c .before .before .before .before .before .before .before .before .before .before .before .before .before in
+    let z = c .before .before .before .before .before .before .before .before .before .before .before .before .before .before in
     let s = z .args in
-    begun-full (z .pre .1 .0) (z .pre .1 .1 .0 .1) (c .before .before .before .before .before .before .before .before .before .move-at .ensures) _ _ _ (c .before .before .before .before .before .before .take .ensures) (c .before .before .taken2 .given .1) (s .at) (s .left) (c .if3 .taken)
+    begun-full (z .pre .1 .0) (z .pre .1 .1 .0 .1) (c .before .before .before .before .before .before .before .before .before .before .move-at .ensures) _ _ _ (c .before .before .before .before .before .before .before .take .ensures) (c .before .before .before .taken2 .given .1) (s .at) (s .left) (c .before .if3 .taken) (c .full .ensures)
 
 begin-none-requires-2 : (t : ℕ) → begin-lts.Need-none-requires-2 (begin-claims t) (begin-at t) begin.Post
 begin-none-requires-2 t c κs = search needs
@@ -273,9 +270,7 @@ pub +begin+walk-spec : {M : Type 1} → statement M
     (begin-cast-r t)
     (begin-element-write-r t)
     (begin-enum-known-taken-2 t)
-    (begin-cast-plan t)
-    (begin-array-write-plan t)
-    (begin-add-t44 t)
+    (begin-full-requires t)
     (begin-returns-2 t)
     (begin-none-requires-2 t)
     (begin-returns-3 t)
