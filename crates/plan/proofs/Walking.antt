@@ -51,7 +51,7 @@ written-consed at m (fullAt p k) e =
 written-consed at m nothing e = absurd (true≢false (sym e))
 
 -- a full step: the rest of the plan is move 0, whose bytes are zero already
-full-here : (at left m k : ℕ) → answeredAt at (fullAt (m ∷ replicate left 0) k) ≡ record { kind = kind.Full k; plan = set (replicate 8 0) at m; length = at + 1 + left }
+pub full-here : (at left m k : ℕ) → answeredAt at (fullAt (m ∷ replicate left 0) k) ≡ record { kind = kind.Full k; plan = set (replicate 8 0) at m; length = at + 1 + left }
 unfolding answeredAt
 full-here at left m k =
     let q : at + suc (length {A = ℕ} (replicate left 0)) ≡ at + 1 + left = omega (arith, length-replicate {A = ℕ} left 0) in
@@ -97,9 +97,9 @@ module _ (goal : List Literals) (f : ℕ → Action) (k at : ℕ) (t : List Lite
     pub at-stop : (code : ℕ) (r : Searched) → stepTable 128 (f m) t ≡ refused code → (code ≡ 21 → ⊥) → r ≡ answered nothing → r ≡ answeredAt at (firstBy goal f k at t left m)
     at-stop code r e n q = q ∙ nothing-at at ∙ ap (answeredAt at) (sym (by-stop goal f k at t m left code e n))
 
-    pub at-full : 0 < k → stepTable 128 (f m) t ≡ refused 21
-        → record { kind = kind.Full (at + 1); plan = set (replicate 8 0) at m; length = at + 1 + left } ≡ answeredAt at (firstBy goal f k at t left m)
-    at-full h e = sym (full-here at left m (at + 1)) ∙ ap (answeredAt at) (sym (by-full goal f k at t m left h e))
+    pub at-full : (r : Searched) → 0 < k → stepTable 128 (f m) t ≡ refused 21 → r ≡ answeredAt at (fullAt (m ∷ replicate left 0) (at + 1))
+        → r ≡ answeredAt at (firstBy goal f k at t left m)
+    at-full r h e q = q ∙ ap (answeredAt at) (sym (by-full goal f k at t m left h e))
 
   -- ---- no move left
   module _ (left : ℕ) (z : left ≡ 0) where

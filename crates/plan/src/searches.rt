@@ -5,21 +5,27 @@ use crate::goals::all_in_goal;
 use crate::packed::move_at;
 use crate::packed::pack;
 use sheet::Answer;
+use sheet::Move;
 use sheet::Sets;
 use sheet::Sheet;
-use table::Table;
 use table::first::first_table;
-use table::steps::advance;
+use table::slots::Grown;
+use table::steps::spread;
+use table::steps::sure;
+use table::steps::unclear;
 ghost use mathlib.Core.Path.{_≡_};
 ghost use mathlib.Core.Bool.{true};
+ghost use mathlib.Core.List.{_∷_};
 ghost use Prim.Native.Nat.{_+_, _≤_, _<_};
-ghost use Rattle.sheet.specs.Lists.{allOf};
-ghost use Rattle.sheet.specs.Decoded.{setsIn, problemIn};
+ghost use lib.ListN.{length, replicate};
+ghost use Rattle.sheet.specs.Decoded.{actionIn, problemIn};
 ghost use Rattle.table.specs.Start.{startTable};
-ghost use Rattle.table.specs.Slots.{entries};
+ghost use Rattle.table.specs.Step.{stepTable};
+ghost use Rattle.table.specs.Slots.{entriesOf};
+ghost use Rattle.table.specs.Calls.{orGiven};
+ghost use Rattle.table.specs.Moves as M;
 ghost use Rattle.table.specs.Moves.{Filled};
-ghost use Rattle.plan.specs.Run.{inGoal};
-ghost use Rattle.plan.specs.Search.{nothing};
+ghost use Rattle.plan.specs.Search.{fullAt, nothing};
 ghost use Rattle.plan.specs.Calls.{refusedSearch, answered, searched};
 ghost use Rattle.plan.specs.Walks as W;
 
@@ -45,6 +51,21 @@ pub fn refused(number: u8, position: usize) -> Searched
     }
 }
 
+// Full at move m: the first of the plans with `left` moves more has move 0 for each.
+pub fn full(at: usize, left: usize, m: usize) -> Searched
+    requires { ⌜ (at + left < 8) × (m < 32) ⌝ }
+    ensures { λ r. ⌜ r ≡ W.answeredAt at (fullAt (m ∷ replicate left 0) (at + 1)) ⌝ }
+{
+    let next = at + 1;
+    let mut plan = [0u8; 8];
+    plan[at] = m as u8;
+    Searched {
+        kind: Kind::Full(next),
+        plan,
+        length: next + left,
+    }
+}
+
 // Some plan ends the search.
 pub fn ended(a: Searched) -> bool
     ensures { λ r. ⌜ r ≡ W.endedBy (a .kind) ⌝ }
@@ -58,30 +79,60 @@ pub fn ended(a: Searched) -> bool
     }
 }
 
-// Every entry of the table is in the goal.
-pub fn arrived(goal: Sets, table: Table) -> bool
-    requires { ⌜ (goal .count ≤ 8) × (table .count ≤ 128) ⌝ }
-    ensures { λ r. ⌜ r ≡ allOf (inGoal (setsIn goal)) (entries table) ⌝ }
+// What a step gave: so many entries in the lent arrays, or the number of a refusal.
+pub enum Taken {
+    To(usize),
+    Refused(u8),
+}
+
+// The step of a lent table by a move, into arrays of zeros.
+pub fn take<'a, 'b>(
+    mv: Move,
+    ts: &'a [u32],
+    fs: &'a [u32],
+    n: usize,
+    us: &'b mut [u32],
+    gs: &'b mut [u32],
+) -> Taken
+    requires { ⌜ M.Steps mv (W.lent n (now ts) (now fs)) ⌝ }
+    requires { ⌜ (n ≤ length (now ts)) × (n ≤ length (now fs)) ⌝ }
+    requires { ⌜ (now us ≡ replicate 128 0) × (now gs ≡ replicate 128 0) ⌝ }
+    ensures { λ r. ⌜ W.tabled (W.lent n (now (ts .entry)) (now (fs .entry))) r (now (us .exit)) (now (gs .exit)) ≡ orGiven (W.lent n (now (ts .entry)) (now (fs .entry))) (stepTable 128 (actionIn mv) (entriesOf n (now (ts .entry)) (now (fs .entry)))) ⌝ }
 {
-    let count = table.count;
-    all_in_goal(goal, &table.trues, &table.falses, count)
+    if !sure(mv.precondition, ts, fs, n) {
+        return Taken::Refused(24);
+    }
+    if unclear(mv, ts, fs, n) {
+        return Taken::Refused(25);
+    }
+    match spread(mv, ts, fs, n, us, gs, 0) {
+        Grown::To(k) => Taken::To(k),
+        Grown::Full => Taken::Refused(21),
+    }
 }
 
 // Said true only of tables with the same entries, in the same order.
-pub fn same(a: Table, b: Table) -> bool
-    requires { ⌜ a .count ≤ 128 ⌝ }
-    ensures { λ r. ⌜ (r ≡ true → entries a ≡ entries b) ⌝ }
+pub fn same<'a, 'b>(
+    us: &'a [u32],
+    gs: &'a [u32],
+    k: usize,
+    ts: &'b [u32],
+    fs: &'b [u32],
+    n: usize,
+) -> bool
+    requires { ⌜ (k ≤ length (now us)) × (k ≤ length (now gs)) ⌝ }
+    requires { ⌜ (n ≤ length (now ts)) × (n ≤ length (now fs)) ⌝ }
+    ensures { λ r. ⌜ (r ≡ true → entriesOf k (now (us .entry)) (now (gs .entry)) ≡ entriesOf n (now (ts .entry)) (now (fs .entry))) ⌝ }
 {
-    let count = a.count;
-    if count != b.count {
+    if k != n {
         return false;
     }
     let mut i: usize = 0;
-    while i < count {
-        if a.trues[i] != b.trues[i] {
+    while i < n {
+        if us[i] != ts[i] {
             return false;
         }
-        if a.falses[i] != b.falses[i] {
+        if gs[i] != fs[i] {
             return false;
         }
         i += 1;
@@ -91,44 +142,40 @@ pub fn same(a: Table, b: Table) -> bool
 
 // The plans with the moves taken so far, move m next and `left` moves more. No shorter plan has an answer, so a move that leaves the
 // table as it was is not followed.
-fn begin(
-    packed: &[u32],
+fn begin<'a, 'b>(
+    packed: &'a [u32],
     moves: usize,
     goal: Sets,
-    table: Table,
+    ts: &'b [u32],
+    fs: &'b [u32],
+    n: usize,
     at: usize,
     left: usize,
     m: usize,
 ) -> Searched
-    requires { ⌜ W.Searchable (now packed) moves goal table ⌝ }
+    requires { ⌜ W.Searchable (now packed) moves goal (W.lent n (now ts) (now fs)) ⌝ }
     requires { ⌜ (at + left < 8) × (m < moves) ⌝ }
-    requires { ⌜ W.Unmet (now packed) moves goal table at (left + 1) ⌝ }
-    ensures { λ r. ⌜ r ≡ W.begun (now (packed .entry)) moves goal table at left m ⌝ }
+    requires { ⌜ W.Unmet (now packed) moves goal (W.lent n (now ts) (now fs)) at (left + 1) ⌝ }
+    ensures { λ r. ⌜ r ≡ W.begun (now (packed .entry)) moves goal (W.lent n (now (ts .entry)) (now (fs .entry))) at left m ⌝ }
 {
-    let step = advance(move_at(packed, m), table);
-    let answer = step.answer;
+    let mut us = [0u32; 128];
+    let mut gs = [0u32; 128];
+    let taken = take(move_at(packed, m), ts, fs, n, &mut us, &mut gs);
     let next = at + 1;
-    match answer {
-        Answer::Accepted => {
-            let after = step.table;
-            if same(after, table) {
+    match taken {
+        Taken::To(k) => {
+            if same(&us, &gs, k, ts, fs, n) {
                 return none();
             }
-            let mut r = walk(packed, moves, goal, after, next, left);
+            let mut r = walk(packed, moves, goal, &us, &gs, k, next, left);
             if ended(r) {
                 r.plan[at] = m as u8;
             }
             r
         }
-        Answer::Refused(number, _) => {
+        Taken::Refused(number) => {
             if number == 21 {
-                let mut plan = [0u8; 8];
-                plan[at] = m as u8;
-                return Searched {
-                    kind: Kind::Full(next),
-                    plan,
-                    length: next + left,
-                };
+                return full(at, left, m);
             }
             none()
         }
@@ -136,14 +183,23 @@ fn begin(
 }
 
 // The plans with the moves taken so far, which led to the table, and `left` moves more, in ascending order.
-fn walk(packed: &[u32], moves: usize, goal: Sets, table: Table, at: usize, left: usize) -> Searched
-    requires { ⌜ W.Searchable (now packed) moves goal table ⌝ }
+fn walk<'a, 'b>(
+    packed: &'a [u32],
+    moves: usize,
+    goal: Sets,
+    ts: &'b [u32],
+    fs: &'b [u32],
+    n: usize,
+    at: usize,
+    left: usize,
+) -> Searched
+    requires { ⌜ W.Searchable (now packed) moves goal (W.lent n (now ts) (now fs)) ⌝ }
     requires { ⌜ at + left ≤ 8 ⌝ }
-    requires { ⌜ W.Unmet (now packed) moves goal table at left ⌝ }
-    ensures { λ r. ⌜ r ≡ W.walked (now (packed .entry)) moves goal table at left ⌝ }
+    requires { ⌜ W.Unmet (now packed) moves goal (W.lent n (now ts) (now fs)) at left ⌝ }
+    ensures { λ r. ⌜ r ≡ W.walked (now (packed .entry)) moves goal (W.lent n (now (ts .entry)) (now (fs .entry))) at left ⌝ }
 {
     if left == 0 {
-        if arrived(goal, table) {
+        if all_in_goal(goal, ts, fs, n) {
             return Searched {
                 kind: Kind::Reached,
                 plan: [0u8; 8],
@@ -155,7 +211,7 @@ fn walk(packed: &[u32], moves: usize, goal: Sets, table: Table, at: usize, left:
     let fewer = left - 1;
     let mut m: usize = 0;
     while m < moves {
-        let r = begin(packed, moves, goal, table, at, fewer, m);
+        let r = begin(packed, moves, goal, ts, fs, n, at, fewer, m);
         if ended(r) {
             return r;
         }
@@ -165,14 +221,22 @@ fn walk(packed: &[u32], moves: usize, goal: Sets, table: Table, at: usize, left:
 }
 
 // Plans of at most `limit` moves, shorter first.
-pub fn lengths(packed: &[u32], moves: usize, goal: Sets, table: Table, limit: usize) -> Searched
-    requires { ⌜ W.Searchable (now packed) moves goal table ⌝ }
+pub fn lengths<'a, 'b>(
+    packed: &'a [u32],
+    moves: usize,
+    goal: Sets,
+    ts: &'b [u32],
+    fs: &'b [u32],
+    n: usize,
+    limit: usize,
+) -> Searched
+    requires { ⌜ W.Searchable (now packed) moves goal (W.lent n (now ts) (now fs)) ⌝ }
     requires { ⌜ limit ≤ 8 ⌝ }
-    ensures { λ r. ⌜ r ≡ W.searchedBy (now (packed .entry)) moves goal table limit ⌝ }
+    ensures { λ r. ⌜ r ≡ W.searchedBy (now (packed .entry)) moves goal (W.lent n (now (ts .entry)) (now (fs .entry))) limit ⌝ }
 {
     let mut length: usize = 0;
     while length <= limit {
-        let r = walk(packed, moves, goal, table, 0, length);
+        let r = walk(packed, moves, goal, ts, fs, n, 0, length);
         if ended(r) {
             return r;
         }
@@ -192,7 +256,16 @@ pub fn search_sheet(sheet: Sheet, limit: usize) -> Searched
     match answer {
         Answer::Accepted => {
             let packed = pack(sheet.moves);
-            lengths(&packed, sheet.moves.count, sheet.goal, start.table, limit)
+            let table = start.table;
+            lengths(
+                &packed,
+                sheet.moves.count,
+                sheet.goal,
+                &table.trues,
+                &table.falses,
+                table.count,
+                limit,
+            )
         }
         Answer::Refused(number, _) => refused(number, 0),
     }

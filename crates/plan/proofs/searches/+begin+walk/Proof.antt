@@ -6,12 +6,12 @@ use native.Mathlib.Omega.{arith}
 use borrow.Author.Needs.{needs}
 use denote.Ref.{now}
 use Rattle.sheet.specs.Decoded.{setsIn}
-use Rattle.table.specs.Slots.{entries}
+use Rattle.table.specs.Slots.{entriesOf, entries}
 use Rattle.plan.specs.Search.{nothing}
 use Rattle.plan.specs.Walks.{firstBy, actionOf}
 use Rattle.plan.proofs.FirstAnswers.{firstBelow}
 use Rattle.plan.proofs.Walking.{at-goal, at-short, not-yet, found-now, none-at-all}
-use Rattle.plan.proofs.Beginning.{can-step, ready-after, unmet-after, begun-same, begun-ended, begun-not, begun-full, begun-stopped}
+use Rattle.plan.proofs.Beginning.{slots-room, can-step, ready-after, unmet-after, begun-same, begun-ended, begun-not, begun-full, begun-stopped}
 use Prim.Native.Nat.{ℕ, _<_}
 use borrow.Fn.Kinds.{In}
 use borrow.Fn.PlainCycle.{Measures, is, falls, and}
@@ -21,39 +21,40 @@ use Rattle.plan.proofs.searches.+begin+walk.Lts-begin as begin-lts
 use Rattle.plan.proofs.searches.walk.Reads as walk
 use Rattle.plan.proofs.searches.walk.Kinds as walk-kinds
 use Rattle.plan.proofs.searches.+begin+walk.Lts-walk as walk-lts
+use Rattle.plan.proofs.goals.all_in_goal.Reads as all-in-goal-reads
 use Rattle.plan.proofs.packed.move_at.Reads as move-at-reads
-use Rattle.plan.proofs.searches.arrived.Reads as arrived-reads
 use Rattle.plan.proofs.searches.ended.Reads as ended-reads
+use Rattle.plan.proofs.searches.full.Reads as full-reads
 use Rattle.plan.proofs.searches.none.Reads as none-reads
 use Rattle.plan.proofs.searches.same.Reads as same-reads
-use Rattle.table.proofs.steps.advance.Reads as advance-reads
+use Rattle.plan.proofs.searches.take.Reads as take-reads
 use Rattle.plan.proofs.searches.+begin+walk.{statement}
 use Rattle.plan.proofs.searches.+begin+walk.Tie.{close}
 
-abbrev μ-begin : Measures 1 begin-kinds.ps ℕ
-μ-begin κs a = 2 * (a .1 .1 .1 .1 .1 .0) + 1
+abbrev μ-begin : Measures 2 begin-kinds.ps ℕ
+μ-begin κs a = 2 * (a .1 .1 .1 .1 .1 .1 .1 .0) + 1
 
-abbrev μ-walk : Measures 1 walk-kinds.ps ℕ
-μ-walk κs a = 2 * (a .1 .1 .1 .1 .1 .0)
+abbrev μ-walk : Measures 2 walk-kinds.ps ℕ
+μ-walk κs a = 2 * (a .1 .1 .1 .1 .1 .1 .1 .0)
 
-abbrev begin-at : ℕ → In 1 begin-kinds.ps
-begin-at t = and 1 begin-kinds.ps (is 1 begin-kinds.ps μ-begin t) begin.Pre
+abbrev begin-at : ℕ → In 2 begin-kinds.ps
+begin-at t = and 2 begin-kinds.ps (is 2 begin-kinds.ps μ-begin t) begin.Pre
 
-abbrev begin-below : ℕ → In 1 begin-kinds.ps
-begin-below t = and 1 begin-kinds.ps (falls 1 begin-kinds.ps _<_ μ-begin t) begin.Pre
+abbrev begin-below : ℕ → In 2 begin-kinds.ps
+begin-below t = and 2 begin-kinds.ps (falls 2 begin-kinds.ps _<_ μ-begin t) begin.Pre
 
-abbrev walk-at : ℕ → In 1 walk-kinds.ps
-walk-at t = and 1 walk-kinds.ps (is 1 walk-kinds.ps μ-walk t) walk.Pre
+abbrev walk-at : ℕ → In 2 walk-kinds.ps
+walk-at t = and 2 walk-kinds.ps (is 2 walk-kinds.ps μ-walk t) walk.Pre
 
-abbrev walk-below : ℕ → In 1 walk-kinds.ps
-walk-below t = and 1 walk-kinds.ps (falls 1 walk-kinds.ps _<_ μ-walk t) walk.Pre
+abbrev walk-below : ℕ → In 2 walk-kinds.ps
+walk-below t = and 2 walk-kinds.ps (falls 2 walk-kinds.ps _<_ μ-walk t) walk.Pre
 
 abbrev begin-claims : ℕ → begin-lts.Claims
 begin-claims t = (
   move-at-reads.Asked,
   move-at-reads.Learnt,
-  advance-reads.Asked,
-  advance-reads.Learnt,
+  take-reads.Asked,
+  take-reads.Learnt,
   same-reads.Asked,
   same-reads.Learnt,
   none-reads.Asked,
@@ -62,12 +63,14 @@ begin-claims t = (
   walk.Post,
   ended-reads.Asked,
   ended-reads.Learnt,
+  full-reads.Asked,
+  full-reads.Learnt,
 )
 
 abbrev walk-claims : ℕ → walk-lts.Claims
 walk-claims t = (
-  arrived-reads.Asked,
-  arrived-reads.Learnt,
+  all-in-goal-reads.Asked,
+  all-in-goal-reads.Learnt,
   none-reads.Asked,
   none-reads.Learnt,
   begin-below t,
@@ -79,109 +82,130 @@ walk-claims t = (
 begin-move-at-requires : (t : ℕ) → begin-lts.Need-move-at-requires (begin-claims t) (begin-at t) begin.Post
 begin-move-at-requires t c κs = search needs
 
-begin-advance-requires : (t : ℕ) → begin-lts.Need-advance-requires (begin-claims t) (begin-at t) begin.Post
-begin-advance-requires t c κs =
-    let z = c .before .before in
+begin-slice-aggregate-take : (t : ℕ) → begin-lts.Need-slice-aggregate-take (begin-claims t) (begin-at t) begin.Post
+begin-slice-aggregate-take t c = search needs
+
+begin-slice-aggregate-take-2 : (t : ℕ) → begin-lts.Need-slice-aggregate-take-2 (begin-claims t) (begin-at t) begin.Post
+begin-slice-aggregate-take-2 t c = search needs
+
+begin-take-requires : (t : ℕ) → begin-lts.Need-take-requires (begin-claims t) (begin-at t) begin.Post
+begin-take-requires t c κs =
+    let z = c .before .before .before .before .before .before in
     let s = z .args in
-    can-step (now (s .packed)) (s .moves) (s .goal) (s .table) (z .pre .1 .0) (s .m) (z .pre .1 .1 .0 .1) _ (c .move-at .ensures)
+    (can-step (z .pre .1 .0) (z .pre .1 .1 .0 .1) (c .before .before .move-at .ensures), (slots-room (z .pre .1 .0), (refl, refl)))
 
 begin-add-next : (t : ℕ) → begin-lts.Need-add-next (begin-claims t) (begin-at t) begin.Post
 begin-add-next t c = search needs
 
-begin-enum-told : (t : ℕ) → begin-lts.Need-enum-told (begin-claims t) (begin-at t) begin.Post
-begin-enum-told t c = search needs
+begin-enum-known-taken : (t : ℕ) → begin-lts.Need-enum-known-taken (begin-claims t) (begin-at t) begin.Post
+begin-enum-known-taken t c = search needs
+
+begin-slice-aggregate-same : (t : ℕ) → begin-lts.Need-slice-aggregate-same (begin-claims t) (begin-at t) begin.Post
+begin-slice-aggregate-same t c = search needs
+
+begin-slice-aggregate-same-2 : (t : ℕ) → begin-lts.Need-slice-aggregate-same-2 (begin-claims t) (begin-at t) begin.Post
+begin-slice-aggregate-same-2 t c = search needs
 
 begin-same-requires : (t : ℕ) → begin-lts.Need-same-requires (begin-claims t) (begin-at t) begin.Post
 begin-same-requires t c κs =
-    let z = c .before .before .before .before .before .before in
+    let z = c .before .before .before .before .before .before .before .before .before .before .before .before .before .before in
     let s = z .args in
-    ready-after (now (s .packed)) (s .moves) (s .goal) (s .table) (z .pre .1 .0) (s .m) (z .pre .1 .1 .0 .1) _ (c .before .before .before .before .move-at .ensures) _ (c .before .before .before .advance .ensures) (c .before .enum-told .given .1) .entries-most
+    (slots-room (ready-after (z .pre .1 .0) (z .pre .1 .1 .0 .1) (c .before .before .before .before .before .before .before .before .before .before .move-at .ensures) _ _ _ (c .before .before .before .before .before .before .before .take .ensures) (c .before .before .before .taken .given .1)), slots-room (z .pre .1 .0))
 
 begin-none-requires : (t : ℕ) → begin-lts.Need-none-requires (begin-claims t) (begin-at t) begin.Post
 begin-none-requires t c κs = search needs
 
 begin-returns : (t : ℕ) → begin-lts.Need-returns (begin-claims t) (begin-at t) begin.Post
 begin-returns t c =
-    let z = c .before .before .before .before .before .before .before .before .before in
+    let z = c .before .before .before .before .before .before .before .before .before .before .before .before .before .before .before .before .before in
     let s = z .args in
-    begun-same (now (s .packed)) (s .moves) (s .goal) (s .table) (z .pre .1 .0) (s .m) (z .pre .1 .1 .0 .1) _ (c .before .before .before .before .before .before .before .move-at .ensures) _ (c .before .before .before .before .before .before .advance .ensures) (s .at) (s .left) (c .before .before .before .before .enum-told .given .1) (z .pre .1 .1 .1) (c .before .before .same .ensures (c .before .if1 .taken)) _ (c .none .ensures)
+    begun-same (z .pre .1 .0) (z .pre .1 .1 .0 .1) (c .before .before .before .before .before .before .before .before .before .before .before .before .before .move-at .ensures) _ _ _ (c .before .before .before .before .before .before .before .before .before .before .take .ensures) (c .before .before .before .before .before .before .taken .given .1) (s .at) (s .left) (z .pre .1 .1 .1) (c .before .before .same .ensures (c .before .if1 .taken)) (c .none .ensures)
+
+begin-slice-aggregate-walk : (t : ℕ) → begin-lts.Need-slice-aggregate-walk (begin-claims t) (begin-at t) begin.Post
+begin-slice-aggregate-walk t c = search needs
+
+begin-slice-aggregate-walk-2 : (t : ℕ) → begin-lts.Need-slice-aggregate-walk-2 (begin-claims t) (begin-at t) begin.Post
+begin-slice-aggregate-walk-2 t c = search needs
 
 begin-walk-requires : (t : ℕ) → begin-lts.Need-walk-requires (begin-claims t) (begin-at t) begin.Post
 begin-walk-requires t c κs =
-    let z = c .before .before .before .before .before .before .before .before in
+    let z = c .before .before .before .before .before .before .before .before .before .before .before .before .before .before .before .before .before .before in
     let s = z .args in
-    (omega arith, (ready-after (now (s .packed)) (s .moves) (s .goal) (s .table) (z .pre .1 .0) (s .m) (z .pre .1 .1 .0 .1) _ (c .before .before .before .before .before .before .move-at .ensures) _ (c .before .before .before .before .before .advance .ensures) (c .before .before .before .enum-told .given .1), (omega arith, unmet-after (now (s .packed)) (s .moves) (s .goal) (s .table) (z .pre .1 .0) (s .m) (z .pre .1 .1 .0 .1) _ (c .before .before .before .before .before .before .move-at .ensures) _ (c .before .before .before .before .before .advance .ensures) (s .at) (s .left) (c .before .before .before .enum-told .given .1) (z .pre .1 .1 .1))))
+    (omega arith, (ready-after (z .pre .1 .0) (z .pre .1 .1 .0 .1) (c .before .before .before .before .before .before .before .before .before .before .before .before .before .before .move-at .ensures) _ _ _ (c .before .before .before .before .before .before .before .before .before .before .before .take .ensures) (c .before .before .before .before .before .before .before .taken .given .1), (omega (arith, z .pre .1 .1 .0 .0), unmet-after (z .pre .1 .0) (z .pre .1 .1 .0 .1) (c .before .before .before .before .before .before .before .before .before .before .before .before .before .before .move-at .ensures) _ _ _ (c .before .before .before .before .before .before .before .before .before .before .before .take .ensures) (c .before .before .before .before .before .before .before .taken .given .1) (s .at) (s .left) (z .pre .1 .1 .1))))
 
 begin-ended-requires : (t : ℕ) → begin-lts.Need-ended-requires (begin-claims t) (begin-at t) begin.Post
 begin-ended-requires t c κs = search needs
 
 begin-cast-r : (t : ℕ) → begin-lts.Need-cast-r (begin-claims t) (begin-at t) begin.Post
-begin-cast-r t c = search needs
+begin-cast-r t c =
+    let z = c .before .before .before .before .before .before .before .before .before .before .before .before .before .before .before .before .before .before .before .before .before in
+    omega (arith, z .pre .1 .1 .0 .1, z .pre .1 .0 .most)
 
 begin-element-write-r : (t : ℕ) → begin-lts.Need-element-write-r (begin-claims t) (begin-at t) begin.Post
-begin-element-write-r t c = search needs
+begin-element-write-r t c =
+    let z = c .before .before .before .before .before .before .before .before .before .before .before .before .before .before .before .before .before .before .before .before .before in
+    omega (arith, z .pre .1 .1 .0 .0)
 
-begin-enum-known-answer : (t : ℕ) → begin-lts.Need-enum-known-answer (begin-claims t) (begin-at t) begin.Post
-begin-enum-known-answer t c = search needs
+begin-enum-known-taken-2 : (t : ℕ) → begin-lts.Need-enum-known-taken-2 (begin-claims t) (begin-at t) begin.Post
+begin-enum-known-taken-2 t c = search needs
 
-begin-cast-plan : (t : ℕ) → begin-lts.Need-cast-plan (begin-claims t) (begin-at t) begin.Post
-begin-cast-plan t c = search needs
-
-begin-array-write-plan : (t : ℕ) → begin-lts.Need-array-write-plan (begin-claims t) (begin-at t) begin.Post
-begin-array-write-plan t c = search needs
-
-begin-add-t29 : (t : ℕ) → begin-lts.Need-add-t29 (begin-claims t) (begin-at t) begin.Post
-begin-add-t29 t c = search needs
+begin-full-requires : (t : ℕ) → begin-lts.Need-full-requires (begin-claims t) (begin-at t) begin.Post
+begin-full-requires t c κs = let z = c .before .before .before .before .before .before .before .before .before .before .before .before .before in (z .pre .1 .1 .0 .0, omega (arith, z .pre .1 .1 .0 .1, z .pre .1 .0 .most))
 
 begin-returns-2 : (t : ℕ) → begin-lts.Need-returns-2 (begin-claims t) (begin-at t) begin.Post
 begin-returns-2 t c =
-    let z = c .before .before .before .before .before .before .before in
+    let z = c .before .before .before .before .before .before .before .before .before .before .before .before .before .before in
     let s = z .args in
-    begun-full (now (s .packed)) (s .moves) (s .goal) (s .table) (z .pre .1 .0) (s .m) (z .pre .1 .1 .0 .1) _ (c .before .before .before .before .before .move-at .ensures) _ (c .before .before .before .before .advance .ensures) (s .at) (s .left) _ _ (c .before .before .answer .given .1) (c .if3 .taken)
+    begun-full (z .pre .1 .0) (z .pre .1 .1 .0 .1) (c .before .before .before .before .before .before .before .before .before .before .move-at .ensures) _ _ _ (c .before .before .before .before .before .before .before .take .ensures) (c .before .before .before .taken2 .given .1) (s .at) (s .left) (c .before .if3 .taken) (c .full .ensures)
 
 begin-none-requires-2 : (t : ℕ) → begin-lts.Need-none-requires-2 (begin-claims t) (begin-at t) begin.Post
 begin-none-requires-2 t c κs = search needs
 
 begin-returns-3 : (t : ℕ) → begin-lts.Need-returns-3 (begin-claims t) (begin-at t) begin.Post
 begin-returns-3 t c =
-    let z = c .before .before .before .before .before .before .before .before .before .before .before in
+    let z = c .before .before .before .before .before .before .before .before .before .before .before .before .before .before .before .before .before .before .before .before .before in
     let s = z .args in
-    begun-ended (now (s .packed)) (s .moves) (s .goal) (s .table) (z .pre .1 .0) (s .m) (z .pre .1 .1 .0 .1) _ (c .before .before .before .before .before .before .before .before .before .move-at .ensures) _ (c .before .before .before .before .before .before .before .before .advance .ensures) (s .at) (s .left) (c .before .before .before .before .before .before .enum-told .given .1) _ (c .before .before .walk .ensures) (sym (c .before .ended .ensures) ∙ c .if2 .taken)
+    begun-ended (z .pre .1 .0) (z .pre .1 .1 .0 .1) (c .before .before .before .before .before .before .before .before .before .before .before .before .before .before .before .before .before .move-at .ensures) _ _ _ (c .before .before .before .before .before .before .before .before .before .before .before .before .before .before .take .ensures) (c .before .before .before .before .before .before .before .before .before .before .taken .given .1) (s .at) (s .left) (c .before .before .walk .ensures) (sym (c .before .ended .ensures) ∙ c .if2 .taken)
 
 begin-returns-4 : (t : ℕ) → begin-lts.Need-returns-4 (begin-claims t) (begin-at t) begin.Post
 begin-returns-4 t c =
-    let z = c .before .before .before .before .before .before .before .before .before .before .before in
+    let z = c .before .before .before .before .before .before .before .before .before .before .before .before .before .before .before .before .before .before .before .before .before in
     let s = z .args in
-    begun-not (now (s .packed)) (s .moves) (s .goal) (s .table) (z .pre .1 .0) (s .m) (z .pre .1 .1 .0 .1) _ (c .before .before .before .before .before .before .before .before .before .move-at .ensures) _ (c .before .before .before .before .before .before .before .before .advance .ensures) (s .at) (s .left) (c .before .before .before .before .before .before .enum-told .given .1) _ (c .before .before .walk .ensures) (sym (c .before .ended .ensures) ∙ c .if2 .left)
+    begun-not (z .pre .1 .0) (z .pre .1 .1 .0 .1) (c .before .before .before .before .before .before .before .before .before .before .before .before .before .before .before .before .before .move-at .ensures) _ _ _ (c .before .before .before .before .before .before .before .before .before .before .before .before .before .before .take .ensures) (c .before .before .before .before .before .before .before .before .before .before .taken .given .1) (s .at) (s .left) (c .before .before .walk .ensures) (sym (c .before .ended .ensures) ∙ c .if2 .left)
 
 begin-returns-5 : (t : ℕ) → begin-lts.Need-returns-5 (begin-claims t) (begin-at t) begin.Post
 begin-returns-5 t c =
-    let z = c .before .before .before .before .before .before .before .before in
+    let z = c .before .before .before .before .before .before .before .before .before .before .before .before .before .before in
     let s = z .args in
-    begun-stopped (now (s .packed)) (s .moves) (s .goal) (s .table) (z .pre .1 .0) (s .m) (z .pre .1 .1 .0 .1) _ (c .before .before .before .before .before .before .move-at .ensures) _ (c .before .before .before .before .before .advance .ensures) (s .at) (s .left) _ _ (c .before .before .before .answer .given .1) (c .before .if3 .left) _ (c .none2 .ensures)
+    begun-stopped (z .pre .1 .0) (z .pre .1 .1 .0 .1) (c .before .before .before .before .before .before .before .before .before .before .move-at .ensures) _ _ _ (c .before .before .before .before .before .before .before .take .ensures) (c .before .before .before .taken2 .given .1) (s .at) (s .left) (c .before .if3 .left) (c .none2 .ensures)
 
 abbrev walk-Inv-loop : walk-lts.InvT-loop
-walk-Inv-loop packed moves goal table at left fewer m₀ m =
-    (firstBelow (firstBy (setsIn goal) (actionOf packed) moves at (entries table) fewer) m ≡ nothing) × (m ≤ moves)
+walk-Inv-loop packed moves goal ts fs n at left fewer m₀ m =
+    (firstBelow (firstBy (setsIn goal) (actionOf packed) moves at (entriesOf n ts fs) fewer) m ≡ nothing) × (m ≤ moves)
 
 abbrev walk-μ-loop : walk-lts.MeasureT-loop
-walk-μ-loop packed moves goal table at left fewer m₀ m = moves - m
+walk-μ-loop packed moves goal ts fs n at left fewer m₀ m = moves - m
 
-walk-arrived-requires : (t : ℕ) → walk-lts.Need-arrived-requires (walk-claims t) (walk-at t) walk.Post walk-Inv-loop walk-μ-loop
-walk-arrived-requires t c κs = search needs
+walk-all-in-goal-requires : (t : ℕ) → walk-lts.Need-all-in-goal-requires (walk-claims t) (walk-at t) walk.Post walk-Inv-loop walk-μ-loop
+walk-all-in-goal-requires t c κs =
+    let z = c .before .before .before .before in
+    let s = z .args in
+    (z .pre .1 .0 .goal-most, slots-room (z .pre .1 .0))
 
 walk-returns : (t : ℕ) → walk-lts.Need-returns (walk-claims t) (walk-at t) walk.Post walk-Inv-loop walk-μ-loop
+unfolding entries
 walk-returns t c =
-    let s = c .before .before .before .before .args in
-    at-goal (setsIn (s .goal)) (actionOf (now (s .packed))) (s .moves) (s .at) (entries (s .table)) (s .left) (c .before .before .if1 .taken) (sym (c .before .arrived .ensures) ∙ c .if2 .taken)
+    let s = c .before .before .before .before .before .before .args in
+    at-goal (setsIn (s .goal)) (actionOf (now (s .packed))) (s .moves) (s .at) (entriesOf (s .n) (now (s .ts)) (now (s .fs))) (s .left) (c .before .before .if1 .taken) (sym (c .before .all-in-goal .ensures) ∙ c .if2 .taken)
 
 walk-none-requires : (t : ℕ) → walk-lts.Need-none-requires (walk-claims t) (walk-at t) walk.Post walk-Inv-loop walk-μ-loop
 walk-none-requires t c κs = search needs
 
 walk-returns-2 : (t : ℕ) → walk-lts.Need-returns-2 (walk-claims t) (walk-at t) walk.Post walk-Inv-loop walk-μ-loop
+unfolding entries
 walk-returns-2 t c =
-    let s = c .before .before .before .before .before .args in
-    at-short (setsIn (s .goal)) (actionOf (now (s .packed))) (s .moves) (s .at) (entries (s .table)) (s .left) (c .before .before .before .if1 .taken) _ (sym (c .before .before .arrived .ensures) ∙ c .before .if2 .left) (c .none .ensures)
+    let s = c .before .before .before .before .before .before .before .args in
+    at-short (setsIn (s .goal)) (actionOf (now (s .packed))) (s .moves) (s .at) (entriesOf (s .n) (now (s .ts)) (now (s .fs))) (s .left) (c .before .before .before .if1 .taken) _ (sym (c .before .before .all-in-goal .ensures) ∙ c .before .if2 .left) (c .none .ensures)
 
 walk-sub-fewer : (t : ℕ) → walk-lts.Need-sub-fewer (walk-claims t) (walk-at t) walk.Post walk-Inv-loop walk-μ-loop
 walk-sub-fewer t c = search needs
@@ -191,16 +215,17 @@ walk-loop-holds t c = (refl, omega arith)
 
 walk-begin-requires : (t : ℕ) → walk-lts.Need-begin-requires (walk-claims t) (walk-at t) walk.Post walk-Inv-loop walk-μ-loop
 walk-begin-requires t c κs =
-    let z = c .before .before .before .before in
+    let z = c .before .before .before .before .before .before in
     (omega arith, (z .pre .1 .0, ((omega arith, omega arith), λ q i l. z .pre .1 .1 .1 q i (omega arith))))
 
 walk-ended-requires : (t : ℕ) → walk-lts.Need-ended-requires (walk-claims t) (walk-at t) walk.Post walk-Inv-loop walk-μ-loop
 walk-ended-requires t c κs = search needs
 
 walk-returns-3 : (t : ℕ) → walk-lts.Need-returns-3 (walk-claims t) (walk-at t) walk.Post walk-Inv-loop walk-μ-loop
+unfolding entries
 walk-returns-3 t c =
-    let s = c .before .before .before .before .before .before .before .args in
-    found-now (setsIn (s .goal)) (actionOf (now (s .packed))) (s .moves) (s .at) (entries (s .table)) (s .left - 1) (c .before .before .before .before .loop .m) _ (c .before .before .before .before .loop .inv .0) (s .left) (omega arith) (c .before .before .before .loop-test .taken) (c .before .before .begin .ensures) (sym (c .before .ended .ensures) ∙ c .if3 .taken)
+    let s = c .before .before .before .before .before .before .before .before .before .args in
+    found-now (setsIn (s .goal)) (actionOf (now (s .packed))) (s .moves) (s .at) (entriesOf (s .n) (now (s .ts)) (now (s .fs))) (s .left - 1) (c .before .before .before .before .loop .m) _ (c .before .before .before .before .loop .inv .0) (s .left) (omega arith) (c .before .before .before .loop-test .taken) (c .before .before .begin .ensures) (sym (c .before .ended .ensures) ∙ c .if3 .taken)
 
 walk-add-m : (t : ℕ) → walk-lts.Need-add-m (walk-claims t) (walk-at t) walk.Post walk-Inv-loop walk-μ-loop
 walk-add-m t c = search needs
@@ -209,37 +234,43 @@ walk-loop-less : (t : ℕ) → walk-lts.Need-loop-less (walk-claims t) (walk-at 
 walk-loop-less t c = search needs
 
 walk-loop-again : (t : ℕ) → walk-lts.Need-loop-again (walk-claims t) (walk-at t) walk.Post walk-Inv-loop walk-μ-loop
+unfolding entries
 walk-loop-again t c =
-    let s = c .before .before .before .before .before .before .before .args in
-    (not-yet (setsIn (s .goal)) (actionOf (now (s .packed))) (s .moves) (s .at) (entries (s .table)) (s .left - 1) (c .before .before .before .before .loop .m) _ (c .before .before .before .before .loop .inv .0) (c .before .before .begin .ensures) (sym (c .before .ended .ensures) ∙ c .if3 .left), omega arith)
+    let s = c .before .before .before .before .before .before .before .before .before .args in
+    (not-yet (setsIn (s .goal)) (actionOf (now (s .packed))) (s .moves) (s .at) (entriesOf (s .n) (now (s .ts)) (now (s .fs))) (s .left - 1) (c .before .before .before .before .loop .m) _ (c .before .before .before .before .loop .inv .0) (c .before .before .begin .ensures) (sym (c .before .ended .ensures) ∙ c .if3 .left), omega arith)
 
 walk-none-requires-2 : (t : ℕ) → walk-lts.Need-none-requires-2 (walk-claims t) (walk-at t) walk.Post walk-Inv-loop walk-μ-loop
 walk-none-requires-2 t c κs = search needs
 
 walk-returns-4 : (t : ℕ) → walk-lts.Need-returns-4 (walk-claims t) (walk-at t) walk.Post walk-Inv-loop walk-μ-loop
+unfolding entries
 walk-returns-4 t c =
-    let s = c .before .before .before .before .before .args in
-    none-at-all (setsIn (s .goal)) (actionOf (now (s .packed))) (s .moves) (s .at) (entries (s .table)) (s .left - 1) (c .before .before .loop .m) _ (c .before .before .loop .inv .0) (s .left) (omega arith) (omega arith) (c .none2 .ensures)
+    let s = c .before .before .before .before .before .before .before .args in
+    none-at-all (setsIn (s .goal)) (actionOf (now (s .packed))) (s .moves) (s .at) (entriesOf (s .n) (now (s .ts)) (now (s .fs))) (s .left - 1) (c .before .before .loop .m) _ (c .before .before .loop .inv .0) (s .left) (omega arith) (omega arith) (c .none2 .ensures)
 
 pub +begin+walk-spec : {M : Type 1} → statement M
 +begin+walk-spec = close μ-begin μ-walk (λ t. begin-lts.spec (begin-claims t)
     (begin-at t)
     begin.Post
     (begin-move-at-requires t)
-    (begin-advance-requires t)
+    (begin-slice-aggregate-take t)
+    (begin-slice-aggregate-take-2 t)
+    (begin-take-requires t)
     (begin-add-next t)
-    (begin-enum-told t)
+    (begin-enum-known-taken t)
+    (begin-slice-aggregate-same t)
+    (begin-slice-aggregate-same-2 t)
     (begin-same-requires t)
     (begin-none-requires t)
     (begin-returns t)
+    (begin-slice-aggregate-walk t)
+    (begin-slice-aggregate-walk-2 t)
     (begin-walk-requires t)
     (begin-ended-requires t)
     (begin-cast-r t)
     (begin-element-write-r t)
-    (begin-enum-known-answer t)
-    (begin-cast-plan t)
-    (begin-array-write-plan t)
-    (begin-add-t29 t)
+    (begin-enum-known-taken-2 t)
+    (begin-full-requires t)
     (begin-returns-2 t)
     (begin-none-requires-2 t)
     (begin-returns-3 t)
@@ -250,7 +281,7 @@ pub +begin+walk-spec : {M : Type 1} → statement M
     walk.Post
     walk-Inv-loop
     walk-μ-loop
-    (walk-arrived-requires t)
+    (walk-all-in-goal-requires t)
     (walk-returns t)
     (walk-none-requires t)
     (walk-returns-2 t)

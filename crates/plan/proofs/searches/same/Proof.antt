@@ -6,17 +6,17 @@ use native.Mathlib.Nat.{not-suc-le-zero}
 use native.Mathlib.Omega.{arith}
 use borrow.Author.Needs.{needs}
 use borrow.Author.Count.{below-more}
+use denote.Ref.{now}
 use lib.ListN.{getD}
-use Rattle.table.specs.Slots.{entries}
 use Rattle.plan.proofs.Pruning.{Agree, agree-entries}
 use Rattle.plan.proofs.searches.same.Statement.{statement}
 use Rattle.plan.proofs.searches.same.Tie as tie
 
 abbrev Inv-loop : tie.InvT-loop
-Inv-loop a b count i₀ i = (i ≤ count) × Agree (a .trues) (b .trues) i × Agree (a .falses) (b .falses) i
+Inv-loop us gs k ts fs n i₀ i = (i ≤ n) × Agree us ts i × Agree gs fs i
 
 abbrev μ-loop : tie.MeasureT-loop
-μ-loop a b count i₀ i = count - i
+μ-loop us gs k ts fs n i₀ i = n - i
 
 returns : tie.Need-returns Inv-loop μ-loop
 returns c = λ e. absurd (true≢false (sym e))
@@ -27,14 +27,14 @@ loop-holds c = (omega arith, λ k l. absurd (not-suc-le-zero l), λ k l. absurd 
 mul-if2 : tie.Need-mul-if2 Inv-loop μ-loop
 mul-if2 c = search needs
 
-element-copy-out-if2 : tie.Need-element-copy-out-if2 Inv-loop μ-loop
-element-copy-out-if2 c = search needs
+shared-slice-read-if2 : tie.Need-shared-slice-read-if2 Inv-loop μ-loop
+shared-slice-read-if2 c = search needs
 
 mul-if2-2 : tie.Need-mul-if2-2 Inv-loop μ-loop
 mul-if2-2 c = search needs
 
-element-copy-out-if2-2 : tie.Need-element-copy-out-if2-2 Inv-loop μ-loop
-element-copy-out-if2-2 c = search needs
+shared-slice-read-if2-2 : tie.Need-shared-slice-read-if2-2 Inv-loop μ-loop
+shared-slice-read-if2-2 c = search needs
 
 returns-2 : tie.Need-returns-2 Inv-loop μ-loop
 returns-2 c = λ e. absurd (true≢false (sym e))
@@ -42,14 +42,14 @@ returns-2 c = λ e. absurd (true≢false (sym e))
 mul-if3 : tie.Need-mul-if3 Inv-loop μ-loop
 mul-if3 c = search needs
 
-element-copy-out-if3 : tie.Need-element-copy-out-if3 Inv-loop μ-loop
-element-copy-out-if3 c = search needs
+shared-slice-read-if3 : tie.Need-shared-slice-read-if3 Inv-loop μ-loop
+shared-slice-read-if3 c = search needs
 
 mul-if3-2 : tie.Need-mul-if3-2 Inv-loop μ-loop
 mul-if3-2 c = search needs
 
-element-copy-out-if3-2 : tie.Need-element-copy-out-if3-2 Inv-loop μ-loop
-element-copy-out-if3-2 c = search needs
+shared-slice-read-if3-2 : tie.Need-shared-slice-read-if3-2 Inv-loop μ-loop
+shared-slice-read-if3-2 c = search needs
 
 returns-3 : tie.Need-returns-3 Inv-loop μ-loop
 returns-3 c = λ e. absurd (true≢false (sym e))
@@ -65,18 +65,17 @@ loop-again c =
     let v = c .before .before .before .before .before .before .before .loop in
     let s = c .before .before .before .before .before .before .before .before .before .args in (
       omega arith,
-      below-more (λ k. getD (s .t1 .trues) k 0 ≡ getD (s .t2 .trues) k 0) (v .i) (v .inv .1) (c .before .before .before .if2 .left),
-      below-more (λ k. getD (s .t1 .falses) k 0 ≡ getD (s .t2 .falses) k 0) (v .i) (v .inv .2) (c .if3 .left),
+      below-more (λ k. getD (now (s .us)) k 0 ≡ getD (now (s .ts)) k 0) (v .i) (v .inv .1) (c .before .before .before .if2 .left),
+      below-more (λ k. getD (now (s .gs)) k 0 ≡ getD (now (s .fs)) k 0) (v .i) (v .inv .2) (c .if3 .left),
     )
 
 returns-4 : tie.Need-returns-4 Inv-loop μ-loop
-unfolding entries
 returns-4 c = λ _.
     let s = c .before .before .before .args in
     let v = c .before .loop in
-    let i : v .i ≡ s .t1 .count = omega (arith, v .inv .0, c .loop-test .left) in
-    agree-entries (s .t1 .count) (s .t2 .count) (s .t1 .trues) (s .t1 .falses) (s .t2 .trues) (s .t2 .falses) (c .before .before .if1 .left)
-    (λ k l. v .inv .1 k (omega arith)) (λ k l. v .inv .2 k (omega arith))
+    let e = c .before .before .if1 .left in
+    agree-entries (s .k) (s .n) (now (s .us)) (now (s .gs)) (now (s .ts)) (now (s .fs)) e
+    (λ i l. v .inv .1 i (omega (arith, e, v .inv .0, c .loop-test .left))) (λ i l. v .inv .2 i (omega (arith, e, v .inv .0, c .loop-test .left)))
 
 pub same-spec : {M : Type 1} → statement M
 same-spec =
@@ -87,14 +86,14 @@ same-spec =
     returns
     loop-holds
     mul-if2
-    element-copy-out-if2
+    shared-slice-read-if2
     mul-if2-2
-    element-copy-out-if2-2
+    shared-slice-read-if2-2
     returns-2
     mul-if3
-    element-copy-out-if3
+    shared-slice-read-if3
     mul-if3-2
-    element-copy-out-if3-2
+    shared-slice-read-if3-2
     returns-3
     add-i
     loop-less

@@ -25,8 +25,8 @@ slice-aggregate-lengths c = search needs
 
 lengths-requires : tie.Need-lengths-requires
 lengths-requires c κs =
-    let z = c .before .before .before .before .before in
-    (searchable (z .args .sheet) (z .pre .0) _ (c .before .before .before .before .first-table .ensures) (c .before .before .enum-told .given .1) _ (c .before .pack .ensures), z .pre .1)
+    let z = c .before .before .before .before .before .before .before .before .before .before .before in
+    (searchable (z .args .sheet) (z .pre .0) _ (c .before .before .before .before .before .before .before .before .before .before .first-table .ensures) (c .before .before .before .before .before .before .before .before .enum-told .given .1) _ (c .before .before .before .before .before .before .before .pack .ensures), z .pre .1)
 
 enum-known-answer : tie.Need-enum-known-answer
 enum-known-answer c = search needs
@@ -36,8 +36,8 @@ refused-requires c κs = search needs
 
 returns : tie.Need-returns
 returns c =
-    let z = c .before .before .before .before .before .before in
-    c .lengths .ensures ∙ sought (z .args .sheet) (z .pre .0) _ (c .before .before .before .before .before .first-table .ensures) (c .before .before .before .enum-told .given .1) _ (c .before .before .pack .ensures) (z .args .limit)
+    let z = c .before .before .before .before .before .before .before .before .before .before .before .before in
+    c .lengths .ensures ∙ sought (z .args .sheet) (z .pre .0) _ (c .before .before .before .before .before .before .before .before .before .before .before .first-table .ensures) (c .before .before .before .before .before .before .before .before .before .enum-told .given .1) _ (c .before .before .before .before .before .before .before .before .pack .ensures) (z .args .limit)
 
 returns-2 : tie.Need-returns-2
 returns-2 c =
