@@ -20,12 +20,13 @@ use Rattle.table.specs.Moves.{Steps}
 use Rattle.table.proofs.Demands.{step-table}
 use Rattle.table.proofs.Pads.{length-pad}
 use Rattle.plan.specs.declared.Searched.{Searched}
-use Rattle.plan.specs.declared.searches.Taken.{Taken}
-use Rattle.plan.specs.declared.searches.Taken.the-variants as taken
+use Rattle.table.specs.declared.steps.Stepped.{Stepped}
+use Rattle.table.specs.declared.steps.Stepped.the-variants as moved
+use Rattle.table.specs.Moves.{lent, tabled}
 use Rattle.plan.specs.Search.{fullAt, nothing}
 use Rattle.plan.specs.Calls.{answered}
 use Rattle.plan.specs.Packed.{moveAt}
-use Rattle.plan.specs.Walks.{answeredAt, endedBy, lent, tabled, actionOf, Searchable, Unmet, walked, begun}
+use Rattle.plan.specs.Walks.{answeredAt, endedBy, actionOf, Searchable, Unmet, walked, begun}
 use Rattle.plan.specs.Course.{Ready}
 use Rattle.plan.proofs.TableRuns.{entries-table}
 use Rattle.plan.proofs.Courses.{stepped, stopped, ready-table, ready-count}
@@ -57,21 +58,21 @@ module _ {packed : List ℕ} {k : ℕ} {goal : Sets} {n : ℕ} {ts fs : List ℕ
     proper = h .ready .described .proper;
   }
 
-  module _ (r : Taken) (us gs : List ℕ) (told : tabled t r us gs ≡ orGiven t (stepTable 128 (actionIn mv) (entriesOf n ts fs))) where
+  module _ (r : Stepped) (us gs : List ℕ) (told : tabled t r us gs ≡ orGiven t (stepTable 128 (actionIn mv) (entriesOf n ts fs))) where
     abbrev outcome : Outcome
     outcome = stepTable 128 (actionOf packed m) (entries t)
 
-    step-is : (x : Taken) → r ≡ x → tabled t x us gs ≡ orGiven t outcome
+    step-is : (x : Stepped) → r ≡ x → tabled t x us gs ≡ orGiven t outcome
     unfolding actionOf entries
-    step-is x e = ap (λ (y : Taken). tabled t y us gs) (sym e) ∙ told ∙ ap (λ (y : Move). orGiven t (stepTable 128 (actionIn y) (entriesOf n ts fs))) is
+    step-is x e = ap (λ (y : Stepped). tabled t y us gs) (sym e) ∙ told ∙ ap (λ (y : Move). orGiven t (stepTable 128 (actionIn y) (entriesOf n ts fs))) is
 
     -- ---- the step gave a table to go on from
-    module _ {j : ℕ} (e : r ≡ taken.To j) where
+    module _ {j : ℕ} (e : r ≡ moved.To j) where
       abbrev u : Table
       u = lent j us gs
 
       s : (es : List Literals) × (outcome ≡ table es) × (u ≡ tableOf es)
-      s = stepped t outcome (tabled t (taken.To j) us gs) (step-is (taken.To j) e) refl
+      s = stepped t outcome (tabled t (moved.To j) us gs) (step-is (moved.To j) e) refl
 
       d : Described 128 (h .n) (s .0)
       d = step-table (h .n) (h .n-most) (actionOf packed m) (h .actions m lt) (entries t) (h .ready .described) 128 (s .0) (s .1) .0
@@ -110,9 +111,9 @@ module _ {packed : List ℕ} {k : ℕ} {goal : Sets} {n : ℕ} {ts fs : List ℕ
           begun-not b = onward-not (setsIn goal) (actionOf packed) k at (entries t) left m (entries u) a came w b
 
     -- ---- the step was refused
-    module _ {code : ℕ} (e : r ≡ taken.Refused code) (at left : ℕ) where
+    module _ {code : ℕ} (e : r ≡ moved.Refused code) (at left : ℕ) where
       refused-by : outcome ≡ refused code
-      refused-by = stopped t outcome (tabled t (taken.Refused code) us gs) code 0 (step-is (taken.Refused code) e) refl
+      refused-by = stopped t outcome (tabled t (moved.Refused code) us gs) code 0 (step-is (moved.Refused code) e) refl
 
       pub begun-full : code ≡ 21 → {a : Searched} → a ≡ answeredAt at (fullAt (m ∷ replicate left 0) (at + 1)) → a ≡ begun packed k goal t at left m
       begun-full z {a} w = at-full (setsIn goal) (actionOf packed) k at (entries t) left m a (h .least) (refused-by ∙ ap refused z) w

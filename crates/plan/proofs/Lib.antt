@@ -15,7 +15,6 @@ pub mod Packing
 pub mod FirstAnswers
 pub mod Pruning
 pub mod Walking
-pub mod Taking
 pub mod Beginning
 pub mod SearchCalls
 pub mod Demands

@@ -14,8 +14,6 @@ use Rattle.table.specs.declared.Table.{Table}
 use Rattle.table.specs.declared.Tabled.{Tabled}
 use Rattle.table.specs.Slots.{entries}
 use Rattle.plan.specs.declared.Searched.{Searched}
-use Rattle.plan.specs.declared.searches.Taken.{Taken}
-use Rattle.plan.specs.declared.searches.Taken.the-variants as taken
 use Rattle.plan.specs.declared.Kind.{Kind}
 use Rattle.plan.specs.declared.Kind.the-variants as kind
 use Rattle.plan.specs.Run.{Verdict, runFrom}
@@ -54,15 +52,6 @@ endedBy kind.Reached = true
 endedBy (kind.Full k) = true
 endedBy kind.Nothing = false
 endedBy (kind.Refused number position) = true
-
--- ---- a table in lent arrays
-abbrev pub lent : ℕ → List ℕ → List ℕ → Table
-lent n ts fs = record { count = n; trues = ts; falses = fs }
-
--- what a step of the table t gave, with the arrays that it was put in
-abbrev pub tabled : Table → Taken → List ℕ → List ℕ → Tabled
-tabled t (taken.To k) us gs = record { answer = Accepted; table = lent k us gs }
-tabled t (taken.Refused number) us gs = record { answer = Refused number 0; table = t }
 
 -- ---- the moves laid out as numbers
 unfoldable pub actionOf : List ℕ → ℕ → Action

@@ -5,24 +5,19 @@ use crate::goals::all_in_goal;
 use crate::packed::move_at;
 use crate::packed::pack;
 use sheet::Answer;
-use sheet::Move;
 use sheet::Sets;
 use sheet::Sheet;
 use table::first::first_table;
-use table::slots::Grown;
-use table::steps::spread;
-use table::steps::sure;
-use table::steps::unclear;
+use table::steps::Stepped;
+use table::steps::step_into;
 ghost use mathlib.Core.Path.{_≡_};
 ghost use mathlib.Core.Bool.{true};
 ghost use mathlib.Core.List.{_∷_};
 ghost use Prim.Native.Nat.{_+_, _≤_, _<_};
 ghost use lib.ListN.{length, replicate};
-ghost use Rattle.sheet.specs.Decoded.{actionIn, problemIn};
+ghost use Rattle.sheet.specs.Decoded.{problemIn};
 ghost use Rattle.table.specs.Start.{startTable};
-ghost use Rattle.table.specs.Step.{stepTable};
 ghost use Rattle.table.specs.Slots.{entriesOf};
-ghost use Rattle.table.specs.Calls.{orGiven};
 ghost use Rattle.table.specs.Moves as M;
 ghost use Rattle.table.specs.Moves.{Filled};
 ghost use Rattle.plan.specs.Search.{fullAt, nothing};
@@ -79,38 +74,6 @@ pub fn ended(a: Searched) -> bool
     }
 }
 
-// What a step gave: so many entries in the lent arrays, or the number of a refusal.
-pub enum Taken {
-    To(usize),
-    Refused(u8),
-}
-
-// The step of a lent table by a move, into arrays of zeros.
-pub fn take<'a, 'b>(
-    mv: Move,
-    ts: &'a [u32],
-    fs: &'a [u32],
-    n: usize,
-    us: &'b mut [u32],
-    gs: &'b mut [u32],
-) -> Taken
-    requires { ⌜ M.Steps mv (W.lent n (now ts) (now fs)) ⌝ }
-    requires { ⌜ (n ≤ length (now ts)) × (n ≤ length (now fs)) ⌝ }
-    requires { ⌜ (now us ≡ replicate 128 0) × (now gs ≡ replicate 128 0) ⌝ }
-    ensures { λ r. ⌜ W.tabled (W.lent n (now (ts .entry)) (now (fs .entry))) r (now (us .exit)) (now (gs .exit)) ≡ orGiven (W.lent n (now (ts .entry)) (now (fs .entry))) (stepTable 128 (actionIn mv) (entriesOf n (now (ts .entry)) (now (fs .entry)))) ⌝ }
-{
-    if !sure(mv.precondition, ts, fs, n) {
-        return Taken::Refused(24);
-    }
-    if unclear(mv, ts, fs, n) {
-        return Taken::Refused(25);
-    }
-    match spread(mv, ts, fs, n, us, gs, 0) {
-        Grown::To(k) => Taken::To(k),
-        Grown::Full => Taken::Refused(21),
-    }
-}
-
 // Said true only of tables with the same entries, in the same order.
 pub fn same<'a, 'b>(
     us: &'a [u32],
@@ -153,17 +116,17 @@ fn begin<'a, 'b>(
     left: usize,
     m: usize,
 ) -> Searched
-    requires { ⌜ W.Searchable (now packed) moves goal (W.lent n (now ts) (now fs)) ⌝ }
+    requires { ⌜ W.Searchable (now packed) moves goal (M.lent n (now ts) (now fs)) ⌝ }
     requires { ⌜ (at + left < 8) × (m < moves) ⌝ }
-    requires { ⌜ W.Unmet (now packed) moves goal (W.lent n (now ts) (now fs)) at (left + 1) ⌝ }
-    ensures { λ r. ⌜ r ≡ W.begun (now (packed .entry)) moves goal (W.lent n (now (ts .entry)) (now (fs .entry))) at left m ⌝ }
+    requires { ⌜ W.Unmet (now packed) moves goal (M.lent n (now ts) (now fs)) at (left + 1) ⌝ }
+    ensures { λ r. ⌜ r ≡ W.begun (now (packed .entry)) moves goal (M.lent n (now (ts .entry)) (now (fs .entry))) at left m ⌝ }
 {
     let mut us = [0u32; 128];
     let mut gs = [0u32; 128];
-    let taken = take(move_at(packed, m), ts, fs, n, &mut us, &mut gs);
+    let stepped = step_into(move_at(packed, m), ts, fs, n, &mut us, &mut gs);
     let next = at + 1;
-    match taken {
-        Taken::To(k) => {
+    match stepped {
+        Stepped::To(k) => {
             if same(&us, &gs, k, ts, fs, n) {
                 return none();
             }
@@ -173,7 +136,7 @@ fn begin<'a, 'b>(
             }
             r
         }
-        Taken::Refused(number) => {
+        Stepped::Refused(number) => {
             if number == 21 {
                 return full(at, left, m);
             }
@@ -193,10 +156,10 @@ fn walk<'a, 'b>(
     at: usize,
     left: usize,
 ) -> Searched
-    requires { ⌜ W.Searchable (now packed) moves goal (W.lent n (now ts) (now fs)) ⌝ }
+    requires { ⌜ W.Searchable (now packed) moves goal (M.lent n (now ts) (now fs)) ⌝ }
     requires { ⌜ at + left ≤ 8 ⌝ }
-    requires { ⌜ W.Unmet (now packed) moves goal (W.lent n (now ts) (now fs)) at left ⌝ }
-    ensures { λ r. ⌜ r ≡ W.walked (now (packed .entry)) moves goal (W.lent n (now (ts .entry)) (now (fs .entry))) at left ⌝ }
+    requires { ⌜ W.Unmet (now packed) moves goal (M.lent n (now ts) (now fs)) at left ⌝ }
+    ensures { λ r. ⌜ r ≡ W.walked (now (packed .entry)) moves goal (M.lent n (now (ts .entry)) (now (fs .entry))) at left ⌝ }
 {
     if left == 0 {
         if all_in_goal(goal, ts, fs, n) {
@@ -230,9 +193,9 @@ pub fn lengths<'a, 'b>(
     n: usize,
     limit: usize,
 ) -> Searched
-    requires { ⌜ W.Searchable (now packed) moves goal (W.lent n (now ts) (now fs)) ⌝ }
+    requires { ⌜ W.Searchable (now packed) moves goal (M.lent n (now ts) (now fs)) ⌝ }
     requires { ⌜ limit ≤ 8 ⌝ }
-    ensures { λ r. ⌜ r ≡ W.searchedBy (now (packed .entry)) moves goal (W.lent n (now (ts .entry)) (now (fs .entry))) limit ⌝ }
+    ensures { λ r. ⌜ r ≡ W.searchedBy (now (packed .entry)) moves goal (M.lent n (now (ts .entry)) (now (fs .entry))) limit ⌝ }
 {
     let mut length: usize = 0;
     while length <= limit {

@@ -27,7 +27,7 @@ use Rattle.plan.proofs.searches.ended.Reads as ended-reads
 use Rattle.plan.proofs.searches.full.Reads as full-reads
 use Rattle.plan.proofs.searches.none.Reads as none-reads
 use Rattle.plan.proofs.searches.same.Reads as same-reads
-use Rattle.plan.proofs.searches.take.Reads as take-reads
+use Rattle.table.proofs.steps.step_into.Reads as step-into-reads
 use Rattle.plan.proofs.searches.+begin+walk.{statement}
 use Rattle.plan.proofs.searches.+begin+walk.Tie.{close}
 
@@ -53,8 +53,8 @@ abbrev begin-claims : ℕ → begin-lts.Claims
 begin-claims t = (
   move-at-reads.Asked,
   move-at-reads.Learnt,
-  take-reads.Asked,
-  take-reads.Learnt,
+  step-into-reads.Asked,
+  step-into-reads.Learnt,
   same-reads.Asked,
   same-reads.Learnt,
   none-reads.Asked,
@@ -82,14 +82,14 @@ walk-claims t = (
 begin-move-at-requires : (t : ℕ) → begin-lts.Need-move-at-requires (begin-claims t) (begin-at t) begin.Post
 begin-move-at-requires t c κs = search needs
 
-begin-slice-aggregate-take : (t : ℕ) → begin-lts.Need-slice-aggregate-take (begin-claims t) (begin-at t) begin.Post
-begin-slice-aggregate-take t c = search needs
+begin-slice-aggregate-step-into : (t : ℕ) → begin-lts.Need-slice-aggregate-step-into (begin-claims t) (begin-at t) begin.Post
+begin-slice-aggregate-step-into t c = search needs
 
-begin-slice-aggregate-take-2 : (t : ℕ) → begin-lts.Need-slice-aggregate-take-2 (begin-claims t) (begin-at t) begin.Post
-begin-slice-aggregate-take-2 t c = search needs
+begin-slice-aggregate-step-into-2 : (t : ℕ) → begin-lts.Need-slice-aggregate-step-into-2 (begin-claims t) (begin-at t) begin.Post
+begin-slice-aggregate-step-into-2 t c = search needs
 
-begin-take-requires : (t : ℕ) → begin-lts.Need-take-requires (begin-claims t) (begin-at t) begin.Post
-begin-take-requires t c κs =
+begin-step-into-requires : (t : ℕ) → begin-lts.Need-step-into-requires (begin-claims t) (begin-at t) begin.Post
+begin-step-into-requires t c κs =
     let z = c .before .before .before .before .before .before in
     let s = z .args in
     (can-step (z .pre .1 .0) (z .pre .1 .1 .0 .1) (c .before .before .move-at .ensures), (slots-room (z .pre .1 .0), (refl, refl)))
@@ -97,8 +97,8 @@ begin-take-requires t c κs =
 begin-add-next : (t : ℕ) → begin-lts.Need-add-next (begin-claims t) (begin-at t) begin.Post
 begin-add-next t c = search needs
 
-begin-enum-known-taken : (t : ℕ) → begin-lts.Need-enum-known-taken (begin-claims t) (begin-at t) begin.Post
-begin-enum-known-taken t c = search needs
+begin-enum-known-stepped : (t : ℕ) → begin-lts.Need-enum-known-stepped (begin-claims t) (begin-at t) begin.Post
+begin-enum-known-stepped t c = search needs
 
 begin-slice-aggregate-same : (t : ℕ) → begin-lts.Need-slice-aggregate-same (begin-claims t) (begin-at t) begin.Post
 begin-slice-aggregate-same t c = search needs
@@ -110,7 +110,7 @@ begin-same-requires : (t : ℕ) → begin-lts.Need-same-requires (begin-claims t
 begin-same-requires t c κs =
     let z = c .before .before .before .before .before .before .before .before .before .before .before .before .before .before in
     let s = z .args in
-    (slots-room (ready-after (z .pre .1 .0) (z .pre .1 .1 .0 .1) (c .before .before .before .before .before .before .before .before .before .before .move-at .ensures) _ _ _ (c .before .before .before .before .before .before .before .take .ensures) (c .before .before .before .taken .given .1)), slots-room (z .pre .1 .0))
+    (slots-room (ready-after (z .pre .1 .0) (z .pre .1 .1 .0 .1) (c .before .before .before .before .before .before .before .before .before .before .move-at .ensures) _ _ _ (c .before .before .before .before .before .before .before .step-into .ensures) (c .before .before .before .stepped .given .1)), slots-room (z .pre .1 .0))
 
 begin-none-requires : (t : ℕ) → begin-lts.Need-none-requires (begin-claims t) (begin-at t) begin.Post
 begin-none-requires t c κs = search needs
@@ -119,7 +119,7 @@ begin-returns : (t : ℕ) → begin-lts.Need-returns (begin-claims t) (begin-at 
 begin-returns t c =
     let z = c .before .before .before .before .before .before .before .before .before .before .before .before .before .before .before .before .before in
     let s = z .args in
-    begun-same (z .pre .1 .0) (z .pre .1 .1 .0 .1) (c .before .before .before .before .before .before .before .before .before .before .before .before .before .move-at .ensures) _ _ _ (c .before .before .before .before .before .before .before .before .before .before .take .ensures) (c .before .before .before .before .before .before .taken .given .1) (s .at) (s .left) (z .pre .1 .1 .1) (c .before .before .same .ensures (c .before .if1 .taken)) (c .none .ensures)
+    begun-same (z .pre .1 .0) (z .pre .1 .1 .0 .1) (c .before .before .before .before .before .before .before .before .before .before .before .before .before .move-at .ensures) _ _ _ (c .before .before .before .before .before .before .before .before .before .before .step-into .ensures) (c .before .before .before .before .before .before .stepped .given .1) (s .at) (s .left) (z .pre .1 .1 .1) (c .before .before .same .ensures (c .before .if1 .taken)) (c .none .ensures)
 
 begin-slice-aggregate-walk : (t : ℕ) → begin-lts.Need-slice-aggregate-walk (begin-claims t) (begin-at t) begin.Post
 begin-slice-aggregate-walk t c = search needs
@@ -131,7 +131,7 @@ begin-walk-requires : (t : ℕ) → begin-lts.Need-walk-requires (begin-claims t
 begin-walk-requires t c κs =
     let z = c .before .before .before .before .before .before .before .before .before .before .before .before .before .before .before .before .before .before in
     let s = z .args in
-    (omega arith, (ready-after (z .pre .1 .0) (z .pre .1 .1 .0 .1) (c .before .before .before .before .before .before .before .before .before .before .before .before .before .before .move-at .ensures) _ _ _ (c .before .before .before .before .before .before .before .before .before .before .before .take .ensures) (c .before .before .before .before .before .before .before .taken .given .1), (omega (arith, z .pre .1 .1 .0 .0), unmet-after (z .pre .1 .0) (z .pre .1 .1 .0 .1) (c .before .before .before .before .before .before .before .before .before .before .before .before .before .before .move-at .ensures) _ _ _ (c .before .before .before .before .before .before .before .before .before .before .before .take .ensures) (c .before .before .before .before .before .before .before .taken .given .1) (s .at) (s .left) (z .pre .1 .1 .1))))
+    (omega arith, (ready-after (z .pre .1 .0) (z .pre .1 .1 .0 .1) (c .before .before .before .before .before .before .before .before .before .before .before .before .before .before .move-at .ensures) _ _ _ (c .before .before .before .before .before .before .before .before .before .before .before .step-into .ensures) (c .before .before .before .before .before .before .before .stepped .given .1), (omega (arith, z .pre .1 .1 .0 .0), unmet-after (z .pre .1 .0) (z .pre .1 .1 .0 .1) (c .before .before .before .before .before .before .before .before .before .before .before .before .before .before .move-at .ensures) _ _ _ (c .before .before .before .before .before .before .before .before .before .before .before .step-into .ensures) (c .before .before .before .before .before .before .before .stepped .given .1) (s .at) (s .left) (z .pre .1 .1 .1))))
 
 begin-ended-requires : (t : ℕ) → begin-lts.Need-ended-requires (begin-claims t) (begin-at t) begin.Post
 begin-ended-requires t c κs = search needs
@@ -146,8 +146,8 @@ begin-element-write-r t c =
     let z = c .before .before .before .before .before .before .before .before .before .before .before .before .before .before .before .before .before .before .before .before .before in
     omega (arith, z .pre .1 .1 .0 .0)
 
-begin-enum-known-taken-2 : (t : ℕ) → begin-lts.Need-enum-known-taken-2 (begin-claims t) (begin-at t) begin.Post
-begin-enum-known-taken-2 t c = search needs
+begin-enum-known-stepped-2 : (t : ℕ) → begin-lts.Need-enum-known-stepped-2 (begin-claims t) (begin-at t) begin.Post
+begin-enum-known-stepped-2 t c = search needs
 
 begin-full-requires : (t : ℕ) → begin-lts.Need-full-requires (begin-claims t) (begin-at t) begin.Post
 begin-full-requires t c κs = let z = c .before .before .before .before .before .before .before .before .before .before .before .before .before in (z .pre .1 .1 .0 .0, omega (arith, z .pre .1 .1 .0 .1, z .pre .1 .0 .most))
@@ -156,7 +156,7 @@ begin-returns-2 : (t : ℕ) → begin-lts.Need-returns-2 (begin-claims t) (begin
 begin-returns-2 t c =
     let z = c .before .before .before .before .before .before .before .before .before .before .before .before .before .before in
     let s = z .args in
-    begun-full (z .pre .1 .0) (z .pre .1 .1 .0 .1) (c .before .before .before .before .before .before .before .before .before .before .move-at .ensures) _ _ _ (c .before .before .before .before .before .before .before .take .ensures) (c .before .before .before .taken2 .given .1) (s .at) (s .left) (c .before .if3 .taken) (c .full .ensures)
+    begun-full (z .pre .1 .0) (z .pre .1 .1 .0 .1) (c .before .before .before .before .before .before .before .before .before .before .move-at .ensures) _ _ _ (c .before .before .before .before .before .before .before .step-into .ensures) (c .before .before .before .stepped2 .given .1) (s .at) (s .left) (c .before .if3 .taken) (c .full .ensures)
 
 begin-none-requires-2 : (t : ℕ) → begin-lts.Need-none-requires-2 (begin-claims t) (begin-at t) begin.Post
 begin-none-requires-2 t c κs = search needs
@@ -165,19 +165,19 @@ begin-returns-3 : (t : ℕ) → begin-lts.Need-returns-3 (begin-claims t) (begin
 begin-returns-3 t c =
     let z = c .before .before .before .before .before .before .before .before .before .before .before .before .before .before .before .before .before .before .before .before .before in
     let s = z .args in
-    begun-ended (z .pre .1 .0) (z .pre .1 .1 .0 .1) (c .before .before .before .before .before .before .before .before .before .before .before .before .before .before .before .before .before .move-at .ensures) _ _ _ (c .before .before .before .before .before .before .before .before .before .before .before .before .before .before .take .ensures) (c .before .before .before .before .before .before .before .before .before .before .taken .given .1) (s .at) (s .left) (c .before .before .walk .ensures) (sym (c .before .ended .ensures) ∙ c .if2 .taken)
+    begun-ended (z .pre .1 .0) (z .pre .1 .1 .0 .1) (c .before .before .before .before .before .before .before .before .before .before .before .before .before .before .before .before .before .move-at .ensures) _ _ _ (c .before .before .before .before .before .before .before .before .before .before .before .before .before .before .step-into .ensures) (c .before .before .before .before .before .before .before .before .before .before .stepped .given .1) (s .at) (s .left) (c .before .before .walk .ensures) (sym (c .before .ended .ensures) ∙ c .if2 .taken)
 
 begin-returns-4 : (t : ℕ) → begin-lts.Need-returns-4 (begin-claims t) (begin-at t) begin.Post
 begin-returns-4 t c =
     let z = c .before .before .before .before .before .before .before .before .before .before .before .before .before .before .before .before .before .before .before .before .before in
     let s = z .args in
-    begun-not (z .pre .1 .0) (z .pre .1 .1 .0 .1) (c .before .before .before .before .before .before .before .before .before .before .before .before .before .before .before .before .before .move-at .ensures) _ _ _ (c .before .before .before .before .before .before .before .before .before .before .before .before .before .before .take .ensures) (c .before .before .before .before .before .before .before .before .before .before .taken .given .1) (s .at) (s .left) (c .before .before .walk .ensures) (sym (c .before .ended .ensures) ∙ c .if2 .left)
+    begun-not (z .pre .1 .0) (z .pre .1 .1 .0 .1) (c .before .before .before .before .before .before .before .before .before .before .before .before .before .before .before .before .before .move-at .ensures) _ _ _ (c .before .before .before .before .before .before .before .before .before .before .before .before .before .before .step-into .ensures) (c .before .before .before .before .before .before .before .before .before .before .stepped .given .1) (s .at) (s .left) (c .before .before .walk .ensures) (sym (c .before .ended .ensures) ∙ c .if2 .left)
 
 begin-returns-5 : (t : ℕ) → begin-lts.Need-returns-5 (begin-claims t) (begin-at t) begin.Post
 begin-returns-5 t c =
     let z = c .before .before .before .before .before .before .before .before .before .before .before .before .before .before in
     let s = z .args in
-    begun-stopped (z .pre .1 .0) (z .pre .1 .1 .0 .1) (c .before .before .before .before .before .before .before .before .before .before .move-at .ensures) _ _ _ (c .before .before .before .before .before .before .before .take .ensures) (c .before .before .before .taken2 .given .1) (s .at) (s .left) (c .before .if3 .left) (c .none2 .ensures)
+    begun-stopped (z .pre .1 .0) (z .pre .1 .1 .0 .1) (c .before .before .before .before .before .before .before .before .before .before .move-at .ensures) _ _ _ (c .before .before .before .before .before .before .before .step-into .ensures) (c .before .before .before .stepped2 .given .1) (s .at) (s .left) (c .before .if3 .left) (c .none2 .ensures)
 
 abbrev walk-Inv-loop : walk-lts.InvT-loop
 walk-Inv-loop packed moves goal ts fs n at left fewer m₀ m =
@@ -253,11 +253,11 @@ pub +begin+walk-spec : {M : Type 1} → statement M
     (begin-at t)
     begin.Post
     (begin-move-at-requires t)
-    (begin-slice-aggregate-take t)
-    (begin-slice-aggregate-take-2 t)
-    (begin-take-requires t)
+    (begin-slice-aggregate-step-into t)
+    (begin-slice-aggregate-step-into-2 t)
+    (begin-step-into-requires t)
     (begin-add-next t)
-    (begin-enum-known-taken t)
+    (begin-enum-known-stepped t)
     (begin-slice-aggregate-same t)
     (begin-slice-aggregate-same-2 t)
     (begin-same-requires t)
@@ -269,7 +269,7 @@ pub +begin+walk-spec : {M : Type 1} → statement M
     (begin-ended-requires t)
     (begin-cast-r t)
     (begin-element-write-r t)
-    (begin-enum-known-taken-2 t)
+    (begin-enum-known-stepped-2 t)
     (begin-full-requires t)
     (begin-returns-2 t)
     (begin-none-requires-2 t)
