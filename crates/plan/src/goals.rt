@@ -13,14 +13,14 @@ ghost use Rattle.table.specs.Slots.{entriesOf};
 ghost use Rattle.plan.specs.Run.{inGoal};
 
 // Some literal of the clause c lies in d.
-pub fn shares(c: Literals, d: Literals) -> bool
+pub(crate) fn shares(c: Literals, d: Literals) -> bool
     ensures { λ r. ⌜ r ≡ L.meets c d ⌝ }
 {
     masks::clash(masks::flip(c), d)
 }
 
 // Each clause of the goal shares a literal with the entry d.
-pub fn in_goal(goal: Sets, d: Literals) -> bool
+pub(crate) fn in_goal(goal: Sets, d: Literals) -> bool
     requires { ⌜ goal .count ≤ 8 ⌝ }
     ensures { λ r. ⌜ r ≡ inGoal (setsIn goal) d ⌝ }
 {
@@ -37,7 +37,7 @@ pub fn in_goal(goal: Sets, d: Literals) -> bool
 }
 
 // The first count entries are all in the goal.
-pub fn all_in_goal<'a>(goal: Sets, trues: &'a [u32], falses: &'a [u32], count: usize) -> bool
+pub(crate) fn all_in_goal<'a>(goal: Sets, trues: &'a [u32], falses: &'a [u32], count: usize) -> bool
     requires { ⌜ goal .count ≤ 8 ⌝ }
     requires { ⌜ (count ≤ length (now trues)) × (count ≤ length (now falses)) ⌝ }
     ensures { λ r. ⌜ r ≡ allOf (inGoal (setsIn goal)) (entriesOf count (now (trues .entry)) (now (falses .entry))) ⌝ }

@@ -9,7 +9,7 @@ ghost use lib.ListN.{length, getD};
 ghost use Rattle.plan.specs.Packed as P;
 
 // The set from number i on.
-pub fn set_at(packed: &[u32], i: usize) -> Literals
+pub(crate) fn set_at(packed: &[u32], i: usize) -> Literals
     requires { ⌜ i + 2 ≤ length (now packed) ⌝ }
     ensures { λ r. ⌜ r ≡ P.setAt (now (packed .entry)) i ⌝ }
 {
@@ -20,7 +20,7 @@ pub fn set_at(packed: &[u32], i: usize) -> Literals
 }
 
 // The effect from number i on.
-pub fn effect_at(packed: &[u32], i: usize) -> Effect
+pub(crate) fn effect_at(packed: &[u32], i: usize) -> Effect
     requires { ⌜ i + 4 ≤ length (now packed) ⌝ }
     ensures { λ r. ⌜ r ≡ P.effectAt (now (packed .entry)) i ⌝ }
 {
@@ -31,7 +31,7 @@ pub fn effect_at(packed: &[u32], i: usize) -> Effect
 }
 
 // The eight effects from number i on.
-pub fn effects_at(packed: &[u32], i: usize) -> [Effect; 8]
+pub(crate) fn effects_at(packed: &[u32], i: usize) -> [Effect; 8]
     requires { ⌜ i + 32 ≤ length (now packed) ⌝ }
     ensures { λ r. ⌜ r ≡ P.effectsAt (now (packed .entry)) i ⌝ }
 {
@@ -55,7 +55,7 @@ fn wide(x: u32) -> usize
 }
 
 // The move of a number.
-pub fn move_at(packed: &[u32], m: usize) -> Move
+pub(crate) fn move_at(packed: &[u32], m: usize) -> Move
     requires { ⌜ m * 35 + 35 ≤ length (now packed) ⌝ }
     ensures { λ r. ⌜ r ≡ P.moveAt (now (packed .entry)) m ⌝ }
 {
@@ -68,7 +68,7 @@ pub fn move_at(packed: &[u32], m: usize) -> Move
 }
 
 // A set laid from number i on.
-pub fn lay_set(packed: &mut [u32], i: usize, a: Literals)
+pub(crate) fn lay_set(packed: &mut [u32], i: usize, a: Literals)
     requires { ⌜ i + 2 ≤ length (now packed) ⌝ }
     ensures { λ r. ⌜ P.Kept i (now (packed .entry)) (now (packed .exit)) × (P.setAt (now (packed .exit)) i ≡ a) ⌝ }
 {
@@ -77,7 +77,7 @@ pub fn lay_set(packed: &mut [u32], i: usize, a: Literals)
 }
 
 // An effect laid from number i on.
-pub fn lay_effect(packed: &mut [u32], i: usize, e: Effect)
+pub(crate) fn lay_effect(packed: &mut [u32], i: usize, e: Effect)
     requires { ⌜ i + 4 ≤ length (now packed) ⌝ }
     ensures { λ r. ⌜ P.Kept i (now (packed .entry)) (now (packed .exit)) × (P.effectAt (now (packed .exit)) i ≡ e) ⌝ }
 {
@@ -86,7 +86,7 @@ pub fn lay_effect(packed: &mut [u32], i: usize, e: Effect)
 }
 
 // The effects of a move laid from number i on.
-pub fn lay_effects(packed: &mut [u32], i: usize, mv: Move)
+pub(crate) fn lay_effects(packed: &mut [u32], i: usize, mv: Move)
     requires { ⌜ i + 32 ≤ length (now packed) ⌝ }
     ensures { λ r. ⌜ P.Kept i (now (packed .entry)) (now (packed .exit)) × (P.effectsAt (now (packed .exit)) i ≡ mv .effects) ⌝ }
 {
@@ -99,7 +99,7 @@ pub fn lay_effects(packed: &mut [u32], i: usize, mv: Move)
 }
 
 // A move laid from number i on.
-pub fn lay_move(packed: &mut [u32], i: usize, mv: Move)
+pub(crate) fn lay_move(packed: &mut [u32], i: usize, mv: Move)
     requires { ⌜ (i + 35 ≤ length (now packed)) × (mv .count ≤ 8) ⌝ }
     ensures { λ r. ⌜ P.Kept i (now (packed .entry)) (now (packed .exit)) × (P.moveFrom (now (packed .exit)) i ≡ mv) ⌝ }
 {
@@ -109,7 +109,7 @@ pub fn lay_move(packed: &mut [u32], i: usize, mv: Move)
 }
 
 // The moves laid out.
-pub fn pack(moves: Moves) -> [u32; 1120]
+pub(crate) fn pack(moves: Moves) -> [u32; 1120]
     requires { ⌜ (moves .count ≤ 32) × P.Small moves ⌝ }
     ensures { λ r. ⌜ P.Packs moves r ⌝ }
 {

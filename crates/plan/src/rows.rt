@@ -8,7 +8,7 @@ ghost use lib.ListN.{length, set, drop};
 ghost use Rattle.plan.specs.Rows.{rowAt, rowsIn};
 
 // Writes one row.
-pub fn write_row(rows: &mut [Row], at: usize, row: Row)
+pub(crate) fn write_row(rows: &mut [Row], at: usize, row: Row)
     requires { ⌜ at < length (now rows) ⌝ }
     ensures { λ _. ⌜ now (rows .exit) ≡ set (now (rows .entry)) at row ⌝ }
 {
@@ -16,7 +16,7 @@ pub fn write_row(rows: &mut [Row], at: usize, row: Row)
 }
 
 // The row of a place.
-pub fn row_at(c: Counts, at: usize) -> Row
+pub(crate) fn row_at(c: Counts, at: usize) -> Row
     requires { ⌜ at < 65 ⌝ }
     ensures { λ r. ⌜ r ≡ rowAt c at ⌝ }
 {
@@ -28,7 +28,7 @@ pub fn row_at(c: Counts, at: usize) -> Row
 }
 
 // Writes the rows of the places arrived at; the others are kept.
-pub fn write_rows(rows: &mut [Row], c: Counts)
+pub(crate) fn write_rows(rows: &mut [Row], c: Counts)
     requires { ⌜ (c .count ≤ length (now rows)) × (c .count ≤ 65) ⌝ }
     ensures { λ _. ⌜ now (rows .exit) ≡ rowsIn c ++ drop (c .count) (now (rows .entry)) ⌝ }
 {

@@ -27,7 +27,7 @@ ghost use Rattle.plan.specs.Calls.{verdictOf};
 ghost use Rattle.plan.specs.Course as C;
 
 // The counts of no row.
-pub fn no_rows() -> Counts
+pub(crate) fn no_rows() -> Counts
     ensures { λ r. ⌜ r ≡ C.countsOf [] ⌝ }
 {
     Counts {
@@ -38,7 +38,7 @@ pub fn no_rows() -> Counts
 }
 
 // One row more: the entries of a table and the clauses of its picture.
-pub fn note(counts: Counts, table: Table) -> Counts
+pub(crate) fn note(counts: Counts, table: Table) -> Counts
     requires { ⌜ counts .count < 65 ⌝ }
     requires { ⌜ (1 ≤ table .count) × (table .count ≤ 128) ⌝ }
     ensures { λ r. ⌜ r ≡ C.noted counts (entries table) ⌝ }
@@ -57,7 +57,7 @@ pub fn note(counts: Counts, table: Table) -> Counts
 }
 
 // What a refused step means for a run: 21 is full, the other numbers stop it.
-pub fn halt(place: usize, number: u8) -> Verdict
+pub(crate) fn halt(place: usize, number: u8) -> Verdict
     ensures { λ r. ⌜ r ≡ verdictOf (R.endedBy (eqb number 21) place number) ⌝ }
 {
     if number == 21 {
@@ -67,7 +67,7 @@ pub fn halt(place: usize, number: u8) -> Verdict
 }
 
 // The verdict after the last move: reached if every entry is in the goal, otherwise short.
-pub fn end(goal: Sets, table: Table) -> Verdict
+pub(crate) fn end(goal: Sets, table: Table) -> Verdict
     requires { ⌜ goal .count ≤ 8 ⌝ }
     requires { ⌜ table .count ≤ 128 ⌝ }
     ensures { λ r. ⌜ r ≡ verdictOf (R.ended (allOf (R.inGoal (setsIn goal)) (entries table))) ⌝ }
@@ -80,7 +80,7 @@ pub fn end(goal: Sets, table: Table) -> Verdict
 }
 
 // The rest of a sheet's plan from a table, `place` moves already taken.
-pub fn run_from(sheet: Sheet, table: Table, place: usize) -> Course
+pub(crate) fn run_from(sheet: Sheet, table: Table, place: usize) -> Course
     requires { ⌜ Filled sheet ⌝ }
     requires { ⌜ C.Ready (sheet .n) table ⌝ }
     ensures { λ r. ⌜ r ≡ C.courseFrom (problemIn sheet .goal) [] place (R.actionsOf (problemIn sheet) (drop place (planIn (sheet .plan)))) (entries table) ⌝ }
@@ -125,7 +125,7 @@ pub fn run_from(sheet: Sheet, table: Table, place: usize) -> Course
 }
 
 // A refusal: no table, and no row.
-pub fn refused(number: u8, position: usize) -> Course
+pub(crate) fn refused(number: u8, position: usize) -> Course
     ensures { λ r. ⌜ r ≡ C.refusedCourse number position ⌝ }
 {
     Course {
@@ -142,7 +142,7 @@ pub fn refused(number: u8, position: usize) -> Course
 }
 
 // The run of a sheet that was read: 20 or 21 of its start, otherwise its plan from the first table.
-pub fn run_sheet(sheet: Sheet) -> Course
+pub(crate) fn run_sheet(sheet: Sheet) -> Course
     requires { ⌜ Filled sheet ⌝ }
     ensures { λ r. ⌜ r ≡ C.plannedCourse (problemIn sheet) (planIn (sheet .plan)) (startTable 128 (problemIn sheet)) ⌝ }
 {

@@ -25,7 +25,7 @@ ghost use Rattle.plan.specs.Calls.{refusedSearch, answered, searched};
 ghost use Rattle.plan.specs.Walks as W;
 
 // No plan.
-pub fn none() -> Searched
+pub(crate) fn none() -> Searched
     ensures { λ r. ⌜ r ≡ answered nothing ⌝ }
 {
     Searched {
@@ -36,7 +36,7 @@ pub fn none() -> Searched
 }
 
 // A refusal.
-pub fn refused(number: u8, position: usize) -> Searched
+pub(crate) fn refused(number: u8, position: usize) -> Searched
     ensures { λ r. ⌜ r ≡ refusedSearch number position ⌝ }
 {
     Searched {
@@ -47,7 +47,7 @@ pub fn refused(number: u8, position: usize) -> Searched
 }
 
 // Full at move m: the first of the plans with `left` moves more has move 0 for each.
-pub fn full(at: usize, left: usize, m: usize) -> Searched
+pub(crate) fn full(at: usize, left: usize, m: usize) -> Searched
     requires { ⌜ (at + left < 8) × (m < 32) ⌝ }
     ensures { λ r. ⌜ r ≡ W.answeredAt at (fullAt (m ∷ replicate left 0) (at + 1)) ⌝ }
 {
@@ -62,7 +62,7 @@ pub fn full(at: usize, left: usize, m: usize) -> Searched
 }
 
 // Some plan ends the search.
-pub fn ended(a: Searched) -> bool
+pub(crate) fn ended(a: Searched) -> bool
     ensures { λ r. ⌜ r ≡ W.endedBy (a .kind) ⌝ }
 {
     let kind = a.kind;
@@ -75,7 +75,7 @@ pub fn ended(a: Searched) -> bool
 }
 
 // Said true only of tables with the same entries, in the same order.
-pub fn same<'a, 'b>(
+pub(crate) fn same<'a, 'b>(
     us: &'a [u32],
     gs: &'a [u32],
     k: usize,
@@ -184,7 +184,7 @@ fn walk<'a, 'b>(
 }
 
 // Plans of at most `limit` moves, shorter first.
-pub fn lengths<'a, 'b>(
+pub(crate) fn lengths<'a, 'b>(
     packed: &'a [u32],
     moves: usize,
     goal: Sets,
@@ -209,7 +209,7 @@ pub fn lengths<'a, 'b>(
 }
 
 // The search on a sheet that was read: 20 or 21 of the start, then the plans.
-pub fn search_sheet(sheet: Sheet, limit: usize) -> Searched
+pub(crate) fn search_sheet(sheet: Sheet, limit: usize) -> Searched
     requires { ⌜ Filled sheet ⌝ }
     requires { ⌜ limit ≤ 8 ⌝ }
     ensures { λ r. ⌜ r ≡ searched (problemIn sheet) limit (startTable 128 (problemIn sheet)) ⌝ }

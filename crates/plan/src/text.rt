@@ -11,7 +11,7 @@ ghost use Rattle.plan.specs.Rows.{rowsIn};
 ghost use Rattle.plan.specs.Text.{decimal, clausesText, rowText, rowsText, numberAt, lastLine, textOf, Wrote};
 
 // The bytes s.
-pub fn write_bytes(out: &mut [u8], at: usize, s: &[u8]) -> usize
+pub(crate) fn write_bytes(out: &mut [u8], at: usize, s: &[u8]) -> usize
     requires { ⌜ at + length (now s) ≤ length (now out) ⌝ }
     ensures { λ r. ⌜ Wrote (now (out .entry)) at (now (s .entry)) r (now (out .exit)) ⌝ }
 {
@@ -24,7 +24,7 @@ pub fn write_bytes(out: &mut [u8], at: usize, s: &[u8]) -> usize
 }
 
 // The number n in decimal.
-pub fn write_number(out: &mut [u8], at: usize, n: usize) -> usize
+pub(crate) fn write_number(out: &mut [u8], at: usize, n: usize) -> usize
     requires { ⌜ at + 20 ≤ length (now out) ⌝ }
     ensures { λ r. ⌜ Wrote (now (out .entry)) at (decimal n) r (now (out .exit)) ⌝ }
     ensures { λ r. ⌜ r ≤ at + 20 ⌝ }
@@ -39,7 +39,7 @@ pub fn write_number(out: &mut [u8], at: usize, n: usize) -> usize
 }
 
 // The clauses of a row: `-` for a full picture.
-pub fn write_clauses(out: &mut [u8], at: usize, clauses: usize) -> usize
+pub(crate) fn write_clauses(out: &mut [u8], at: usize, clauses: usize) -> usize
     requires { ⌜ at + 20 ≤ length (now out) ⌝ }
     ensures { λ r. ⌜ Wrote (now (out .entry)) at (clausesText clauses) r (now (out .exit)) ⌝ }
     ensures { λ r. ⌜ r ≤ at + 20 ⌝ }
@@ -51,7 +51,7 @@ pub fn write_clauses(out: &mut [u8], at: usize, clauses: usize) -> usize
 }
 
 // A row as a line.
-pub fn write_row(out: &mut [u8], at: usize, row: Row) -> usize
+pub(crate) fn write_row(out: &mut [u8], at: usize, row: Row) -> usize
     requires { ⌜ at + 63 ≤ length (now out) ⌝ }
     ensures { λ r. ⌜ Wrote (now (out .entry)) at (rowText row) r (now (out .exit)) ⌝ }
     ensures { λ r. ⌜ r ≤ at + 63 ⌝ }
@@ -65,7 +65,7 @@ pub fn write_row(out: &mut [u8], at: usize, row: Row) -> usize
 }
 
 // The rows of the places arrived at.
-pub fn write_rows(out: &mut [u8], at: usize, counts: Counts) -> usize
+pub(crate) fn write_rows(out: &mut [u8], at: usize, counts: Counts) -> usize
     requires { ⌜ counts .count ≤ 65 ⌝ }
     requires { ⌜ at + 63 * counts .count ≤ length (now out) ⌝ }
     ensures { λ r. ⌜ Wrote (now (out .entry)) at (rowsText (rowsIn counts)) r (now (out .exit)) ⌝ }
@@ -87,7 +87,7 @@ pub fn write_rows(out: &mut [u8], at: usize, counts: Counts) -> usize
 }
 
 // A word, a number, `at` and a place, as a line.
-pub fn write_at(out: &mut [u8], at: usize, word: &[u8], number: u8, place: usize) -> usize
+pub(crate) fn write_at(out: &mut [u8], at: usize, word: &[u8], number: u8, place: usize) -> usize
     requires { ⌜ (at + length (now word)) + 45 ≤ length (now out) ⌝ }
     ensures { λ r. ⌜ Wrote (now (out .entry)) at (numberAt (now (word .entry)) number place) r (now (out .exit)) ⌝ }
 {
@@ -99,7 +99,7 @@ pub fn write_at(out: &mut [u8], at: usize, word: &[u8], number: u8, place: usize
 }
 
 // The last line of the run.
-pub fn write_verdict(out: &mut [u8], at: usize, verdict: Verdict) -> usize
+pub(crate) fn write_verdict(out: &mut [u8], at: usize, verdict: Verdict) -> usize
     requires { ⌜ at + 53 ≤ length (now out) ⌝ }
     ensures { λ r. ⌜ Wrote (now (out .entry)) at (lastLine verdict) r (now (out .exit)) ⌝ }
 {
@@ -117,7 +117,7 @@ pub fn write_verdict(out: &mut [u8], at: usize, verdict: Verdict) -> usize
 }
 
 // The run was refused.
-pub fn refused(verdict: Verdict) -> bool
+pub(crate) fn refused(verdict: Verdict) -> bool
     ensures { λ r. ⌜ r ≡ refusedVerdict verdict ⌝ }
 {
     match verdict {
@@ -130,7 +130,7 @@ pub fn refused(verdict: Verdict) -> bool
 }
 
 // The whole text of a run.
-pub fn write_text(out: &mut [u8], course: Course) -> usize
+pub(crate) fn write_text(out: &mut [u8], course: Course) -> usize
     requires { ⌜ course .counts .count ≤ 65 ⌝ }
     requires { ⌜ 8192 ≤ length (now out) ⌝ }
     ensures { λ r. ⌜ Wrote (now (out .entry)) 0 (textOf (course .ran) (rowsIn (course .counts))) r (now (out .exit)) ⌝ }

@@ -24,7 +24,7 @@ pub struct Clauses {
 }
 
 // The literals of e as one-literal clauses, ascending. The result is how many.
-pub fn units(e: Literals, trues: &mut [u32], falses: &mut [u32]) -> usize
+pub(crate) fn units(e: Literals, trues: &mut [u32], falses: &mut [u32]) -> usize
     requires { ⌜ Held (length (now trues)) 0 (now trues) (now falses) ⌝ }
     requires { ⌜ 64 ≤ length (now trues) ⌝ }
     ensures { λ r. ⌜ Holds (length (now (trues .entry))) (P.units e) r (now (trues .exit)) (now (falses .exit)) ⌝ }
@@ -42,7 +42,7 @@ pub fn units(e: Literals, trues: &mut [u32], falses: &mut [u32]) -> usize
 }
 
 // Puts the clause c joined with each of the first m clauses of us and vs.
-pub fn spread<'a, 'b>(
+pub(crate) fn spread<'a, 'b>(
     c: Literals,
     us: &'a [u32],
     vs: &'a [u32],
@@ -72,7 +72,7 @@ pub fn spread<'a, 'b>(
 }
 
 // Puts the first n clauses of ts and fs, each joined with the first m of us and vs, into fresh slices.
-pub fn join_lists<'a, 'b, 'c>(
+pub(crate) fn join_lists<'a, 'b, 'c>(
     ts: &'a [u32],
     fs: &'a [u32],
     n: usize,
@@ -104,7 +104,7 @@ pub fn join_lists<'a, 'b, 'c>(
 }
 
 // The clauses so far with the literals of the next entry added, in fresh slices.
-pub fn fold<'a, 'b>(
+pub(crate) fn fold<'a, 'b>(
     e: Literals,
     ts: &'a [u32],
     fs: &'a [u32],
@@ -123,7 +123,7 @@ pub fn fold<'a, 'b>(
 }
 
 // The clauses of the first count entries: a fresh list of at most 256 for each entry after the first.
-pub fn clauses_of<'a>(ts: &'a [u32], fs: &'a [u32], count: usize) -> Clauses
+pub(crate) fn clauses_of<'a>(ts: &'a [u32], fs: &'a [u32], count: usize) -> Clauses
     requires { ⌜ 1 ≤ count ⌝ }
     requires { ⌜ (count ≤ length (now ts)) × (count ≤ length (now fs)) ⌝ }
     ensures { λ r. ⌜ r ≡ clausesOf (P.primes 256 (entriesOf count (now (ts .entry)) (now (fs .entry)))) ⌝ }

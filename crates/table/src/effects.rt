@@ -9,7 +9,7 @@ ghost use lib.ListN.{length, take, drop};
 ghost use Rattle.table.specs.Moves as M;
 
 // The effect of a number.
-pub fn effect_at<'a>(effects: &'a [u32], i: usize) -> Effect
+pub(crate) fn effect_at<'a>(effects: &'a [u32], i: usize) -> Effect
     requires { ⌜ 4 * i + 4 ≤ length (now effects) ⌝ }
     ensures { λ r. ⌜ r ≡ M.effectAt (now (effects .entry)) i ⌝ }
 {
@@ -27,7 +27,7 @@ pub fn effect_at<'a>(effects: &'a [u32], i: usize) -> Effect
 }
 
 // The four masks of an effect from `at` on. The others are kept.
-pub fn write_effect(effects: &mut [u32], at: usize, e: Effect)
+pub(crate) fn write_effect(effects: &mut [u32], at: usize, e: Effect)
     requires { ⌜ at + 4 ≤ length (now effects) ⌝ }
     ensures { λ r. ⌜ now (effects .exit) ≡ take at (now (effects .entry)) ++ (M.masksOf e ++ drop (at + 4) (now (effects .entry))) ⌝ }
 {
@@ -40,7 +40,7 @@ pub fn write_effect(effects: &mut [u32], at: usize, e: Effect)
 }
 
 // The effects of a move, laid out.
-pub fn lay(mv: Move, effects: &mut [u32])
+pub(crate) fn lay(mv: Move, effects: &mut [u32])
     requires { ⌜ (mv .count ≤ 8) × (length (now effects) ≡ 32) ⌝ }
     ensures { λ r. ⌜ M.effectsOf mv ≡ M.effectsAt (mv .count) (now (effects .exit)) ⌝ }
 {

@@ -27,7 +27,7 @@ ghost use Rattle.table.specs.Calls.{orGiven};
 ghost use Rattle.table.specs.Reads.{clauseOf, others, Counts, Readable};
 
 // Puts a candidate if it is consistent.
-pub fn admit(trues: &mut [u32], falses: &mut [u32], k: usize, c: Literals) -> Grown
+pub(crate) fn admit(trues: &mut [u32], falses: &mut [u32], k: usize, c: Literals) -> Grown
     requires { ⌜ Held (length (now trues)) k (now trues) (now falses) ⌝ }
     ensures { λ r. ⌜ Puts (keep L.consistent (c ∷ [])) k (now (trues .entry)) (now (falses .entry)) r (now (trues .exit)) (now (falses .exit)) ⌝ }
 {
@@ -38,7 +38,7 @@ pub fn admit(trues: &mut [u32], falses: &mut [u32], k: usize, c: Literals) -> Gr
 }
 
 // The entry with each alternative of an or-clause, in order.
-pub fn widen_or(
+pub(crate) fn widen_or(
     alts: Sets,
     entry: Literals,
     trues: &mut [u32],
@@ -64,7 +64,7 @@ pub fn widen_or(
 }
 
 // Each alternative from `at` on but `i` is made false in every way; a branch that is inconsistent already is cut.
-pub fn choose(
+pub(crate) fn choose(
     alts: Sets,
     i: usize,
     at: usize,
@@ -103,7 +103,7 @@ pub fn choose(
 }
 
 // The entry with each alternative of a oneof-clause, in order, and the others made false.
-pub fn widen_oneof(
+pub(crate) fn widen_oneof(
     alts: Sets,
     entry: Literals,
     trues: &mut [u32],
@@ -129,7 +129,7 @@ pub fn widen_oneof(
 }
 
 // The candidates of one entry.
-pub fn widen(
+pub(crate) fn widen(
     exclusive: bool,
     alts: Sets,
     entry: Literals,
@@ -148,7 +148,7 @@ pub fn widen(
 }
 
 // The candidates of the first m entries of ts and fs, put after the k that are there.
-pub fn spread<'a, 'b>(
+pub(crate) fn spread<'a, 'b>(
     exclusive: bool,
     alts: Sets,
     ts: &'a [u32],
@@ -180,7 +180,7 @@ pub fn spread<'a, 'b>(
 }
 
 // No table.
-pub fn refuse(number: u8, position: usize) -> Tabled
+pub(crate) fn refuse(number: u8, position: usize) -> Tabled
     ensures { λ r. ⌜ (r .answer ≡ Refused number position) × (r .table ≡ tableOf []) ⌝ }
 {
     Tabled {
@@ -194,7 +194,7 @@ pub fn refuse(number: u8, position: usize) -> Tabled
 }
 
 // The fresh table that one clause builds.
-pub fn grow(exclusive: bool, alts: Sets, t: Table) -> Tabled
+pub(crate) fn grow(exclusive: bool, alts: Sets, t: Table) -> Tabled
     requires { ⌜ alts .count ≤ 8 ⌝ }
     requires { ⌜ t .count ≤ 128 ⌝ }
     ensures { λ r. ⌜ r ≡ orGiven (tableOf []) (spec.grow 128 (clauseOf exclusive (setsIn alts)) (entries t)) ⌝ }
@@ -231,7 +231,7 @@ pub fn grow(exclusive: bool, alts: Sets, t: Table) -> Tabled
 }
 
 // The tables of all clauses of a section, one after the other; the first refusal stays.
-pub fn grow_all(exclusive: bool, clauses: Clauses, t: Table) -> Tabled
+pub(crate) fn grow_all(exclusive: bool, clauses: Clauses, t: Table) -> Tabled
     requires { ⌜ Counts clauses ⌝ }
     requires { ⌜ Held 128 (t .count) (t .trues) (t .falses) ⌝ }
     ensures { λ r. ⌜ r ≡ orGiven (tableOf []) (spec.growAll 128 (map (clauseOf exclusive) (clausesIn clauses)) (entries t)) ⌝ }

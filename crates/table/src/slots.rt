@@ -28,7 +28,7 @@ pub enum Grown {
 }
 
 // The last of the first n entries whose literals all lie in l.
-pub fn last_within(trues: &[u32], falses: &[u32], n: usize, l: Literals) -> Found
+pub(crate) fn last_within(trues: &[u32], falses: &[u32], n: usize, l: Literals) -> Found
     requires { ⌜ (n ≤ length (now trues)) × (n ≤ length (now falses)) ⌝ }
     ensures { λ r. ⌜ r ≡ lastOf (λ e. L.within e l) (entriesOf n (now (trues .entry)) (now (falses .entry))) ⌝ }
 {
@@ -47,7 +47,7 @@ pub fn last_within(trues: &[u32], falses: &[u32], n: usize, l: Literals) -> Foun
 }
 
 // How many of the first n entries stand before the first that contains l.
-pub fn first_above(trues: &[u32], falses: &[u32], n: usize, l: Literals) -> usize
+pub(crate) fn first_above(trues: &[u32], falses: &[u32], n: usize, l: Literals) -> usize
     requires { ⌜ (n ≤ length (now trues)) × (n ≤ length (now falses)) ⌝ }
     ensures { λ r. ⌜ (r ≤ n) × (left (take r (entriesOf n (now (trues .entry)) (now (falses .entry)))) l ≡ take r (entriesOf n (now (trues .entry)) (now (falses .entry)))) ⌝ }
 {
@@ -66,7 +66,7 @@ pub fn first_above(trues: &[u32], falses: &[u32], n: usize, l: Literals) -> usiz
 }
 
 // The entries that contain l go; the others move up in order, and the slots that come free are zero. The result is how many are left.
-pub fn remove(trues: &mut [u32], falses: &mut [u32], n: usize, l: Literals) -> usize
+pub(crate) fn remove(trues: &mut [u32], falses: &mut [u32], n: usize, l: Literals) -> usize
     requires { ⌜ Held (length (now trues)) n (now trues) (now falses) ⌝ }
     ensures { λ r. ⌜ Holds (length (now (trues .entry))) (left (entriesOf n (now (trues .entry)) (now (falses .entry))) l) r (now (trues .exit)) (now (falses .exit)) ⌝ }
 {
@@ -90,7 +90,7 @@ pub fn remove(trues: &mut [u32], falses: &mut [u32], n: usize, l: Literals) -> u
 }
 
 // Puts a candidate. A full list is left as it was.
-pub fn put(trues: &mut [u32], falses: &mut [u32], n: usize, l: Literals) -> Fate
+pub(crate) fn put(trues: &mut [u32], falses: &mut [u32], n: usize, l: Literals) -> Fate
     requires { ⌜ Held (length (now trues)) n (now trues) (now falses) ⌝ }
     ensures { λ r. ⌜ r ≡ fateOf (length (now (trues .entry))) (entriesOf n (now (trues .entry)) (now (falses .entry))) l ⌝ }
     ensures { λ r. ⌜ Holds (length (now (trues .entry))) (after (length (now (trues .entry))) (entriesOf n (now (trues .entry)) (now (falses .entry))) l) (length (after (length (now (trues .entry))) (entriesOf n (now (trues .entry)) (now (falses .entry))) l)) (now (trues .exit)) (now (falses .exit)) ⌝ }
@@ -113,7 +113,7 @@ pub fn put(trues: &mut [u32], falses: &mut [u32], n: usize, l: Literals) -> Fate
 }
 
 // Puts a candidate, and says how many entries there are then.
-pub fn offer(trues: &mut [u32], falses: &mut [u32], n: usize, l: Literals) -> Grown
+pub(crate) fn offer(trues: &mut [u32], falses: &mut [u32], n: usize, l: Literals) -> Grown
     requires { ⌜ Held (length (now trues)) n (now trues) (now falses) ⌝ }
     ensures { λ r. ⌜ Puts (l ∷ []) n (now (trues .entry)) (now (falses .entry)) r (now (trues .exit)) (now (falses .exit)) ⌝ }
 {

@@ -31,7 +31,12 @@ ghost use Rattle.table.specs.Moves as M;
 ghost use Rattle.table.specs.Calls.{orGiven, stepMove};
 
 // The precondition lies in every entry (24 if not).
-pub fn sure<'a>(precondition: Literals, trues: &'a [u32], falses: &'a [u32], count: usize) -> bool
+pub(crate) fn sure<'a>(
+    precondition: Literals,
+    trues: &'a [u32],
+    falses: &'a [u32],
+    count: usize,
+) -> bool
     requires { ⌜ (count ≤ length (now trues)) × (count ≤ length (now falses)) ⌝ }
     ensures { λ r. ⌜ r ≡ allOf (λ d. L.within precondition d) (entriesOf count (now (trues .entry)) (now (falses .entry))) ⌝ }
 {
@@ -46,7 +51,7 @@ pub fn sure<'a>(precondition: Literals, trues: &'a [u32], falses: &'a [u32], cou
 }
 
 // The results of e and f clash, and d admits both conditions.
-pub fn opposed(e: Effect, d: Literals, f: Effect) -> bool
+pub(crate) fn opposed(e: Effect, d: Literals, f: Effect) -> bool
     ensures { λ r. ⌜ r ≡ M.opposed e d f ⌝ }
 {
     if masks::clash(e.result, f.result) {
@@ -56,7 +61,13 @@ pub fn opposed(e: Effect, d: Literals, f: Effect) -> bool
 }
 
 // Some effect from `from` on is opposed to e in d.
-pub fn opposes<'a>(effects: &'a [u32], size: usize, e: Effect, from: usize, d: Literals) -> bool
+pub(crate) fn opposes<'a>(
+    effects: &'a [u32],
+    size: usize,
+    e: Effect,
+    from: usize,
+    d: Literals,
+) -> bool
     requires { ⌜ 4 * size ≤ length (now effects) ⌝ }
     ensures { λ r. ⌜ r ≡ anyOf (M.opposed e d) (drop from (M.effectsAt size (now (effects .entry)))) ⌝ }
 {
@@ -71,7 +82,7 @@ pub fn opposes<'a>(effects: &'a [u32], size: usize, e: Effect, from: usize, d: L
 }
 
 // Two effects are opposed in d.
-pub fn contradicts<'a>(effects: &'a [u32], size: usize, d: Literals) -> bool
+pub(crate) fn contradicts<'a>(effects: &'a [u32], size: usize, d: Literals) -> bool
     requires { ⌜ 4 * size ≤ length (now effects) ⌝ }
     ensures { λ r. ⌜ r ≡ P.contradicts (M.effectsAt size (now (effects .entry))) d ⌝ }
 {
@@ -87,7 +98,7 @@ pub fn contradicts<'a>(effects: &'a [u32], size: usize, d: Literals) -> bool
 }
 
 // Two effects are opposed in some entry (25).
-pub fn unclear<'a, 'b>(
+pub(crate) fn unclear<'a, 'b>(
     effects: &'a [u32],
     size: usize,
     trues: &'b [u32],
@@ -109,7 +120,7 @@ pub fn unclear<'a, 'b>(
 }
 
 // The results of the effects whose conditions lie in the piece, joined.
-pub fn results<'a>(effects: &'a [u32], size: usize, piece: Literals) -> Literals
+pub(crate) fn results<'a>(effects: &'a [u32], size: usize, piece: Literals) -> Literals
     requires { ⌜ 4 * size ≤ length (now effects) ⌝ }
     ensures { λ r. ⌜ r ≡ W.results (M.effectsAt size (now (effects .entry))) piece ⌝ }
 {
@@ -129,7 +140,7 @@ pub fn results<'a>(effects: &'a [u32], size: usize, piece: Literals) -> Literals
 }
 
 // What a whole piece becomes is put.
-pub fn leaf<'a, 'b>(
+pub(crate) fn leaf<'a, 'b>(
     effects: &'a [u32],
     size: usize,
     piece: Literals,
@@ -146,7 +157,7 @@ pub fn leaf<'a, 'b>(
 }
 
 // The condition splits nothing: it lies in the piece or contradicts it.
-pub fn stays(condition: Literals, piece: Literals) -> bool
+pub(crate) fn stays(condition: Literals, piece: Literals) -> bool
     ensures { λ r. ⌜ r ≡ (L.within condition piece || L.clash condition piece) ⌝ }
 {
     if masks::within(condition, piece) {
@@ -156,7 +167,7 @@ pub fn stays(condition: Literals, piece: Literals) -> bool
 }
 
 // The piece with the complement of the literal l.
-pub fn without(piece: Literals, l: usize) -> Literals
+pub(crate) fn without(piece: Literals, l: usize) -> Literals
     requires { ⌜ l < 64 ⌝ }
     ensures { λ r. ⌜ r ≡ L.join piece (L.flip (L.literal l)) ⌝ }
 {
@@ -164,7 +175,7 @@ pub fn without(piece: Literals, l: usize) -> Literals
 }
 
 // The pieces of `piece` by the conditions from `at` on, depth first, each put in its turn.
-pub fn split<'a, 'b>(
+pub(crate) fn split<'a, 'b>(
     effects: &'a [u32],
     size: usize,
     at: usize,
@@ -213,7 +224,7 @@ pub fn split<'a, 'b>(
 }
 
 // The pieces of the first m entries of ts and fs, each put in its turn.
-pub fn spread<'a, 'b, 'c>(
+pub(crate) fn spread<'a, 'b, 'c>(
     effects: &'a [u32],
     size: usize,
     ts: &'b [u32],
@@ -241,7 +252,7 @@ pub fn spread<'a, 'b, 'c>(
 }
 
 // A refusal by its number, with the table.
-pub fn refused(number: u8, table: Table) -> Tabled
+pub(crate) fn refused(number: u8, table: Table) -> Tabled
     ensures { λ r. ⌜ r ≡ orGiven table (O.refused number) ⌝ }
 {
     Tabled {
@@ -315,7 +326,7 @@ pub fn advance(mv: Move, table: Table) -> Tabled
 }
 
 // The step by the move of a number on a sheet that was read: 7, 22, then the step.
-pub fn step_in(sheet: Sheet, table: Table, number: usize) -> Tabled
+pub(crate) fn step_in(sheet: Sheet, table: Table, number: usize) -> Tabled
     requires { ⌜ M.Filled sheet ⌝ }
     ensures { λ r. ⌜ r ≡ stepMove (ltb number (length (problemIn sheet .actions))) (problemIn sheet) table number ⌝ }
 {

@@ -23,7 +23,7 @@ pub fn entry_at<'a>(trues: &'a [u32], falses: &'a [u32], i: usize) -> Literals
 }
 
 // No literal with its complement, no proposition at n or above.
-pub fn proper(n: usize, e: Literals) -> bool
+pub(crate) fn proper(n: usize, e: Literals) -> bool
     ensures { λ r. ⌜ r ≡ M.proper n e ⌝ }
 {
     if masks::consistent(e) {
@@ -33,7 +33,7 @@ pub fn proper(n: usize, e: Literals) -> bool
 }
 
 // One of the two lies in the other.
-pub fn nested(a: Literals, b: Literals) -> bool
+pub(crate) fn nested(a: Literals, b: Literals) -> bool
     ensures { λ r. ⌜ r ≡ (L.within a b || L.within b a) ⌝ }
 {
     if masks::within(a, b) {
@@ -43,7 +43,7 @@ pub fn nested(a: Literals, b: Literals) -> bool
 }
 
 // Every entry is proper.
-pub fn all_proper<'a>(n: usize, trues: &'a [u32], falses: &'a [u32], count: usize) -> bool
+pub(crate) fn all_proper<'a>(n: usize, trues: &'a [u32], falses: &'a [u32], count: usize) -> bool
     requires { ⌜ (count ≤ length (now trues)) × (count ≤ length (now falses)) ⌝ }
     ensures { λ r. ⌜ r ≡ allOf (M.proper n) (entriesOf count (now (trues .entry)) (now (falses .entry))) ⌝ }
 {
@@ -58,7 +58,7 @@ pub fn all_proper<'a>(n: usize, trues: &'a [u32], falses: &'a [u32], count: usiz
 }
 
 // No entry lies in another. The first pair found nested ends the search.
-pub fn is_antichain<'a>(trues: &'a [u32], falses: &'a [u32], count: usize) -> bool
+pub(crate) fn is_antichain<'a>(trues: &'a [u32], falses: &'a [u32], count: usize) -> bool
     requires { ⌜ (count ≤ length (now trues)) × (count ≤ length (now falses)) ⌝ }
     ensures { λ r. ⌜ r ≡ M.antichain (entriesOf count (now (trues .entry)) (now (falses .entry))) ⌝ }
 {
@@ -80,7 +80,7 @@ pub fn is_antichain<'a>(trues: &'a [u32], falses: &'a [u32], count: usize) -> bo
 }
 
 // 1 to 128 entries, each proper, none in another.
-pub fn described<'a>(n: usize, trues: &'a [u32], falses: &'a [u32], count: usize) -> bool
+pub(crate) fn described<'a>(n: usize, trues: &'a [u32], falses: &'a [u32], count: usize) -> bool
     requires { ⌜ (length (now trues) ≡ 128) × (length (now falses) ≡ 128) ⌝ }
     ensures { λ r. ⌜ r ≡ M.described 128 n (entriesOf count (now (trues .entry)) (now (falses .entry))) ⌝ }
 {

@@ -14,7 +14,7 @@ ghost use Rattle.table.specs.Slots.{entriesOf};
 ghost use Rattle.table.specs.PictureCalls.{refusal, given, written};
 
 // A mask in four bytes, high byte first.
-pub fn write_mask(buffer: &mut [u8], at: usize, m: u32)
+pub(crate) fn write_mask(buffer: &mut [u8], at: usize, m: u32)
     requires { ⌜ at + 4 ≤ length (now buffer) ⌝ }
     ensures { λ r. ⌜ now (buffer .exit) ≡ take at (now (buffer .entry)) ++ P.maskBytes m (drop (at + 4) (now (buffer .entry))) ⌝ }
 {
@@ -25,7 +25,12 @@ pub fn write_mask(buffer: &mut [u8], at: usize, m: u32)
 }
 
 // The count in two bytes, then the masks of each clause. Later bytes are kept.
-pub fn write_picture<'a, 'b>(trues: &'a [u32], falses: &'a [u32], n: usize, buffer: &'b mut [u8])
+pub(crate) fn write_picture<'a, 'b>(
+    trues: &'a [u32],
+    falses: &'a [u32],
+    n: usize,
+    buffer: &'b mut [u8],
+)
     requires { ⌜ (n ≤ length (now trues)) × (n ≤ length (now falses)) ⌝ }
     requires { ⌜ (n ≤ 256) × (2 + 8 * n ≤ length (now buffer)) ⌝ }
     ensures { λ r. ⌜ now (buffer .exit) ≡ P.pictureBytes (entriesOf n (now (trues .entry)) (now (falses .entry))) ++ drop (2 + 8 * n) (now (buffer .entry)) ⌝ }
@@ -42,7 +47,7 @@ pub fn write_picture<'a, 'b>(trues: &'a [u32], falses: &'a [u32], n: usize, buff
 }
 
 // No clause, with the number and the position.
-pub fn refused(number: u8, position: usize) -> Pictured
+pub(crate) fn refused(number: u8, position: usize) -> Pictured
     ensures { λ r. ⌜ r ≡ refusal number position ⌝ }
 {
     Pictured {
@@ -52,7 +57,7 @@ pub fn refused(number: u8, position: usize) -> Pictured
 }
 
 // The picture of the first count entries in the buffer; 22, 21, 23 in this order. Refused, every byte is as it was.
-pub fn draw<'a, 'b>(
+pub(crate) fn draw<'a, 'b>(
     n: usize,
     trues: &'a [u32],
     falses: &'a [u32],
