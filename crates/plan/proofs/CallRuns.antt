@@ -40,7 +40,7 @@ pub record Called (p : Problem) (plan : List Action) (r : Ran) : Type 0 where
   pub clauses-are : finalClauses r ≡ clauses
 
 -- ---- verdicts
-never-refused : (v : Verdict) → refusedVerdict (verdictOf v) ≡ false
+pub never-refused : (v : Verdict) → refusedVerdict (verdictOf v) ≡ false
 unfolding refusedVerdict verdictOf
 never-refused reached = refl
 never-refused short = refl
@@ -109,7 +109,7 @@ module _ (s : List ℕ) (x : Statement) (says : sheetOf s ≡ accepted x) (rows 
   abbrev p : Problem
   p = x .problem
 
-  run-planned : runOf (sheetOf s) rows ≡ planned (x .problem) (x .plan) (startTable 128 (x .problem))
+  pub run-planned : runOf (sheetOf s) rows ≡ planned (x .problem) (x .plan) (startTable 128 (x .problem))
   unfolding runOf
   run-planned =
       ap (λ (j : Judgement). runOf j rows) says

@@ -1,18 +1,18 @@
--- The theorems about plans: runs (TH5), the search (TH6), exchanges (TH7), pictures both ways (TH9). Assumes nothing.
+-- The theorems about plans: each number on its own condition (TH4), runs (TH5), the search (TH6), exchanges (TH7), pictures both ways
+-- (TH9). TH4 is passed on from `CallAnswers`. Assumes nothing.
 use mathlib.Core.Path.{_≡_, refl, sym, ap, subst, _∙_}
-use mathlib.Core.Bool.{Bool, false, cond}
+use mathlib.Core.Bool.{Bool, false}
 use mathlib.Core.List.{List, _++_}
 use mathlib.Core.Logic.{_⊎_, _↔_}
 use mathlib.Core.Option.{none, some}
 use Prim.Native.Nat.{ℕ, suc, _^_, _≤_, _<_}
 use native.Mathlib.Omega.{arith}
-use borrow.Author.Tests.{le-ltb}
 use lib.ListN.{length, take, drop, getD}
 use Rattle.sheet.specs.declared.Literals.{Literals}
 use Rattle.sheet.specs.declared.Answer.the-variants.{Accepted, Refused}
 use Rattle.sheet.specs.Lists.{All}
 use Rattle.sheet.specs.Problem.{Action, Problem, Statement}
-use Rattle.sheet.specs.Format.{Judgement, accepted, sheetOf}
+use Rattle.sheet.specs.Format.{accepted, sheetOf}
 use Rattle.sheet.specs.Encoding.{ProperAction, ProperProblem, ProperStatement, encode}
 use Rattle.sheet.proofs.Encoded.{encoded-iff}
 use Rattle.sheet.proofs.Judging.{accepted-iff}
@@ -29,7 +29,7 @@ use Rattle.plan.specs.declared.Row.{Row}
 use Rattle.plan.specs.declared.Ran.{Ran}
 use Rattle.plan.specs.Run.{actionsOf, Verdict, reached, short, stopped, full, runFrom, lastTable, movesTaken, rowOf, rowsFrom}
 use Rattle.plan.specs.Search.{found, fullAt, nothing}
-use Rattle.plan.specs.Calls.{verdictOf, runOf, rowsOf, refusedSearch, answered, searchedFrom, searched, searchOf}
+use Rattle.plan.specs.Calls.{verdictOf, runOf, rowsOf, answered, searchedFrom, searched, searchOf}
 use Rattle.plan.specs.Exchange.{touch, exchanges}
 use Rattle.plan.specs.Weak.{weakTouch, exchangesBy}
 use Rattle.plan.specs.Places.{tableAt, Refuses}
@@ -45,6 +45,8 @@ use Rattle.plan.proofs.SearchRuns as searches
 use Rattle.plan.proofs.FinalPictures as finals
 use Rattle.plan.proofs.CallRuns as calls
 use Rattle.plan.proofs.CallRuns.{statement-proper, called-class, called-both-ways, called, called-unless-full}
+use Rattle.plan.proofs.CallAnswers.{search-within}
+pub use Rattle.plan.proofs.CallAnswers.{run-fault, run-fault-rows, run-23, run-23-only, run-number, run-given, run-back, run-rows-kept, search-fault, search-8, search-8-only, search-number, search-given, search-back}
 
 -- ---- moves that do not touch, even by the weaker test, may change places in every world
 pub commute : (n : ℕ) (a b : Action) → ProperAction n a → ProperAction n b → weakTouch a b ≡ false → (w : ℕ) → w < 2 ^ n
@@ -151,11 +153,8 @@ module _ (s : List ℕ) (x : Statement) (says : sheetOf s ≡ accepted x) (t : L
 
   -- what the call gives
   pub search-call : limit ≤ 8 → searchOf (sheetOf s) limit ≡ answered (searchedFrom sheet limit t)
-  unfolding searchOf searched
-  search-call h =
-      ap (λ (j : Judgement). searchOf j limit) says
-      ∙ ap (λ (b : Bool). cond b (refusedSearch 8 0) (searched sheet limit (startTable 128 sheet))) (le-ltb 8 limit h)
-      ∙ ap (searched sheet limit) starts
+  unfolding searched
+  search-call h = search-within s x says limit h ∙ ap (searched sheet limit) starts
 
   -- reached: this plan is, and every earlier one fails; full: this plan is, and every earlier one fails; none: every one fails
   pub search-found : (q : List ℕ) → (searchedFrom sheet limit t ≡ found q) ↔ FirstPlan run moves limit q reached

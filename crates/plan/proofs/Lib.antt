@@ -7,6 +7,7 @@ pub mod Verdicts
 pub mod Exactly
 pub mod TableRuns
 pub mod CallRuns
+pub mod CallAnswers
 pub mod Courses
 pub mod FinalPictures
 pub mod Searching
