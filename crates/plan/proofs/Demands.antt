@@ -30,14 +30,14 @@ use Rattle.plan.specs.declared.Ran.{Ran}
 use Rattle.plan.specs.Run.{actionsOf, Verdict, reached, short, stopped, full, runFrom, lastTable, movesTaken, rowOf, rowsFrom}
 use Rattle.plan.specs.Search.{found, fullAt, nothing}
 use Rattle.plan.specs.Calls.{verdictOf, runOf, rowsOf, answered, searchedFrom, searched, searchOf}
-use Rattle.plan.specs.Exchange.{touch, exchanges}
-use Rattle.plan.specs.Weak.{weakTouch, exchangesBy}
+use Rattle.plan.specs.Exchange.{touch, exchangesBy, exchanges}
+use Rattle.plan.specs.Weak.{weakTouch}
 use Rattle.plan.specs.Places.{tableAt, Refuses}
 use Rattle.plan.specs.Meaning.{Ends, Inside, Outside, Every, Some, Comes, StopsAt, Means}
 use Rattle.plan.specs.Order.{Earlier, PlanOf, Fails, FirstPlan}
 use Rattle.plan.specs.Demand3.{takenBy, runFull, runRefused, finalPicture, SamePlanSheet, SameEnd}
 use Rattle.plan.proofs.Commuting as commuting
-use Rattle.plan.proofs.Exchanging.{exchanges-all, exchanges-length, exchanges-world, exchanges-by}
+use Rattle.plan.proofs.Exchanging.{exchanges-all, exchanges-length, exchanges-world}
 use Rattle.plan.proofs.Running as running
 use Rattle.plan.proofs.TableRuns as runs
 use Rattle.plan.proofs.Searching as searching
@@ -207,7 +207,7 @@ exchanged-sheet s x says ks = (encode y, y, record { first = says; second = acce
     f = actionAt (x .problem)
 
     size : length (exchanges f ks (x .plan)) ≡ length (x .plan)
-    size = ap length (exchanges-by f ks (x .plan)) ∙ exchanges-length touch f ks (x .plan)
+    size = exchanges-length touch f ks (x .plan)
 
     proper : ProperStatement y
     proper = record {
@@ -215,7 +215,7 @@ exchanged-sheet s x says ks = (encode y, y, record { first = says; second = acce
       plan = record {
         least = omega arith;
         most = omega (arith, size, h .plan .most);
-        each = subst (All (λ b. b < length (x .problem .actions))) (sym (exchanges-by f ks (x .plan))) (exchanges-all touch f (λ b. b < length (x .problem .actions)) ks (x .plan) (h .plan .each));
+        each = exchanges-all touch f (λ b. b < length (x .problem .actions)) ks (x .plan) (h .plan .each);
       };
     }
 
@@ -260,7 +260,7 @@ module _ (s₁ s₂ : List ℕ) (x y : Statement) (same : SamePlanSheet s₁ s�
   pub exchange-runs : (w : ℕ) → w < 2 ^ σ .n → Starting σ w → (ks : List ℕ) → y .plan ≡ exchanges (actionAt σ) ks (x .plan)
       → runFull run₁ ≡ false → runFull run₂ ≡ false → SameEnd run₁ run₂
   exchange-runs w l st ks e =
-      exchange-runs-by touch (λ a b ha hb k. commute (σ .n) a b ha hb (touch-weak a b k)) w l st ks (e ∙ exchanges-by (actionAt σ) ks (x .plan))
+      exchange-runs-by touch (λ a b ha hb k. commute (σ .n) a b ha hb (touch-weak a b k)) w l st ks e
 
   -- TH9: for any two plans and any verdicts
   pub pictures-both-ways : runRefused run₁ ≡ false → runRefused run₂ ≡ false → (b₁ b₂ : List ℕ) → finalPicture run₁ ≡ some b₁ → finalPicture run₂ ≡ some b₂

@@ -11,8 +11,7 @@ use Rattle.sheet.specs.Encoding.{ProperAction}
 use Rattle.sheet.proofs.Bools.{true-T}
 use Rattle.table.specs.Worlds.{takes, after, when, stepWorld, andThen, runWorld}
 use Rattle.table.proofs.Stepping.{after-world}
-use Rattle.plan.specs.Exchange.{touch, swap, exchange, exchanges}
-use Rattle.plan.specs.Weak.{exchangeBy, exchangesBy}
+use Rattle.plan.specs.Exchange.{swap, exchangeBy, exchangesBy}
 
 -- ---- worlds step to worlds
 pub step-below : (n : ℕ) (a : Action) → ProperAction n a → (w v : ℕ) → w < 2 ^ n → stepWorld n a w ≡ some v → v < 2 ^ n
@@ -98,15 +97,3 @@ module _ (touches : Action → Action → Bool) (f : ℕ → Action) where
     exchanges-world [] plan h w l = refl
     exchanges-world (k ∷ ks) plan h w l =
         exchanges-world ks (exchangeBy touches f k plan) (exchange-all (λ i. ProperAction n (f i)) k plan h) w l ∙ exchange-world k plan h w l
-
--- ---- document 01's exchanges are those by its own test
-exchange-by : (f : ℕ → Action) (k : ℕ) (plan : List ℕ) → exchange f k plan ≡ exchangeBy touch f k plan
-exchange-by f zero plan = refl
-exchange-by f (suc k) [] = refl
-exchange-by f (suc k) (a ∷ []) = refl
-exchange-by f (suc zero) (a ∷ b ∷ plan) = refl
-exchange-by f (suc (suc k)) (a ∷ b ∷ plan) = ap {B = List ℕ} (λ p. a ∷ p) (exchange-by f (suc k) (b ∷ plan))
-
-pub exchanges-by : (f : ℕ → Action) (ks plan : List ℕ) → exchanges f ks plan ≡ exchangesBy touch f ks plan
-exchanges-by f [] plan = refl
-exchanges-by f (k ∷ ks) plan = ap (exchanges f ks) (exchange-by f k plan) ∙ exchanges-by f ks (exchangeBy touch f k plan)

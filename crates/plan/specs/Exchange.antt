@@ -37,16 +37,20 @@ abbrev pub swap : Bool → ℕ → ℕ → List ℕ → List ℕ
 swap true a b plan = a ∷ b ∷ plan
 swap false a b plan = b ∷ a ∷ plan
 
--- exchange k, from 1, on a plan of the numbers of the moves f: swaps moves k and k + 1; the plan stays if they touch or there is no
--- move k + 1
-abbrev pub exchange : (ℕ → Action) → ℕ → List ℕ → List ℕ
-exchange f zero plan = plan
-exchange f (suc k) [] = []
-exchange f (suc k) (a ∷ []) = a ∷ []
-exchange f (suc zero) (a ∷ b ∷ plan) = swap (touch (f a) (f b)) a b plan
-exchange f (suc (suc k)) (a ∷ b ∷ plan) = a ∷ exchange f (suc k) (b ∷ plan)
+-- exchange k, from 1, on a plan of the numbers of the moves f, by a test of touching: swaps moves k and k + 1; the plan stays if they touch
+-- or there is no move k + 1
+abbrev pub exchangeBy : (Action → Action → Bool) → (ℕ → Action) → ℕ → List ℕ → List ℕ
+exchangeBy touches f zero plan = plan
+exchangeBy touches f (suc k) [] = []
+exchangeBy touches f (suc k) (a ∷ []) = a ∷ []
+exchangeBy touches f (suc zero) (a ∷ b ∷ plan) = swap (touches (f a) (f b)) a b plan
+exchangeBy touches f (suc (suc k)) (a ∷ b ∷ plan) = a ∷ exchangeBy touches f (suc k) (b ∷ plan)
 
 -- the first exchange gets the plan, each later one what the one before left
+abbrev pub exchangesBy : (Action → Action → Bool) → (ℕ → Action) → List ℕ → List ℕ → List ℕ
+exchangesBy touches f [] plan = plan
+exchangesBy touches f (k ∷ ks) plan = exchangesBy touches f ks (exchangeBy touches f k plan)
+
+-- exchanges as document 01 has them
 abbrev pub exchanges : (ℕ → Action) → List ℕ → List ℕ → List ℕ
-exchanges f [] plan = plan
-exchanges f (k ∷ ks) plan = exchanges f ks (exchange f k plan)
+exchanges f ks plan = exchangesBy touch f ks plan

@@ -1,13 +1,12 @@
 -- A move and a table as the step takes them.
 use mathlib.Core.Path.{_≡_}
-use mathlib.Core.Bool.{Bool, _&&_}
 use mathlib.Core.List.{List, [], _∷_}
 use Prim.Native.Nat.{ℕ, zero, suc, _≤_, _+_, _*_}
 use lib.ListN.{getD, drop}
 use Rattle.sheet.specs.declared.Literals.{Literals}
 use Rattle.sheet.specs.declared.Effect.{Effect}
 use Rattle.sheet.specs.declared.Move.{Move}
-use Rattle.sheet.specs.Literals.{join, clash, consistent, Proper}
+use Rattle.sheet.specs.Literals.{Proper}
 use Rattle.sheet.specs.Lists.{All}
 use Rattle.sheet.specs.declared.Sheet.{Sheet}
 use Rattle.sheet.specs.Problem.{Statement}
@@ -43,10 +42,6 @@ effectAt row i =
 unfoldable pub effectsAt : ℕ → List ℕ → List Effect
 effectsAt zero row = []
 effectsAt (suc n) row = effectAt row 0 ∷ effectsAt n (drop 4 row)
-
--- the results of e and f clash, and d admits both conditions
-abbrev pub opposed : Effect → Literals → Effect → Bool
-opposed e d f = clash (e .result) (f .result) && consistent (join d (join (e .condition) (f .condition)))
 
 -- ---- a table in lent arrays
 abbrev pub lent : ℕ → List ℕ → List ℕ → Table

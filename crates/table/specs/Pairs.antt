@@ -6,8 +6,11 @@ use Rattle.sheet.specs.declared.Effect.{Effect}
 use Rattle.sheet.specs.Literals.{join, clash, consistent}
 use Rattle.sheet.specs.Lists.{anyOf}
 
--- some two effects with clashing results have conditions that can hold together in d
+-- the results of e and f clash, and d admits both conditions
+abbrev pub opposed : Effect → Literals → Effect → Bool
+opposed e d f = clash (e .result) (f .result) && consistent (join d (join (e .condition) (f .condition)))
+
+-- some two effects are opposed in d
 unfoldable pub contradicts : List Effect → Literals → Bool
 contradicts [] d = false
-contradicts (e ∷ es) d =
-    anyOf (λ f. clash (e .result) (f .result) && consistent (join d (join (e .condition) (f .condition)))) es || contradicts es d
+contradicts (e ∷ es) d = anyOf (opposed e d) es || contradicts es d

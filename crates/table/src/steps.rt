@@ -52,7 +52,7 @@ pub(crate) fn sure<'a>(
 
 // The results of e and f clash, and d admits both conditions.
 pub(crate) fn opposed(e: Effect, d: Literals, f: Effect) -> bool
-    ensures { λ r. ⌜ r ≡ M.opposed e d f ⌝ }
+    ensures { λ r. ⌜ r ≡ P.opposed e d f ⌝ }
 {
     if masks::clash(e.result, f.result) {
         return masks::consistent(masks::join(d, masks::join(e.condition, f.condition)));
@@ -69,7 +69,7 @@ pub(crate) fn opposes<'a>(
     d: Literals,
 ) -> bool
     requires { ⌜ 4 * size ≤ length (now effects) ⌝ }
-    ensures { λ r. ⌜ r ≡ anyOf (M.opposed e d) (drop from (M.effectsAt size (now (effects .entry)))) ⌝ }
+    ensures { λ r. ⌜ r ≡ anyOf (P.opposed e d) (drop from (M.effectsAt size (now (effects .entry)))) ⌝ }
 {
     let mut j = from;
     while j < size {

@@ -8,8 +8,8 @@ use lib.ListN.{drop}
 use Rattle.sheet.specs.declared.Literals.{Literals}
 use Rattle.sheet.specs.declared.Effect.{Effect}
 use Rattle.sheet.specs.Lists.{anyOf}
-use Rattle.table.specs.Pairs.{contradicts as contradictsIn}
-use Rattle.table.specs.Moves.{effectsAt, opposed}
+use Rattle.table.specs.Pairs.{opposed, contradicts as contradictsIn}
+use Rattle.table.specs.Moves.{effectsAt}
 use Rattle.table.proofs.EffectRows.{effects-step, effects-end}
 use Rattle.table.proofs.steps.contradicts.Statement.{statement}
 use Rattle.table.proofs.steps.contradicts.Tie as tie

@@ -6,7 +6,7 @@ use Rattle.sheet.specs.declared.Literals.{Literals}
 use Rattle.sheet.specs.declared.Effect.{Effect}
 use Rattle.sheet.specs.Literals.{join, clash, consistent}
 use Rattle.sheet.proofs.Bools.{kept}
-use Rattle.table.specs.Moves.{opposed as opposedBy}
+use Rattle.table.specs.Pairs.{opposed as opposedBy}
 use Rattle.table.proofs.steps.opposed.Statement.{statement}
 use Rattle.table.proofs.steps.opposed.Tie as tie
 

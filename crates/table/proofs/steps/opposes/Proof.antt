@@ -5,7 +5,8 @@ use native.Mathlib.Omega.{arith}
 use borrow.Author.Needs.{needs}
 use lib.ListN.{drop}
 use Rattle.sheet.specs.Lists.{anyOf}
-use Rattle.table.specs.Moves.{effectsAt, opposed as opposedBy}
+use Rattle.table.specs.Moves.{effectsAt}
+use Rattle.table.specs.Pairs.{opposed as opposedBy}
 use Rattle.table.proofs.Turns.{any-stop, any-on}
 use Rattle.table.proofs.EffectRows.{effects-step, effects-end}
 use Rattle.table.proofs.steps.opposes.Statement.{statement}
