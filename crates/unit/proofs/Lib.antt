@@ -1,0 +1,5 @@
+-- What the proofs of several functions use.
+mod Stores
+mod Answering
+mod Sizes
+mod RowNumbers
