@@ -24,9 +24,11 @@
  *   20 no starting world               21 table or picture full           22 table not as described
  *   23 buffer or rows too short        24 precondition not sure           25 contradictory results
  *
- * What the caller sees to, since C has no types for it: a pointer goes with a length of at most that many elements that it may read (or
- * write, if it is not const), it is not null and is aligned even where the length is 0, and nothing that is written overlaps another
- * argument. The functions keep nothing and allocate nothing: they work on the stack alone, and call only memcpy and memset. */
+ * What the caller sees to, since C has no types for it: each pointer is to at least as many elements as the length after it says, is not
+ * null and is aligned, even where that length is 0; and no slice that is written overlaps another one.
+ *
+ * The functions keep nothing and allocate nothing: they work on the stack alone (measured, not proved: less than 48 KiB on the sheets of
+ * the tests), and call only memcpy and memset. */
 #ifndef KREPUSKILO_H
 #define KREPUSKILO_H
 
@@ -61,9 +63,9 @@ uint8_t krepuskilo_judge(const uint8_t *sheet, size_t sheet_len, uint64_t *info,
 /* The first table of a sheet, into table. Answers 0; 1 to 7; 20 or 21. Refused: the 257 numbers are 0. Unused masks are 0. */
 uint8_t krepuskilo_start(const uint8_t *sheet, size_t sheet_len, uint32_t *table, size_t table_len, uint64_t *info, size_t info_len);
 
-/* The step of a table by the move of a number on the sheet, counted from 0: table in and out. Answers 0; 1 to 7; 22, 24, 25 or 21.
+/* The step of a table by the move of this number on the sheet, from 0: table in and out. Answers 0; 1 to 7; 22, 24, 25 or 21.
  * Unused masks are not read, and are 0 afterwards. Refused: every number of table is as it was. */
-uint8_t krepuskilo_step(const uint8_t *sheet, size_t sheet_len, uint32_t *table, size_t table_len, uint64_t number, uint64_t *info, size_t info_len);
+uint8_t krepuskilo_step(const uint8_t *sheet, size_t sheet_len, uint32_t *table, size_t table_len, uint64_t move, uint64_t *info, size_t info_len);
 
 /* The picture of a table (its prime implicates), into buffer: the number of clauses in two bytes, then for each clause its masks of true
  * and of false propositions, four bytes each, high byte first, sorted. Answers 0; 1 to 7; 22, 21, or 23 if buffer is shorter than

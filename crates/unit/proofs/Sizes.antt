@@ -24,7 +24,6 @@ use Rattle.table.specs.Slots.{entries, tableOf}
 use Rattle.table.specs.Calls.{orGiven, startOf, actionAt, stepKnown, stepMove, stepOf}
 use Rattle.table.proofs.PutLaws.{put-all-size}
 use Rattle.table.proofs.Demands.{start-table}
-use Rattle.plan.specs.declared.Ran.{Ran}
 use Rattle.plan.specs.declared.Course.{Course}
 use Rattle.plan.specs.Run.{tableOr, lastTable, actionsOf}
 use Rattle.plan.specs.Calls.{refusedRun, planned, runOf}

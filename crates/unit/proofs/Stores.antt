@@ -5,8 +5,8 @@ use Prim.Native.Nat.{ℕ, _+_, _≤_, _<_, zero-le}
 use native.Mathlib.Nat.{zero-add, not-suc-le-zero, le-refl, le-of-eq}
 use native.Mathlib.Numerals.{add-one}
 use native.Mathlib.Omega.{arith}
-use lib.ListN.{length, set, getD, take, drop, length-set, length-drop, drop-of-length-le}
-use lib.Seq.{sets-eq, paste, paste-zero, paste-suc, take-paste, drop-paste, take-length, length-take-le, drop-drop, drop-set-lt, drop-length}
+use lib.ListN.{length, set, getD, take, drop, length-set, drop-of-length-le}
+use lib.Seq.{sets-eq, paste, paste-zero, paste-suc, take-paste, drop-paste, take-length, drop-drop, drop-set-lt}
 use Rattle.table.specs.declared.Table.{Table}
 use Rattle.unit.specs.declared.Told.{Told}
 use Rattle.unit.specs.Numbers.{infoOf, tableIn, tableOut}
