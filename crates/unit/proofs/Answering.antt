@@ -1,0 +1,96 @@
+-- What the functions answer, by cases: a slice is too short, or the call's own answer in numbers. Assumes nothing.
+use mathlib.Core.Path.{_≡_, sym, ap, ap₂, _∙_}
+use mathlib.Core.Bool.{Bool, true, false, cond, _||_}
+use mathlib.Core.List.{List, _++_}
+use Prim.Native.Nat.{ℕ, _/_, _≤_, _<_}
+use borrow.Author.Tests.{lt-ltb, le-ltb}
+use lib.Dec.{ltb}
+use lib.ListN.{length, drop}
+use Rattle.sheet.specs.declared.Answer.{Answer}
+use Rattle.sheet.specs.Format.{sheetOf}
+use Rattle.sheet.specs.Calls.{judgeOf}
+use Rattle.table.specs.declared.Table.{Table}
+use Rattle.table.specs.declared.Tabled.{Tabled}
+use Rattle.table.specs.declared.Pictured.{Pictured}
+use Rattle.table.specs.Calls.{startOf, stepOf}
+use Rattle.table.specs.PictureCalls.{pictureOf}
+use Rattle.plan.specs.declared.Searched.{Searched}
+use Rattle.plan.specs.declared.Course.{Course}
+use Rattle.plan.specs.Calls.{searchOf}
+use Rattle.plan.specs.Course.{courseOf}
+use Rattle.unit.specs.declared.Told.{Told}
+use Rattle.unit.specs.Numbers.{answerTold, verdictTold, kindTold, infoOf, lacks, tableIn, tableOut}
+use Rattle.unit.specs.Calls.{judgeTold, startTold, stepTold, pictureTold, searchTold, runTold, lastTable}
+
+-- ---- the first of two by a test that holds, the second by one that does not
+pub first : {A : Type 0} {b : Bool} (x y : A) → b ≡ true → x ≡ cond b x y
+first x y e = ap (λ (t : Bool). cond t x y) (sym e)
+
+pub second : {A : Type 0} {b : Bool} (x y z : A) → b ≡ false → z ≡ y → z ≡ cond b x y
+second x y z e q = q ∙ ap (λ (t : Bool). cond t x y) (sym e)
+
+-- ---- slices that are too short, or long enough
+module _ (n : ℕ) (xs info : List ℕ) where
+  pub lacks-first : length xs < n → lacks n xs info ≡ true
+  unfolding lacks
+  lacks-first h = ap (λ (t : Bool). t || ltb (length info) 4) (lt-ltb (length xs) n h)
+
+  pub lacks-info : n ≤ length xs → length info < 4 → lacks n xs info ≡ true
+  unfolding lacks
+  lacks-info h k = ap (λ (t : Bool). t || ltb (length info) 4) (le-ltb (length xs) n h) ∙ lt-ltb (length info) 4 k
+
+  pub lacks-none : n ≤ length xs → 4 ≤ length info → lacks n xs info ≡ false
+  unfolding lacks
+  lacks-none h k = ap (λ (t : Bool). t || ltb (length info) 4) (le-ltb (length xs) n h) ∙ le-ltb (length info) 4 k
+
+-- ---- the answer byte and info, once the slices are long enough
+module _ {b : Bool} (enough : b ≡ false) (t u : Told) (same : t ≡ u) where
+  pub byte : t .answer ≡ cond b 255 (u .answer)
+  byte = second 255 (u .answer) (t .answer) enough (ap (λ (x : Told). x .answer) same)
+
+  pub numbers : (info after : List ℕ) → after ≡ infoOf t info → after ≡ cond b info (infoOf u info)
+  numbers info after e = second info (infoOf u info) after enough (e ∙ ap (λ (x : Told). infoOf x info) same)
+
+-- ---- what each call tells
+pub judge-told : (s : List ℕ) (a : Answer) (t : Told) → a ≡ judgeOf s → t ≡ answerTold a 0 → t ≡ judgeTold s
+unfolding judgeTold
+judge-told s a t e q = q ∙ ap (λ (x : Answer). answerTold x 0) e
+
+pub start-told : (s : List ℕ) (r : Tabled) (t : Told) → r ≡ startOf (sheetOf s) → t ≡ answerTold (r .answer) 0 → t ≡ startTold s
+unfolding startTold
+start-told s r t e q = q ∙ ap (λ (x : Tabled). answerTold (x .answer) 0) e
+
+pub step-told : (s xs : List ℕ) (m : ℕ) (g : Table) (r : Tabled) (t : Told) → g ≡ tableIn xs → r ≡ stepOf (sheetOf s) g m → t ≡ answerTold (r .answer) 0 → t ≡ stepTold s xs m
+unfolding stepTold
+step-told s xs m g r t e q h = h ∙ ap (λ (x : Tabled). answerTold (x .answer) 0) (q ∙ ap (λ (x : Table). stepOf (sheetOf s) x m) e)
+
+pub picture-told : (s xs : List ℕ) (n : ℕ) (g : Table) (r : Pictured) (t : Told) → g ≡ tableIn xs → r ≡ pictureOf (sheetOf s) g n → t ≡ answerTold (r .answer) (r .clauses)
+    → t ≡ pictureTold s xs n
+unfolding pictureTold
+picture-told s xs n g r t e q h = h ∙ ap (λ (x : Pictured). answerTold (x .answer) (x .clauses)) (q ∙ ap (λ (x : Table). pictureOf (sheetOf s) x n) e)
+
+pub search-told : (s : List ℕ) (limit : ℕ) (r : Searched) (t : Told) → r ≡ searchOf (sheetOf s) limit → t ≡ kindTold (r .kind) (r .length) → t ≡ searchTold s limit
+unfolding searchTold
+search-told s limit r t e q = q ∙ ap (λ (x : Searched). kindTold (x .kind) (x .length)) e
+
+pub run-told : (s rows : List ℕ) (r : Course) (t : Told) → r ≡ courseOf (sheetOf s) (length rows / 3) → t ≡ verdictTold (r .ran .verdict) → t ≡ runTold s rows
+unfolding runTold courseOf
+run-told s rows r t e q = q ∙ ap (λ (x : Course). verdictTold (x .ran .verdict)) e
+
+-- the table that a run hands back
+pub run-table : (s rows : List ℕ) (r : Course) → r ≡ courseOf (sheetOf s) (length rows / 3) → r .ran .table ≡ lastTable s rows
+unfolding lastTable courseOf
+run-table s rows r e = ap (λ (x : Course). x .ran .table) e
+
+-- ---- the numbers of a table, once the slices are long enough
+pub tables : {b : Bool} (enough : b ≡ false) (t u : Table) (xs after : List ℕ) → t ≡ u → after ≡ tableOut t xs → after ≡ cond b xs (tableOut u xs)
+tables enough t u xs after same e = second xs (tableOut u xs) after enough (e ∙ ap (λ (x : Table). tableOut x xs) same)
+
+-- the table that a step hands back
+pub step-table : (s xs : List ℕ) (m : ℕ) (g : Table) (r : Tabled) → g ≡ tableIn xs → r ≡ stepOf (sheetOf s) g m → r .table ≡ stepOf (sheetOf s) (tableIn xs) m .table
+step-table s xs m g r e q = ap (λ (x : Tabled). x .table) (q ∙ ap (λ (x : Table). stepOf (sheetOf s) x m) e)
+
+-- the bytes of a plan that was found
+pub search-plan : (s : List ℕ) (limit : ℕ) (r : Searched) (plan after : List ℕ) → length (r .plan) ≡ 8 → r ≡ searchOf (sheetOf s) limit
+    → after ≡ r .plan ++ drop (length (r .plan)) plan → after ≡ searchOf (sheetOf s) limit .plan ++ drop 8 plan
+search-plan s limit r plan after n e q = q ∙ ap₂ (λ (x : List ℕ) (k : ℕ). x ++ drop k plan) (ap (λ (x : Searched). x .plan) e) n

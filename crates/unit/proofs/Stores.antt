@@ -1,0 +1,96 @@
+-- Numbers stored one after the other: info, copies, tables. Assumes nothing.
+use mathlib.Core.Path.{_≡_, refl, sym, ap, ap₂, _∙_}
+use mathlib.Core.List.{List, [], _∷_, _++_, append-assoc, append-nil}
+use Prim.Native.Nat.{ℕ, _+_, _≤_, _<_, zero-le}
+use native.Mathlib.Nat.{zero-add, not-suc-le-zero, le-refl, le-of-eq}
+use native.Mathlib.Numerals.{add-one}
+use native.Mathlib.Omega.{arith}
+use lib.ListN.{length, set, getD, take, drop, length-set, drop-of-length-le}
+use lib.Seq.{sets-eq, paste, paste-zero, paste-suc, take-paste, drop-paste, take-length, drop-drop, drop-set-lt}
+use Rattle.table.specs.declared.Table.{Table}
+use Rattle.unit.specs.declared.Told.{Told}
+use Rattle.unit.specs.Numbers.{infoOf, tableIn, tableOut}
+
+-- the four numbers of info
+pub info-stores : (t : Told) (info : List ℕ) → 4 ≤ length info
+    → set (set (set (set info 0 (t .position)) 1 (t .kind)) 2 (t .place)) 3 (t .detail) ≡ infoOf t info
+unfolding infoOf
+info-stores t info h = sets-eq (t .position ∷ t .kind ∷ t .place ∷ t .detail ∷ []) info 0 h
+
+-- ---- a copy of the first i members of s, from `at` on
+pub record Copied (d : List ℕ) (at : ℕ) (s : List ℕ) (i : ℕ) (e : List ℕ) : Type 0 where
+  pub upto : i ≤ length s
+  pub long : length e ≡ length d
+  pub is : e ≡ paste d at s i
+
+pub copied-start : (d : List ℕ) (at : ℕ) (s : List ℕ) → Copied d at s 0 d
+copied-start d at s = record { upto = zero-le; long = refl; is = paste-zero d at s }
+
+pub copied-step : (d : List ℕ) (at : ℕ) (s : List ℕ) (i : ℕ) (e : List ℕ) → Copied d at s i e → at + length s ≤ length d → i < length s
+    → Copied d at s (i + 1) (set e (at + i) (getD s i 0))
+copied-step d at s i e h fits lt = record {
+  upto = omega arith;
+  long = length-set e (at + i) (getD s i 0) ∙ h .long;
+  is =
+      ap (λ (z : List ℕ). set z (at + i) (getD s i 0)) (h .is) ∙ paste-suc d at s i 0 (omega arith) lt
+      ∙ ap (λ (k : ℕ). paste d at s k) (sym (add-one i));
+}
+
+pub copied-end : (d : List ℕ) (at : ℕ) (s : List ℕ) (i : ℕ) (e : List ℕ) → Copied d at s i e → length s ≤ i → e ≡ paste d at s (length s)
+copied-end d at s i e h past = let same : i ≡ length s = omega (arith, h .upto) in h .is ∙ ap (λ (k : ℕ). paste d at s k) same
+
+-- a copy to the front
+pub front-step : (d s : List ℕ) (i : ℕ) (e : List ℕ) → Copied d 0 s i e → length s ≤ length d → i < length s → Copied d 0 s (i + 1) (set e i (getD s i 0))
+front-step d s i e h fits lt =
+    rw (zero-add i) at (copied-step d 0 s i e h (omega arith) lt)
+
+front : (d s : List ℕ) → paste d 0 s (length s) ≡ s ++ drop (length s) d
+front d s = ap₂ (λ (x : List ℕ) (k : ℕ). x ++ drop k d) (take-length s) (zero-add (length s))
+
+pub front-end : (d s : List ℕ) (i : ℕ) (e : List ℕ) → Copied d 0 s i e → length s ≤ i → e ≡ s ++ drop (length s) d
+front-end d s i e h past = copied-end d 0 s i e h past ∙ front d s
+
+-- ---- tables
+-- a copy over the whole
+copied-whole : (d s : List ℕ) → length d ≡ length s → paste d 0 s (length s) ≡ s ++ []
+copied-whole d s h = front d s ∙ ap (λ (r : List ℕ). s ++ r) (drop-of-length-le d (le-of-eq h))
+
+-- a copy over the whole of a list as long is what was copied
+pub whole : (d s : List ℕ) (e : List ℕ) → length d ≡ length s → e ≡ paste d 0 s (length s) → e ≡ s
+whole d s e h is = is ∙ copied-whole d s h ∙ append-nil s
+
+-- what is read of a table
+pub table-read : (xs ts fs : List ℕ) → ts ≡ take 128 (drop 1 xs) → fs ≡ take 128 (drop 129 xs)
+    → record { count = getD xs 0 0; trues = ts; falses = fs } ≡ tableIn xs
+unfolding tableIn
+table-read xs ts fs p q = λ k. record { count = getD xs 0 0; trues = p k; falses = q k }
+
+-- two copies one after the other
+two-copies : (d s t : List ℕ) (at : ℕ) → at + length s + length t ≤ length d
+    → paste (paste d at s (length s)) (at + length s) t (length t) ≡ take at d ++ s ++ t ++ drop (at + length s + length t) d
+two-copies d s t at h =
+    let m = length s in
+    let n = length t in
+    let p = paste d at s m in
+    ap₂ (λ (x y : List ℕ). x ++ y ++ drop (at + m + n) p) (take-paste d at s m (omega arith) (le-refl m) ∙ ap (λ (x : List ℕ). take at d ++ x) (take-length s)) (take-length t)
+    ∙ ap (λ (x : List ℕ). take at d ++ s ++ t ++ x)
+    (sym (drop-drop n (at + m) p) ∙ ap (drop n) (drop-paste d at s m (omega arith) (le-refl m)) ∙ drop-drop n (at + m) d)
+
+first-set : (xs : List ℕ) (x : ℕ) → 1 ≤ length xs → take 1 (set xs 0 x) ≡ x ∷ []
+first-set [] x h = absurd (not-suc-le-zero h)
+first-set (y ∷ ys) x h = refl
+
+-- the numbers of a table
+pub table-stores : (t : Table) (xs one two : List ℕ) → 257 ≤ length xs → length (t .trues) ≡ 128 → length (t .falses) ≡ 128
+    → one ≡ paste (set xs 0 (t .count)) 1 (t .trues) (length (t .trues)) → two ≡ paste one 129 (t .falses) (length (t .falses)) → two ≡ tableOut t xs
+unfolding tableOut
+table-stores t xs one two h p q e f =
+    let d = set xs 0 (t .count) in
+    let l : length d ≡ length xs = length-set xs 0 (t .count) in
+    let at : 129 ≡ 1 + length (t .trues) = omega (arith, p) in
+    let end : 1 + length (t .trues) + length (t .falses) ≡ 257 = omega (arith, p, q) in
+    f ∙ ap₂ (λ (y : List ℕ) (k : ℕ). paste y k (t .falses) (length (t .falses))) e at
+    ∙ two-copies d (t .trues) (t .falses) 1 (omega (arith, l, h, end))
+    ∙ ap (λ (k : ℕ). take 1 d ++ t .trues ++ t .falses ++ drop k d) end
+    ∙ ap₂ (λ (x y : List ℕ). x ++ t .trues ++ t .falses ++ y) (first-set xs (t .count) (omega (arith, h))) (drop-set-lt 257 xs 0 (t .count) (omega arith))
+    ∙ ap (λ (x : List ℕ). t .count ∷ x) (append-assoc (t .trues) (t .falses) (drop 257 xs))

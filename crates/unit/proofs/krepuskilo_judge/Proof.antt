@@ -1,0 +1,33 @@
+-- `krepuskilo_judge` meets its contract: the answer of `judge` in numbers, or 255. Assumes nothing.
+use borrow.Author.Needs.{needs}
+use borrow.Author.Tests.{lt-ltb, le-ltb}
+use Rattle.unit.proofs.Answering.{first, byte, numbers, judge-told}
+use Rattle.unit.proofs.krepuskilo_judge.Statement.{statement}
+use Rattle.unit.proofs.krepuskilo_judge.Tie as tie
+
+returns : tie.Need-returns
+returns c = let e = lt-ltb _ _ (c .if1 .taken) in (first _ _ e, first _ _ e)
+
+judge-requires : tie.Need-judge-requires
+judge-requires c κs = search needs
+
+told-requires : tie.Need-told-requires
+told-requires c κs = search needs
+
+write-info-requires : tie.Need-write-info-requires
+write-info-requires c κs = search needs
+
+same-length : tie.Need-same-length
+same-length c = search needs
+
+returns-2 : tie.Need-returns-2
+returns-2 c =
+    let t = c .before .before .before .before in
+    let e = le-ltb _ _ (t .before .before .if1 .left) in
+    let same = judge-told _ _ _ (t .before .judge .ensures) (t .told .ensures) in
+    (byte e _ _ same, numbers e _ _ same _ _ (c .before .before .write-info .ensures))
+
+pub krepuskilo-judge-spec : {M : Type 1} → statement M
+krepuskilo-judge-spec =
+    tie.close
+    (tie.spec returns judge-requires told-requires write-info-requires same-length returns-2)

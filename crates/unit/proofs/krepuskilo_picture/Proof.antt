@@ -1,0 +1,64 @@
+-- `krepuskilo_picture` meets its contract: the answer of `picture` in numbers and its buffer, or 255. Assumes nothing.
+use mathlib.Core.Path.{ap, _∙_}
+use borrow.Author.Needs.{needs}
+use Rattle.sheet.specs.Format.{sheetOf}
+use Rattle.table.specs.declared.Table.{Table}
+use Rattle.table.specs.PictureCalls.{bufferOf}
+use Rattle.unit.proofs.Answering.{first, second, lacks-first, lacks-info, lacks-none, byte, numbers, picture-told}
+use Rattle.unit.proofs.krepuskilo_picture.Statement.{statement}
+use Rattle.unit.proofs.krepuskilo_picture.Tie as tie
+
+returns : tie.Need-returns
+returns c =
+    let a = c .before .before .before .before .before .args in
+    let e = lacks-first 257 (a .table .now) (a .info .now) (c .if1 .taken) in
+    (first _ _ e, (first _ _ e, first _ _ e))
+
+returns-2 : tie.Need-returns-2
+returns-2 c =
+    let a = c .before .before .before .before .before .before .args in
+    let e = lacks-info 257 (a .table .now) (a .info .now) (c .before .if1 .left) (c .if2 .taken) in
+    (first _ _ e, (first _ _ e, first _ _ e))
+
+table-in-requires : tie.Need-table-in-requires
+table-in-requires c κs = search needs
+
+picture-requires : tie.Need-picture-requires
+picture-requires c κs = search needs
+
+told-requires : tie.Need-told-requires
+told-requires c κs = search needs
+
+write-info-requires : tie.Need-write-info-requires
+write-info-requires c κs = search needs
+
+same-length : tie.Need-same-length
+same-length c = search needs
+
+same-length-2 : tie.Need-same-length-2
+same-length-2 c = search needs
+
+returns-3 : tie.Need-returns-3
+returns-3 c =
+    let r = c .before .before .before .before .before .before .before in
+    let g = r .before .before .before in
+    let a = g .before .before .before .before .before .before .args in
+    let e = lacks-none 257 (a .table .now) (a .info .now) (g .before .if1 .left) (g .if2 .left) in
+    let given = r .before .before .table-in .ensures in
+    let same = picture-told _ _ _ _ _ _ given (r .picture .ensures .0) (c .before .before .before .before .told .ensures) in
+    let drawn = r .picture .ensures .1 ∙ ap (λ (t : Table). bufferOf (sheetOf (a .sheet .now)) t (a .buffer .now)) given in
+    (byte e _ _ same, (second _ _ _ e drawn, numbers e _ _ same _ _ (c .before .before .write-info .ensures)))
+
+pub krepuskilo-picture-spec : {M : Type 1} → statement M
+krepuskilo-picture-spec =
+    tie.close
+    (tie.spec
+    returns
+    returns-2
+    table-in-requires
+    picture-requires
+    told-requires
+    write-info-requires
+    same-length
+    same-length-2
+    returns-3)

@@ -1,0 +1,75 @@
+-- `krepuskilo_run` meets its contract: the answer of the run in numbers, its rows and its last table, or 255. Assumes nothing.
+use borrow.Author.Needs.{needs}
+use Rattle.unit.proofs.Answering.{first, second, lacks-first, lacks-info, lacks-none, byte, tables, numbers, run-told, run-table}
+use Rattle.unit.proofs.Sizes.{run-fits}
+use Rattle.unit.proofs.RowNumbers.{rows-room, rows-out}
+use Rattle.unit.proofs.krepuskilo_run.Statement.{statement}
+use Rattle.unit.proofs.krepuskilo_run.Tie as tie
+
+returns : tie.Need-returns
+returns c =
+    let a = c .before .before .before .before .before .args in
+    let e = lacks-first 257 (a .table .now) (a .info .now) (c .if1 .taken) in
+    (first _ _ e, (first _ _ e, (first _ _ e, first _ _ e)))
+
+returns-2 : tie.Need-returns-2
+returns-2 c =
+    let a = c .before .before .before .before .before .before .args in
+    let e = lacks-info 257 (a .table .now) (a .info .now) (c .before .if1 .left) (c .if2 .taken) in
+    (first _ _ e, (first _ _ e, (first _ _ e, first _ _ e)))
+
+course-requires : tie.Need-course-requires
+course-requires c κs = search needs
+
+told-verdict-requires : tie.Need-told-verdict-requires
+told-verdict-requires c κs = search needs
+
+write-rows-requires : tie.Need-write-rows-requires
+write-rows-requires c κs = rows-room _ (c .before .before .before .before .before .before .before .before .before .before .before .before .args .rows .now) _ (c .before .before .before .before .before .course .ensures)
+
+write-table-requires : tie.Need-write-table-requires
+write-table-requires c κs = (c .before .before .before .before .before .before .before .before .before .before .before .if1 .left, run-fits _ _ _ (c .before .before .before .before .before .before .before .before .before .course .ensures))
+
+write-info-requires : tie.Need-write-info-requires
+write-info-requires c κs = search needs
+
+same-length : tie.Need-same-length
+same-length c = search needs
+
+same-length-2 : tie.Need-same-length-2
+same-length-2 c = search needs
+
+same-length-3 : tie.Need-same-length-3
+same-length-3 c = search needs
+
+returns-3 : tie.Need-returns-3
+returns-3 c =
+    let r = c .before .before .before .before .before .before .before .before .before .before .before .before .before .before .before .before in
+    let a = r .before .before .before .before .before .before .before .args in
+    let e = lacks-none 257 (a .table .now) (a .info .now) (r .before .before .if1 .left) (r .before .if2 .left) in
+    let same = run-told _ (a .rows .now) _ _ (r .course .ensures) (c .before .before .before .before .before .before .before .before .before .before .before .before .before .told-verdict .ensures) in (
+      byte e _ _ same,
+      (
+        second _ _ _ e (rows-out _ _ _ (r .course .ensures) _ (c .before .before .before .before .before .before .before .before .before .before .write-rows .ensures)),
+        (
+          tables e _ _ _ _ (run-table _ (a .rows .now) _ (r .course .ensures)) (c .before .before .before .before .before .before .write-table .ensures),
+          numbers e _ _ same _ _ (c .before .before .write-info .ensures),
+        ),
+      ),
+    )
+
+pub krepuskilo-run-spec : {M : Type 1} → statement M
+krepuskilo-run-spec =
+    tie.close
+    (tie.spec
+    returns
+    returns-2
+    course-requires
+    told-verdict-requires
+    write-rows-requires
+    write-table-requires
+    write-info-requires
+    same-length
+    same-length-2
+    same-length-3
+    returns-3)

@@ -1,0 +1,60 @@
+-- `krepuskilo_start` meets its contract: the answer of `start` in numbers and its table, or 255. Assumes nothing.
+use mathlib.Core.Path.{ap}
+use borrow.Author.Needs.{needs}
+use Rattle.table.specs.declared.Tabled.{Tabled}
+use Rattle.unit.proofs.Answering.{first, lacks-first, lacks-info, lacks-none, byte, tables, numbers, start-told}
+use Rattle.unit.proofs.Sizes.{start-fits}
+use Rattle.unit.proofs.krepuskilo_start.Statement.{statement}
+use Rattle.unit.proofs.krepuskilo_start.Tie as tie
+
+returns : tie.Need-returns
+returns c =
+    let a = c .before .before .before .before .args in
+    let e = lacks-first 257 (a .table .now) (a .info .now) (c .if1 .taken) in
+    (first _ _ e, (first _ _ e, first _ _ e))
+
+returns-2 : tie.Need-returns-2
+returns-2 c =
+    let a = c .before .before .before .before .before .args in
+    let e = lacks-info 257 (a .table .now) (a .info .now) (c .before .if1 .left) (c .if2 .taken) in
+    (first _ _ e, (first _ _ e, first _ _ e))
+
+start-requires : tie.Need-start-requires
+start-requires c κs = search needs
+
+told-requires : tie.Need-told-requires
+told-requires c κs = search needs
+
+write-table-requires : tie.Need-write-table-requires
+write-table-requires c κs = (c .before .before .before .before .before .if1 .left, start-fits _ _ (c .before .before .before .start .ensures))
+
+write-info-requires : tie.Need-write-info-requires
+write-info-requires c κs = search needs
+
+same-length : tie.Need-same-length
+same-length c = search needs
+
+same-length-2 : tie.Need-same-length-2
+same-length-2 c = search needs
+
+returns-3 : tie.Need-returns-3
+returns-3 c =
+    let r = c .before .before .before .before .before .before .before .before .before .before in
+    let a = r .before .before .before .before .before .before .args in
+    let e = lacks-none 257 (a .table .now) (a .info .now) (r .before .before .if1 .left) (r .before .if2 .left) in
+    let same = start-told _ _ _ (r .start .ensures) (c .before .before .before .before .before .before .before .before .told .ensures) in
+    (byte e _ _ same, (tables e _ _ _ _ (ap (λ (x : Tabled). x .table) (r .start .ensures)) (c .before .before .before .before .before .before .write-table .ensures), numbers e _ _ same _ _ (c .before .before .write-info .ensures)))
+
+pub krepuskilo-start-spec : {M : Type 1} → statement M
+krepuskilo-start-spec =
+    tie.close
+    (tie.spec
+    returns
+    returns-2
+    start-requires
+    told-requires
+    write-table-requires
+    write-info-requires
+    same-length
+    same-length-2
+    returns-3)

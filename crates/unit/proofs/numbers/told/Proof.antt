@@ -1,0 +1,22 @@
+-- `numbers::told` meets its contract: case by case. Assumes nothing.
+use mathlib.Core.Path.{ap, sym}
+use borrow.Author.Needs.{needs}
+use Rattle.sheet.specs.declared.Answer.{Answer}
+use Rattle.unit.specs.Numbers.{answerTold}
+use Rattle.unit.proofs.numbers.told.Statement.{statement}
+use Rattle.unit.proofs.numbers.told.Tie as tie
+
+enum-told : tie.Need-enum-told
+enum-told c = search needs
+
+enum-known-answer : tie.Need-enum-known-answer
+enum-known-answer c = search needs
+
+returns : tie.Need-returns
+returns c = ap (λ (a : Answer). answerTold a (c .before .before .args .extra)) (sym (c .enum-told .given .1))
+
+returns-2 : tie.Need-returns-2
+returns-2 c = ap (λ (a : Answer). answerTold a (c .before .before .before .args .extra)) (sym (c .before .answer .given .1))
+
+pub told-spec : {M : Type 1} → statement M
+told-spec = tie.close (tie.spec enum-told enum-known-answer returns returns-2)

@@ -1,0 +1,55 @@
+-- `numbers::told_verdict` meets its contract: case by case. Assumes nothing.
+use mathlib.Core.Path.{ap, sym}
+use borrow.Author.Needs.{needs}
+use Rattle.unit.specs.Numbers.{verdictTold}
+use Rattle.unit.proofs.numbers.told_verdict.Statement.{statement}
+use Rattle.unit.proofs.numbers.told_verdict.Tie as tie
+
+enum-told : tie.Need-enum-told
+enum-told c = search needs
+
+enum-told-2 : tie.Need-enum-told-2
+enum-told-2 c = search needs
+
+enum-known-verdict : tie.Need-enum-known-verdict
+enum-known-verdict c = search needs
+
+cast-told : tie.Need-cast-told
+cast-told c = search needs
+
+enum-known-verdict-2 : tie.Need-enum-known-verdict-2
+enum-known-verdict-2 c = search needs
+
+enum-known-verdict-3 : tie.Need-enum-known-verdict-3
+enum-known-verdict-3 c = search needs
+
+returns : tie.Need-returns
+returns c = ap verdictTold (sym (c .enum-told .given .1))
+
+returns-2 : tie.Need-returns-2
+returns-2 c = ap verdictTold (sym (c .enum-told2 .given .1))
+
+returns-3 : tie.Need-returns-3
+returns-3 c = ap verdictTold (sym (c .before .verdict .given .1))
+
+returns-4 : tie.Need-returns-4
+returns-4 c = ap verdictTold (sym (c .before .verdict2 .given .1))
+
+returns-5 : tie.Need-returns-5
+returns-5 c = ap verdictTold (sym (c .before .verdict3 .given .1))
+
+pub told-verdict-spec : {M : Type 1} → statement M
+told-verdict-spec =
+    tie.close
+    (tie.spec
+    enum-told
+    enum-told-2
+    enum-known-verdict
+    cast-told
+    enum-known-verdict-2
+    enum-known-verdict-3
+    returns
+    returns-2
+    returns-3
+    returns-4
+    returns-5)

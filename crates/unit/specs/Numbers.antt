@@ -1,0 +1,58 @@
+-- Answers, tables and rows as numbers.
+use mathlib.Core.Bool.{Bool, _||_}
+use mathlib.Core.List.{List, [], _∷_, _++_}
+use Prim.Native.Nat.{ℕ}
+use lib.Dec.{ltb}
+use lib.ListN.{length, getD, take, drop}
+use Rattle.sheet.specs.declared.Answer.{Answer}
+use Rattle.sheet.specs.declared.Answer.the-variants as answer
+use Rattle.table.specs.declared.Table.{Table}
+use Rattle.plan.specs.declared.Row.{Row}
+use Rattle.plan.specs.declared.Verdict.{Verdict}
+use Rattle.plan.specs.declared.Verdict.the-variants as verdict
+use Rattle.plan.specs.declared.Kind.{Kind}
+use Rattle.plan.specs.declared.Kind.the-variants as kind
+use Rattle.unit.specs.declared.Told.{Told}
+
+-- ---- answers
+-- an answer by its number and position; `extra` is the second number of info if it is accepted
+abbrev pub answerTold : Answer → ℕ → Told
+answerTold answer.Accepted extra = record { answer = 0; position = 0; kind = extra; place = 0; detail = 0 }
+answerTold (answer.Refused number position) extra = record { answer = number; position = position; kind = 0; place = 0; detail = 0 }
+
+-- a verdict: reached 0, short 1, stopped 2 with its place and number, full 3 with its place
+abbrev pub verdictTold : Verdict → Told
+verdictTold verdict.Reached = record { answer = 0; position = 0; kind = 0; place = 0; detail = 0 }
+verdictTold verdict.Short = record { answer = 0; position = 0; kind = 1; place = 0; detail = 0 }
+verdictTold (verdict.Stopped place number) = record { answer = 0; position = 0; kind = 2; place = place; detail = number }
+verdictTold (verdict.Full place) = record { answer = 0; position = 0; kind = 3; place = place; detail = 0 }
+verdictTold (verdict.Refused number position) = record { answer = number; position = position; kind = 0; place = 0; detail = 0 }
+
+-- the end of a search with the length of its plan: reached 0, full 1 with its place, none 2
+abbrev pub kindTold : Kind → ℕ → Told
+kindTold kind.Reached length = record { answer = 0; position = 0; kind = 0; place = 0; detail = length }
+kindTold (kind.Full place) length = record { answer = 0; position = 0; kind = 1; place = place; detail = length }
+kindTold kind.Nothing length = record { answer = 0; position = 0; kind = 2; place = 0; detail = length }
+kindTold (kind.Refused number position) length = record { answer = number; position = position; kind = 0; place = 0; detail = 0 }
+
+-- info after a call: its first four numbers, and the others as they were
+unfoldable pub infoOf : Told → List ℕ → List ℕ
+infoOf t info = t .position ∷ t .kind ∷ t .place ∷ t .detail ∷ drop 4 info
+
+-- a slice of fewer than n numbers, or an info of fewer than 4
+unfoldable pub lacks : ℕ → List ℕ → List ℕ → Bool
+lacks n xs info = ltb (length xs) n || ltb (length info) 4
+
+-- ---- tables
+-- the table in the first 257 numbers: the count, the masks of true propositions, those of false ones
+unfoldable pub tableIn : List ℕ → Table
+tableIn xs = record { count = getD xs 0 0; trues = take 128 (drop 1 xs); falses = take 128 (drop 129 xs) }
+
+-- a table as numbers, and the numbers after its 257 as they were
+unfoldable pub tableOut : Table → List ℕ → List ℕ
+tableOut t xs = t .count ∷ (t .trues ++ (t .falses ++ drop 257 xs))
+
+-- ---- rows
+-- the three numbers of a row
+abbrev pub rowNumbers : Row → List ℕ
+rowNumbers r = r .place ∷ r .entries ∷ r .clauses ∷ []

@@ -1,0 +1,170 @@
+// The calls for C: sheets, tables, rows and plans as numbers in slices that the caller lends.
+ghost use mathlib.Core.Path.{_≡_};
+ghost use mathlib.Core.Bool.{cond};
+ghost use mathlib.Core.List.{_++_};
+ghost use lib.Dec.{ltb};
+ghost use lib.ListN.{length, drop};
+ghost use Rattle.sheet.specs.Format.{sheetOf};
+ghost use Rattle.table.specs.Calls.{startOf, stepOf};
+ghost use Rattle.table.specs.PictureCalls.{bufferOf};
+ghost use Rattle.plan.specs.Calls.{searchOf};
+ghost use Rattle.unit.specs.Numbers.{lacks, infoOf, tableIn, tableOut};
+ghost use Rattle.unit.specs.Calls as U;
+
+mod numbers;
+
+// What a call answers in numbers: the answer byte, and the four numbers of info.
+pub struct Told {
+    pub answer: u8,
+    pub position: u64,
+    pub kind: u64,
+    pub place: u64,
+    pub detail: u64,
+}
+
+// Judges a sheet.
+#[no_mangle]
+pub extern "C" fn krepuskilo_judge(sheet: &[u8], info: &mut [u64]) -> u8
+    ensures { λ r. ⌜ r ≡ cond (ltb (length (now (info .entry))) 4) 255 (U.judgeTold (now (sheet .entry)) .answer) ⌝ }
+    ensures { λ r. ⌜ now (info .exit) ≡ cond (ltb (length (now (info .entry))) 4) (now (info .entry)) (infoOf (U.judgeTold (now (sheet .entry))) (now (info .entry))) ⌝ }
+{
+    if info.len() < 4 {
+        return 255;
+    }
+    let told = numbers::told(sheet::judge(sheet), 0);
+    numbers::write_info(info, told);
+    told.answer
+}
+
+// The first table of a sheet.
+#[no_mangle]
+pub extern "C" fn krepuskilo_start(sheet: &[u8], table: &mut [u32], info: &mut [u64]) -> u8
+    ensures { λ r. ⌜ r ≡ cond (lacks 257 (now (table .entry)) (now (info .entry))) 255 (U.startTold (now (sheet .entry)) .answer) ⌝ }
+    ensures { λ r. ⌜ now (table .exit) ≡ cond (lacks 257 (now (table .entry)) (now (info .entry))) (now (table .entry)) (tableOut (startOf (sheetOf (now (sheet .entry))) .table) (now (table .entry))) ⌝ }
+    ensures { λ r. ⌜ now (info .exit) ≡ cond (lacks 257 (now (table .entry)) (now (info .entry))) (now (info .entry)) (infoOf (U.startTold (now (sheet .entry))) (now (info .entry))) ⌝ }
+{
+    if table.len() < 257 {
+        return 255;
+    }
+    if info.len() < 4 {
+        return 255;
+    }
+    let started = table::start(sheet);
+    let answer = started.answer;
+    let first = started.table;
+    let told = numbers::told(answer, 0);
+    numbers::write_table(table, first);
+    numbers::write_info(info, told);
+    told.answer
+}
+
+// The picture of a table, written into the buffer.
+#[no_mangle]
+pub extern "C" fn krepuskilo_picture(
+    sheet: &[u8],
+    table: &[u32],
+    buffer: &mut [u8],
+    info: &mut [u64],
+) -> u8
+    ensures { λ r. ⌜ r ≡ cond (lacks 257 (now (table .entry)) (now (info .entry))) 255 (U.pictureTold (now (sheet .entry)) (now (table .entry)) (length (now (buffer .entry))) .answer) ⌝ }
+    ensures { λ r. ⌜ now (buffer .exit) ≡ cond (lacks 257 (now (table .entry)) (now (info .entry))) (now (buffer .entry)) (bufferOf (sheetOf (now (sheet .entry))) (tableIn (now (table .entry))) (now (buffer .entry))) ⌝ }
+    ensures { λ r. ⌜ now (info .exit) ≡ cond (lacks 257 (now (table .entry)) (now (info .entry))) (now (info .entry)) (infoOf (U.pictureTold (now (sheet .entry)) (now (table .entry)) (length (now (buffer .entry)))) (now (info .entry))) ⌝ }
+{
+    if table.len() < 257 {
+        return 255;
+    }
+    if info.len() < 4 {
+        return 255;
+    }
+    let given = numbers::table_in(table);
+    let pictured = table::picture(sheet, given, buffer);
+    let answer = pictured.answer;
+    let told = numbers::told(answer, pictured.clauses as u64);
+    numbers::write_info(info, told);
+    told.answer
+}
+
+// The step of a table by the move of a number on the sheet.
+#[no_mangle]
+pub extern "C" fn krepuskilo_step(
+    sheet: &[u8],
+    table: &mut [u32],
+    number: u64,
+    info: &mut [u64],
+) -> u8
+    ensures { λ r. ⌜ r ≡ cond (lacks 257 (now (table .entry)) (now (info .entry))) 255 (U.stepTold (now (sheet .entry)) (now (table .entry)) number .answer) ⌝ }
+    ensures { λ r. ⌜ now (table .exit) ≡ cond (lacks 257 (now (table .entry)) (now (info .entry))) (now (table .entry)) (tableOut (stepOf (sheetOf (now (sheet .entry))) (tableIn (now (table .entry))) number .table) (now (table .entry))) ⌝ }
+    ensures { λ r. ⌜ now (info .exit) ≡ cond (lacks 257 (now (table .entry)) (now (info .entry))) (now (info .entry)) (infoOf (U.stepTold (now (sheet .entry)) (now (table .entry)) number) (now (info .entry))) ⌝ }
+{
+    if table.len() < 257 {
+        return 255;
+    }
+    if info.len() < 4 {
+        return 255;
+    }
+    let given = numbers::table_in(table);
+    let stepped = table::step(sheet, given, number as usize);
+    let answer = stepped.answer;
+    let next = stepped.table;
+    let told = numbers::told(answer, 0);
+    numbers::write_table(table, next);
+    numbers::write_info(info, told);
+    told.answer
+}
+
+// The first plan of at most `limit` moves that is reached or full.
+#[no_mangle]
+pub extern "C" fn krepuskilo_search(
+    sheet: &[u8],
+    limit: u64,
+    plan: &mut [u8],
+    info: &mut [u64],
+) -> u8
+    ensures { λ r. ⌜ r ≡ cond (lacks 8 (now (plan .entry)) (now (info .entry))) 255 (U.searchTold (now (sheet .entry)) limit .answer) ⌝ }
+    ensures { λ r. ⌜ now (plan .exit) ≡ cond (lacks 8 (now (plan .entry)) (now (info .entry))) (now (plan .entry)) (searchOf (sheetOf (now (sheet .entry))) limit .plan ++ drop 8 (now (plan .entry))) ⌝ }
+    ensures { λ r. ⌜ now (info .exit) ≡ cond (lacks 8 (now (plan .entry)) (now (info .entry))) (now (info .entry)) (infoOf (U.searchTold (now (sheet .entry)) limit) (now (info .entry))) ⌝ }
+{
+    if plan.len() < 8 {
+        return 255;
+    }
+    if info.len() < 4 {
+        return 255;
+    }
+    let searched = plan::search(sheet, limit as usize);
+    let kind = searched.kind;
+    let told = numbers::told_kind(kind, searched.length as u64);
+    numbers::copy_bytes(plan, &searched.plan);
+    numbers::write_info(info, told);
+    told.answer
+}
+
+// The run of a sheet's plan, its rows as three numbers each.
+#[no_mangle]
+pub extern "C" fn krepuskilo_run(
+    sheet: &[u8],
+    rows: &mut [u64],
+    table: &mut [u32],
+    info: &mut [u64],
+) -> u8
+    ensures { λ r. ⌜ r ≡ cond (lacks 257 (now (table .entry)) (now (info .entry))) 255 (U.runTold (now (sheet .entry)) (now (rows .entry)) .answer) ⌝ }
+    ensures { λ r. ⌜ now (rows .exit) ≡ cond (lacks 257 (now (table .entry)) (now (info .entry))) (now (rows .entry)) (U.rowsOut (now (sheet .entry)) (now (rows .entry))) ⌝ }
+    ensures { λ r. ⌜ now (table .exit) ≡ cond (lacks 257 (now (table .entry)) (now (info .entry))) (now (table .entry)) (tableOut (U.lastTable (now (sheet .entry)) (now (rows .entry))) (now (table .entry))) ⌝ }
+    ensures { λ r. ⌜ now (info .exit) ≡ cond (lacks 257 (now (table .entry)) (now (info .entry))) (now (info .entry)) (infoOf (U.runTold (now (sheet .entry)) (now (rows .entry))) (now (info .entry))) ⌝ }
+{
+    if table.len() < 257 {
+        return 255;
+    }
+    if info.len() < 4 {
+        return 255;
+    }
+    let course = plan::runs::course(sheet, rows.len() / 3);
+    let ran = course.ran;
+    let verdict = ran.verdict;
+    let last = ran.table;
+    let told = numbers::told_verdict(verdict);
+    let counts = course.counts;
+    numbers::write_rows(rows, counts);
+    numbers::write_table(table, last);
+    numbers::write_info(info, told);
+    told.answer
+}

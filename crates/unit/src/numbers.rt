@@ -1,0 +1,176 @@
+// Values laid out as numbers: answers, tables, rows and plans.
+use crate::Told;
+use plan::Counts;
+use plan::Kind;
+use plan::Verdict;
+use sheet::Answer;
+use table::Table;
+ghost use mathlib.Core.Path.{_≡_};
+ghost use mathlib.Core.List.{_++_};
+ghost use Prim.Native.Nat.{_+_, _*_, _^_, _≤_, _<_};
+ghost use lib.ListN.{length, drop};
+ghost use lib.Seq.{paste};
+ghost use Rattle.sheet.specs.Lists.{collect};
+ghost use Rattle.plan.specs.Rows.{rowsIn};
+ghost use Rattle.unit.specs.Numbers.{answerTold, verdictTold, kindTold, infoOf, tableIn, tableOut, rowNumbers};
+
+// An answer in numbers; `extra` is the second number of info if it is accepted.
+pub(crate) fn told(answer: Answer, extra: u64) -> Told
+    ensures { λ r. ⌜ r ≡ answerTold answer extra ⌝ }
+{
+    match answer {
+        Answer::Accepted => Told {
+            answer: 0,
+            position: 0,
+            kind: extra,
+            place: 0,
+            detail: 0,
+        },
+        Answer::Refused(number, position) => Told {
+            answer: number,
+            position: position as u64,
+            kind: 0,
+            place: 0,
+            detail: 0,
+        },
+    }
+}
+
+// A verdict in numbers.
+pub(crate) fn told_verdict(verdict: Verdict) -> Told
+    ensures { λ r. ⌜ r ≡ verdictTold verdict ⌝ }
+{
+    let mut told = Told {
+        answer: 0,
+        position: 0,
+        kind: 0,
+        place: 0,
+        detail: 0,
+    };
+    match verdict {
+        Verdict::Reached => {}
+        Verdict::Short => {
+            told.kind = 1;
+        }
+        Verdict::Stopped(place, number) => {
+            told.kind = 2;
+            told.place = place as u64;
+            told.detail = number as u64;
+        }
+        Verdict::Full(place) => {
+            told.kind = 3;
+            told.place = place as u64;
+        }
+        Verdict::Refused(number, position) => {
+            told.answer = number;
+            told.position = position as u64;
+        }
+    }
+    told
+}
+
+// The end of a search in numbers.
+pub(crate) fn told_kind(kind: Kind, length: u64) -> Told
+    ensures { λ r. ⌜ r ≡ kindTold kind length ⌝ }
+{
+    let mut told = Told {
+        answer: 0,
+        position: 0,
+        kind: 0,
+        place: 0,
+        detail: length,
+    };
+    match kind {
+        Kind::Reached => {}
+        Kind::Full(place) => {
+            told.kind = 1;
+            told.place = place as u64;
+        }
+        Kind::Nothing => {
+            told.kind = 2;
+        }
+        Kind::Refused(number, position) => {
+            told.answer = number;
+            told.position = position as u64;
+            told.detail = 0;
+        }
+    }
+    told
+}
+
+// The four numbers of info. The others are kept.
+pub(crate) fn write_info(info: &mut [u64], told: Told)
+    requires { ⌜ 4 ≤ length (now info) ⌝ }
+    ensures { λ r. ⌜ now (info .exit) ≡ infoOf told (now (info .entry)) ⌝ }
+{
+    info[0] = told.position;
+    info[1] = told.kind;
+    info[2] = told.place;
+    info[3] = told.detail;
+}
+
+// Masks copied into others from `at` on. The others are kept.
+pub(crate) fn copy_masks<'a, 'b>(to: &'a mut [u32], at: usize, from: &'b [u32])
+    requires { ⌜ at + length (now from) ≤ length (now to) ⌝ }
+    ensures { λ r. ⌜ now (to .exit) ≡ paste (now (to .entry)) at (now (from .entry)) (length (now (from .entry))) ⌝ }
+{
+    let mut i: usize = 0;
+    while i < from.len() {
+        to[at + i] = from[i];
+        i += 1;
+    }
+}
+
+// Bytes copied to the front of others. The others are kept.
+pub(crate) fn copy_bytes<'a, 'b>(to: &'a mut [u8], from: &'b [u8])
+    requires { ⌜ length (now from) ≤ length (now to) ⌝ }
+    ensures { λ r. ⌜ now (to .exit) ≡ now (from .entry) ++ drop (length (now (from .entry))) (now (to .entry)) ⌝ }
+{
+    let mut i: usize = 0;
+    while i < from.len() {
+        to[i] = from[i];
+        i += 1;
+    }
+}
+
+// The table in 257 numbers: the count, the masks of true propositions, those of false ones.
+pub(crate) fn table_in(numbers: &[u32]) -> Table
+    requires { ⌜ 257 ≤ length (now numbers) ⌝ }
+    ensures { λ r. ⌜ r ≡ tableIn (now (numbers .entry)) ⌝ }
+{
+    let mut trues = [0u32; 128];
+    let mut falses = [0u32; 128];
+    copy_masks(&mut trues, 0, &numbers[1..129]);
+    copy_masks(&mut falses, 0, &numbers[129..257]);
+    Table {
+        count: numbers[0] as usize,
+        trues,
+        falses,
+    }
+}
+
+// A table as 257 numbers. The others are kept.
+pub(crate) fn write_table(numbers: &mut [u32], table: Table)
+    requires { ⌜ (257 ≤ length (now numbers)) × (table .count < 2 ^ 32) ⌝ }
+    ensures { λ r. ⌜ now (numbers .exit) ≡ tableOut table (now (numbers .entry)) ⌝ }
+{
+    numbers[0] = table.count as u32;
+    copy_masks(numbers, 1, &table.trues);
+    copy_masks(numbers, 129, &table.falses);
+}
+
+// The rows of the places arrived at, three numbers each. The others are kept.
+pub(crate) fn write_rows(rows: &mut [u64], counts: Counts)
+    requires { ⌜ (counts .count ≤ 65) × (3 * counts .count ≤ length (now rows)) ⌝ }
+    ensures { λ r. ⌜ now (rows .exit) ≡ collect rowNumbers (rowsIn counts) ++ drop (3 * counts .count) (now (rows .entry)) ⌝ }
+{
+    let n = counts.count;
+    let mut i: usize = 0;
+    while i < n {
+        let at = 3 * i;
+        rows[at] = i as u64;
+        rows[at + 1] = counts.entries[i] as u64;
+        rows[at + 2] = counts.clauses[i] as u64;
+        i += 1;
+    }
+}
