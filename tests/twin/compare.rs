@@ -7,11 +7,34 @@ use crate::plans::{refusal_text, run, run_text, text, Verdict};
 use crate::reference::{picture, start, Set, Sheet};
 use crate::sheets::{bad_table, good_table, rubbish, Random};
 use crate::worlds::{self, Checked};
+use std::collections::BTreeMap;
 
 pub struct Comparer {
     pub passed: u64,
     pub failed: u64,
     pub random: Random,
+    /// How often each answer was due: the call, its number, and the verdict of a run or the end of a search.
+    answers: BTreeMap<(&'static str, u8, &'static str), u64>,
+}
+
+fn name_of(what: Call) -> &'static str {
+    match what {
+        Call::Judge => "judge",
+        Call::Start => "start",
+        Call::Step(_) => "step",
+        Call::Picture => "picture",
+        Call::Run => "run",
+        Call::Search(_) => "search",
+    }
+}
+
+/// The end of a call that was accepted.
+fn end_of(what: Call, info: &[u64]) -> &'static str {
+    match what {
+        Call::Run => [" reached", " short", " stopped", " full"][info[1] as usize],
+        Call::Search(_) => [" reached", " full", " none"][info[1] as usize],
+        _ => "",
+    }
 }
 
 pub fn hexadecimal(bytes: &[u8]) -> String {
@@ -37,7 +60,7 @@ fn words(number: u8, lent: &Lent) -> String {
 
 impl Comparer {
     pub fn new(seed: u64) -> Comparer {
-        Comparer { passed: 0, failed: 0, random: Random::new(seed) }
+        Comparer { passed: 0, failed: 0, random: Random::new(seed), answers: BTreeMap::new() }
     }
 
     /// Counts one comparison; only the first that fails is described.
@@ -76,6 +99,8 @@ impl Comparer {
     fn one(&mut self, sheet: &[u8], what: Call, budget: usize, lent: Lent) {
         let mut wanted = lent.clone();
         let Some(number) = due(sheet, what, budget, &mut wanted) else { return };
+        let end = if number == 0 { end_of(what, &wanted.info) } else { "" };
+        *self.answers.entry((name_of(what), number, end)).or_default() += 1;
         let mut found = lent.clone();
         let Some(answer) = call(sheet, what, &mut found) else { return };
         let describe = || {
@@ -192,6 +217,31 @@ impl Comparer {
                 self.checked(bytes, worlds::check_search(&sheet, limit, budget.min(400)));
             }
         }
+    }
+
+    /// The start, the run and one step of a sheet that takes the reference long.
+    pub fn slow_sheet(&mut self, bytes: &[u8]) {
+        for what in [Call::Judge, Call::Start, Call::Run] {
+            let lent = self.lent(None, 0, 195);
+            self.one(bytes, what, 0, lent);
+        }
+        let mut first = self.lent(None, 0, 0);
+        let accepted = due(bytes, Call::Start, 0, &mut first) == Some(0);
+        if accepted {
+            self.one(bytes, Call::Step(0), 0, first);
+        }
+    }
+
+    /// How often each answer was due, a line for each call.
+    pub fn answers(&self) -> String {
+        let mut text = String::new();
+        let mut last = "";
+        for ((name, number, end), count) in &self.answers {
+            let head = if *name == last { String::new() } else { format!("\n{name}:") };
+            text += &format!("{head} {number}{end} ({count})");
+            last = name;
+        }
+        format!("answers, and how often each was due:{text}")
     }
 
     /// What `check` has to print for the bytes, from the reference and from the library's run.

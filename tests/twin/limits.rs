@@ -174,7 +174,7 @@ fn clauses(r: &mut Random) -> Vec<Case> {
 
 /// The longest sheet: every count at its limit, 3,711 bytes. Everything is known, so that nothing splits; with `lasting`, results say what
 /// holds already, so that all 64 moves are taken.
-fn longest(r: &mut Random, lasting: bool) -> Case {
+fn longest(r: &mut Random, lasting: bool) -> Vec<u8> {
     let truth: Vec<bool> = (0..32).map(|_| r.one_in(2)).collect();
     let four = |r: &mut Random, value: bool| {
         let mut set = literals(r, 32, 4, 4);
@@ -200,12 +200,12 @@ fn longest(r: &mut Random, lasting: bool) -> Case {
         .collect();
     let goal = (0..8).map(|_| literals(r, 32, 8, 8)).collect();
     let plan = (0..64).map(|_| r.below(32) as u8).collect();
-    case(&Sheet { n: 32, known, ors, oneofs, moves, goal, plan })
+    encode(&Sheet { n: 32, known, ors, oneofs, moves, goal, plan })
 }
 
 /// One empty entry split by eight conditions of four literals: 5^8 pieces. Their results make the pieces alike, fill the table, or clash
 /// in the last piece only.
-pub fn worst(r: &mut Random) -> Vec<Case> {
+pub fn worst(r: &mut Random) -> Vec<Vec<u8>> {
     let condition = |i: usize| -> Set { (4 * i..4 * i + 4).map(|p| literal(p, p % 3 == 0)).collect() };
     let complements = |i: usize| -> Set { condition(i).iter().map(|x| x.complement()).collect() };
     let overflow = plain(32, (0..8).map(|i| effect(condition(i), complements(i))).collect());
@@ -214,9 +214,7 @@ pub fn worst(r: &mut Random) -> Vec<Case> {
     // Four conditions of four, and unconditional results over what they read: 5^4 pieces, few entries.
     let mut alike: Vec<Effect> = (0..4).map(|i| effect(condition(i), vec![yes(16 + i)])).collect();
     alike.extend((0..4).map(|i| effect(vec![], condition(i))));
-    let mut cases = vec![case(&overflow), case(&clash), case(&plain(32, alike))];
-    cases.extend([longest(r, true), longest(r, false), longest(r, false)]);
-    cases
+    vec![encode(&overflow), encode(&clash), encode(&plain(32, alike)), longest(r, true), longest(r, false)]
 }
 
 /// All of them but the slowest; drawn anew for each call.

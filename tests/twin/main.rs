@@ -26,10 +26,13 @@ fn small(c: &mut Comparer) {
     c.sheet(&bytes, &[], 4, 400);
 }
 
+/// A large sheet, one with many entries, and ten damaged ones.
 fn large(c: &mut Comparer) {
+    let sheet = sheets::wide(&mut c.random);
+    c.sheet(&sheets::encode(&sheet), &[], 2, 20);
     let sheet = sheets::large(&mut c.random);
     let bytes = sheets::encode(&sheet);
-    c.sheet(&bytes, &[], 4, 100);
+    c.sheet(&bytes, &[], 4, 40);
     for _ in 0..10 {
         let damaged = sheets::damaged(&mut c.random, &bytes);
         if reference::read(&damaged).is_err() {
@@ -72,14 +75,13 @@ fn main() -> ExitCode {
     }
     // The sheets at the limits: once for each thousand small sheets, the slowest of them once.
     let (small_count, large_count) = (numbers[1], numbers[2]);
-    for round in 0..small_count.div_ceil(1000) {
-        let mut cases = limits::limits(&mut c.random);
-        if round == 0 {
-            cases.extend(limits::worst(&mut c.random));
-        }
-        for case in cases {
+    for _ in 0..small_count.div_ceil(1000) {
+        for case in limits::limits(&mut c.random) {
             c.sheet(&case.bytes, &case.tables, 0, 2);
         }
+    }
+    for bytes in limits::worst(&mut c.random) {
+        c.slow_sheet(&bytes);
     }
     println!("limits: {} passed, {} failed", c.passed, c.failed);
     for (name, count, one) in [("small", small_count, small as fn(&mut Comparer)), ("large", large_count, large)] {
@@ -90,6 +92,7 @@ fn main() -> ExitCode {
             }
         }
     }
+    println!("{}", c.answers());
     println!("{} passed, {} failed", c.passed, c.failed);
     if c.failed == 0 { ExitCode::SUCCESS } else { ExitCode::from(1) }
 }

@@ -48,8 +48,19 @@ pub fn set_of(mut literals: Vec<Literal>) -> Set {
     literals
 }
 
+/// All literals of both, by merging them.
 fn joined(a: &[Literal], b: &[Literal]) -> Set {
-    set_of([a, b].concat())
+    let mut both = Vec::with_capacity(a.len() + b.len());
+    let (mut i, mut j) = (0, 0);
+    while i < a.len() && j < b.len() {
+        both.push(if a[i].byte() <= b[j].byte() { a[i] } else { b[j] });
+        let (taken_a, taken_b) = (a[i].byte() <= b[j].byte(), b[j].byte() <= a[i].byte());
+        i += taken_a as usize;
+        j += taken_b as usize;
+    }
+    both.extend(&a[i..]);
+    both.extend(&b[j..]);
+    both
 }
 
 /// "From the input, each with the position, from 0, of the byte at fault"; "From the state, position 0".

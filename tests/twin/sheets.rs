@@ -162,6 +162,27 @@ pub fn large(r: &mut Random) -> Sheet {
     random_sheet(r, &size)
 }
 
+/// A sheet whose tables have many entries: single propositions unknown, and moves that split by them, so that runs and searches get full.
+pub fn wide(r: &mut Random) -> Sheet {
+    let n = r.range(8, 14);
+    let size = Size {
+        n: (n, n), known: 0, clauses: 0, alternatives: 1, literals: 1, moves: 5, precondition: 1, effects: 3, condition: r.pick(&[1, 2]),
+        goal: r.pick(&[1, 3]), plan: 8, choices: 1, pieces: 8, guarded: 20,
+    };
+    let mut sheet = random_sheet(r, &size);
+    let open = r.pick(&[3, 5, 6, 7, 7]);
+    sheet.oneofs = (0..open).map(|p| vec![vec![literal(p, true)], vec![literal(p, false)]]).collect();
+    sheet.known = literals(r, n, 0, n / 2);
+    sheet.known.retain(|x| x.proposition as usize >= open);
+    if sheet.goal.is_empty() || r.one_in(2) {
+        sheet.goal = vec![literals(r, n, 1, 1)];
+    }
+    if r.one_in(4) {
+        sheet.ors = vec![(0..r.range(1, 4)).map(|_| literals(r, n, 1, 2)).collect()];
+    }
+    sheet
+}
+
 /// The bytes of a sheet, whatever its counts are: out of their ranges too.
 pub fn encode(sheet: &Sheet) -> Vec<u8> {
     fn set(bytes: &mut Vec<u8>, set: &Set) {
