@@ -41,21 +41,33 @@ pub fn hexadecimal(bytes: &[u8]) -> String {
     bytes.iter().map(|byte| format!("{byte:02x}")).collect::<Vec<_>>().join(" ")
 }
 
-/// A table in few words: its count, its entries as pairs of masks, what stands in unused slots only if it is not zero.
-fn table_words(numbers: &[u32]) -> String {
-    if numbers.len() < NUMBERS {
+/// A table that a call is given: its count and its entries as pairs of masks.
+fn table_words(what: Call, numbers: &[u32]) -> String {
+    if !matches!(what, Call::Step(_) | Call::Picture) || numbers.len() < NUMBERS {
         return format!("{} numbers", numbers.len());
     }
     let count = numbers[0] as usize;
-    let used = |i: usize| i < count || numbers[1 + i] != 0 || numbers[129 + i] != 0;
-    let pairs: Vec<String> =
-        (0..128).filter(|i| used(*i)).map(|i| format!("{i}:{:x},{:x}", numbers[1 + i], numbers[129 + i])).collect();
-    format!("count {count}, slots {}, then {:x?}", pairs.join(" "), &numbers[NUMBERS..])
+    let pairs: Vec<String> = (0..count.min(128)).map(|i| format!("{:x},{:x}", numbers[1 + i], numbers[129 + i])).collect();
+    format!("{} numbers, count {count}, entries (true and false, hexadecimal) {}", numbers.len(), pairs.join(" "))
 }
 
-fn words(number: u8, lent: &Lent) -> String {
-    let Lent { info, table, bytes, rows } = lent;
-    format!("number {number}, info {info:?}\n  table: {}\n  bytes: {}\n  rows: {rows:?}", table_words(table), hexadecimal(bytes))
+/// The places of one slice where library and reference differ, the first ten of them.
+fn places<T: PartialEq + std::fmt::Display>(name: &str, before: &[T], library: &[T], reference: &[T]) -> String {
+    let differ: Vec<usize> = (0..before.len()).filter(|i| library[*i] != reference[*i]).collect();
+    let line = |i: &usize| format!("\n{name}[{i}]: lent {}, library {}, reference {}", before[*i], library[*i], reference[*i]);
+    let more = if differ.len() > 10 { format!("\n{name}: {} places differ", differ.len()) } else { String::new() };
+    differ.iter().take(10).map(line).collect::<String>() + &more
+}
+
+/// A difference: the call, the sheet, what was lent, both answers and every place that differs.
+fn difference(sheet: &[u8], what: Call, lent: &Lent, library: (u8, &Lent), reference: (u8, &Lent)) -> String {
+    let (got, due) = (library.1, reference.1);
+    format!(
+        "{what:?}\nsheet: {}\nlent: info {}, table {}, bytes {}, rows {}\nlibrary: {} info {:?}\nreference: {} info {:?}{}{}{}",
+        hexadecimal(sheet), lent.info.len(), table_words(what, &lent.table), lent.bytes.len(), lent.rows.len(), library.0, got.info,
+        reference.0, due.info, places("table", &lent.table, &got.table, &due.table),
+        places("bytes", &lent.bytes, &got.bytes, &due.bytes), places("rows", &lent.rows, &got.rows, &due.rows),
+    )
 }
 
 impl Comparer {
@@ -103,12 +115,7 @@ impl Comparer {
         *self.answers.entry((name_of(what), number, end)).or_default() += 1;
         let mut found = lent.clone();
         let Some(answer) = call(sheet, what, &mut found) else { return };
-        let describe = || {
-            let before = words(0, &lent);
-            let (found, wanted) = (words(answer, &found), words(number, &wanted));
-            format!("{what:?}\nsheet: {}\nlent: {before}\nlibrary: {found}\nreference: {wanted}", hexadecimal(sheet))
-        };
-        self.count(answer == number && found == wanted, describe);
+        self.count(answer == number && found == wanted, || difference(sheet, what, &lent, (answer, &found), (number, &wanted)));
     }
 
     /// A call with one or more of the slices too short.

@@ -98,14 +98,22 @@ fn oneofs(r: &mut Random) -> Vec<Case> {
     cases
 }
 
-/// Or-clauses whose tables come near 128 entries, with alternatives that overlap.
-fn ors(r: &mut Random) -> Vec<Case> {
-    let n = r.range(12, 32);
-    let sizes = r.pick(&[[8, 8, 2], [8, 8, 3], [8, 4, 4], [8, 5, 3], [8, 8, 1]]);
+/// Or-clauses, now and then a oneof-clause, whose tables come near 128 entries: every alternative has a proposition of its own, save one or
+/// two that overlap with others.
+fn near_full(r: &mut Random) -> Case {
+    let n = r.range(19, 32);
+    let sizes = r.pick(&[[8, 8, 2], [8, 8, 2], [8, 8, 3], [8, 4, 4], [8, 4, 5], [7, 6, 3], [5, 5, 5], [6, 6, 4]]);
     let mut sheet = plain(n, vec![effect(vec![], vec![yes(0)])]);
-    let most = r.pick(&[1, 1, 2]);
-    sheet.ors = sizes.iter().map(|size| (0..*size).map(|_| literals(r, n, 1, most)).collect()).collect();
-    vec![case(&sheet)]
+    let mut own = literals(r, n, n, n);
+    for size in sizes {
+        let mut clause: Vec<Set> = (0..size).map(|_| vec![own.swap_remove(r.below(own.len()))]).collect();
+        if r.one_in(2) {
+            let i = r.below(size);
+            clause[i] = literals(r, n, 1, 3);
+        }
+        if r.one_in(8) { sheet.oneofs.push(clause) } else { sheet.ors.push(clause) }
+    }
+    case(&sheet)
 }
 
 fn seven_bits(i: usize) -> Set {
@@ -221,8 +229,8 @@ pub fn worst(r: &mut Random) -> Vec<Vec<u8>> {
 pub fn limits(r: &mut Random) -> Vec<Case> {
     let mut cases = counts(r);
     cases.extend(oneofs(r));
-    for _ in 0..12 {
-        cases.extend(ors(r));
+    for _ in 0..30 {
+        cases.push(near_full(r));
     }
     cases.extend(entries(r));
     cases.extend(clauses(r));

@@ -23,7 +23,7 @@ fn small(c: &mut Comparer) {
     } else if c.random.one_in(40) {
         bytes = sheets::noise(&mut c.random);
     }
-    c.sheet(&bytes, &[], 4, 400);
+    c.sheet(&bytes, &[], 4, 600);
 }
 
 /// A large sheet, one with many entries, and ten damaged ones.
