@@ -143,7 +143,7 @@ pub fn small(r: &mut Random) -> Sheet {
     let literals = r.pick(&[1, 2, 2, 4]);
     let size = Size {
         n: (1, 6), known: r.pick(&[0, 1, 2, 6]), clauses: r.pick(&[0, 1, 2, 4]), alternatives: r.pick(&[2, 3, 5]), literals,
-        moves: r.pick(&[1, 2, 3, 4]), precondition: 3, effects: r.pick(&[1, 2, 4, 8]), condition: r.pick(&[1, 2, 4]),
+        moves: r.pick(&[1, 2, 3, 4, 8]), precondition: 3, effects: r.pick(&[1, 2, 4, 8]), condition: r.pick(&[1, 2, 4]),
         goal: r.pick(&[1, 2, 3]), plan: r.pick(&[2, 4, 8]), choices: 200, pieces: 60, guarded: r.pick(&[2, 4, 8]),
     };
     random_sheet(r, &size)
