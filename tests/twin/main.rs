@@ -77,7 +77,7 @@ fn main() -> ExitCode {
     let (small_count, large_count) = (numbers[1], numbers[2]);
     for _ in 0..small_count.div_ceil(1000) {
         for case in limits::limits(&mut c.random) {
-            c.sheet(&case.bytes, &case.tables, 0, 2);
+            c.sheet(&case.bytes, &case.tables, 0, 20);
         }
     }
     for bytes in limits::worst(&mut c.random) {
