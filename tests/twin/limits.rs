@@ -180,13 +180,13 @@ fn races(r: &mut Random) -> Case {
         vec![],
     ];
     let mut sheet = plain(14, vec![]);
-    sheet.moves = (0..r.range(2, 4)).map(|_| Move { precondition: vec![], effects: pool[r.below(pool.len())].clone() }).collect();
-    if r.one_in(3) {
+    sheet.moves = (0..r.range(2, 5)).map(|_| Move { precondition: vec![], effects: pool[r.below(pool.len())].clone() }).collect();
+    if r.one_in(5) {
         sheet.moves[0].precondition = vec![yes(8)];
     }
     sheet.oneofs = (0..open).map(|p| vec![vec![yes(p)], vec![no(p)]]).collect();
     sheet.known = if r.one_in(2) { vec![no(8), yes(12)] } else { vec![] };
-    sheet.goal = r.pick(&[&[8][..], &[9], &[8, 9], &[11], &[9, 11]]).iter().map(|p| vec![yes(*p)]).collect();
+    sheet.goal = r.pick(&[&[8][..], &[8], &[8], &[9], &[8, 9], &[11], &[9, 11]]).iter().map(|p| vec![yes(*p)]).collect();
     sheet.plan = (0..r.range(0, 4)).map(|_| r.below(sheet.moves.len()) as u8).collect();
     case(&sheet)
 }
@@ -299,7 +299,7 @@ pub fn limits(r: &mut Random) -> Vec<Case> {
         cases.push(near_full(r));
     }
     for _ in 0..8 {
-        cases.extend([races(r), pictured(r)]);
+        cases.extend([races(r), races(r), races(r), pictured(r)]);
     }
     cases.extend(entries(r));
     cases.extend(clauses(r));
