@@ -252,7 +252,8 @@ impl Comparer {
             last = name;
         }
         let others = self.passed + self.failed - self.calls;
-        format!("compared: {} calls of the library, {others} counts over worlds and texts\nanswers, and how often each was due:{text}", self.calls)
+        let compared = format!("compared: {} calls of the library, {others} counts over worlds and texts", self.calls);
+        format!("{compared}\nanswers, and how often each was due:{text}")
     }
 
     /// What `check` has to print for the bytes, from the reference and from the library's run.

@@ -274,8 +274,8 @@ fn longest(r: &mut Random, lasting: bool) -> Vec<u8> {
     encode(&Sheet { n: 32, known, ors, oneofs, moves, goal, plan })
 }
 
-/// One empty entry split by eight conditions of four literals: 5^8 pieces. Their results fill the table, clash in the first piece, clash only
-/// when the table is full long since, or make the pieces alike.
+/// One empty entry split by eight conditions of four literals: 5^8 pieces. Their results fill the table, clash in the first piece, clash
+/// only when the table is full long since, or make the pieces alike.
 pub fn worst(r: &mut Random) -> Vec<Vec<u8>> {
     let condition = |i: usize| -> Set { (4 * i..4 * i + 4).map(|p| literal(p, p % 3 == 0)).collect() };
     let complements = |i: usize| -> Set { condition(i).iter().map(|x| x.complement()).collect() };
