@@ -12,6 +12,8 @@ use std::collections::BTreeMap;
 pub struct Comparer {
     pub passed: u64,
     pub failed: u64,
+    /// Calls of the library among them.
+    calls: u64,
     pub random: Random,
     /// How often each answer was due: the call, its number, and the verdict of a run or the end of a search.
     answers: BTreeMap<(&'static str, u8, &'static str), u64>,
@@ -72,7 +74,7 @@ fn difference(sheet: &[u8], what: Call, lent: &Lent, library: (u8, &Lent), refer
 
 impl Comparer {
     pub fn new(seed: u64) -> Comparer {
-        Comparer { passed: 0, failed: 0, random: Random::new(seed), answers: BTreeMap::new() }
+        Comparer { passed: 0, failed: 0, calls: 0, random: Random::new(seed), answers: BTreeMap::new() }
     }
 
     /// Counts one comparison; only the first that fails is described.
@@ -115,6 +117,7 @@ impl Comparer {
         *self.answers.entry((name_of(what), number, end)).or_default() += 1;
         let mut found = lent.clone();
         let Some(answer) = call(sheet, what, &mut found) else { return };
+        self.calls += 1;
         self.count(answer == number && found == wanted, || difference(sheet, what, &lent, (answer, &found), (number, &wanted)));
     }
 
@@ -239,7 +242,7 @@ impl Comparer {
         }
     }
 
-    /// How often each answer was due, a line for each call.
+    /// What was compared, and how often each answer was due, a line for each call.
     pub fn answers(&self) -> String {
         let mut text = String::new();
         let mut last = "";
@@ -248,7 +251,9 @@ impl Comparer {
             text += &format!("{head} {number}{end} ({count})");
             last = name;
         }
-        format!("answers, and how often each was due:{text}")
+        let others = self.passed + self.failed - self.calls;
+        let compared = format!("compared: {} calls of the library, {others} counts over worlds and texts", self.calls);
+        format!("{compared}\nanswers, and how often each was due:{text}")
     }
 
     /// What `check` has to print for the bytes, from the reference and from the library's run.

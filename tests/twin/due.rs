@@ -64,7 +64,8 @@ fn start_due(bytes: &[u8], lent: &mut Lent) -> Result<More, Fault> {
     Ok([0; 3])
 }
 
-/// "7 or 8; 22; [..] 24; 25; 21"; "7 move number not on the sheet (in a single step: position 0)"; "A refused step returns the given table".
+/// "7 or 8; 22; [..] 24; 25; 21"; "7 move number not on the sheet (in a single step: position 0)"; "A refused step returns the given
+/// table".
 fn step_due(bytes: &[u8], number: u64, lent: &mut Lent) -> Result<More, Fault> {
     let sheet = read(bytes)?;
     if number >= sheet.moves.len() as u64 {
@@ -76,8 +77,8 @@ fn step_due(bytes: &[u8], number: u64, lent: &mut Lent) -> Result<More, Fault> {
     Ok([0; 3])
 }
 
-/// "picture (a table, a buffer; it gives the clause count, 0 if refused)"; 22, then 21, then "23 for the picture's own length"; "later bytes
-/// of the buffer are kept".
+/// "picture (a table, a buffer; it gives the clause count, 0 if refused)"; 22, then 21, then "23 for the picture's own length"; "later
+/// bytes of the buffer are kept".
 fn picture_due(bytes: &[u8], lent: &mut Lent) -> Result<More, Fault> {
     let sheet = read(bytes)?;
     let clauses = picture(&table_of(sheet.n, &lent.table)?)?;

@@ -120,19 +120,39 @@ fn seven_bits(i: usize) -> Set {
     (0..7).map(|p| literal(p, i >> p & 1 == 1)).collect()
 }
 
-/// A table of `count` entries of which `open` do not know proposition 7: a step by it makes count + open entries. With `nested`, the last
-/// piece takes the place of the first entry, so that one more fits.
-fn splitting(r: &mut Random, count: usize, open: usize, nested: bool) -> Case {
-    let sheet = plain(11, vec![effect(vec![yes(7)], vec![yes(8)]), effect(vec![], vec![yes(9)])]);
-    let mut table: Vec<Set> = (0..count).map(|i| [seven_bits(i), vec![literal(7, i % 2 == 0), yes(8), no(9)]].concat()).collect();
-    for i in count - open..count {
-        table[i].retain(|x| x.proposition != 7);
+#[derive(Clone, Copy, PartialEq)]
+enum Last {
+    Plain,
+    /// The last piece takes the place of the first entry, so that one more fits.
+    Nested,
+    /// The last entry alone has contradictory results, when the table may be full already.
+    Clash,
+}
+
+/// A table of `count` entries of which the last `open` do not know proposition 7: a step by it makes count + open entries.
+fn splitting(r: &mut Random, count: usize, open: usize, last: Last) -> Case {
+    let mut effects = vec![effect(vec![yes(7)], vec![yes(8)]), effect(vec![], vec![yes(9)])];
+    if last == Last::Clash {
+        effects.extend([effect(vec![yes(10)], vec![yes(11)]), effect(vec![yes(10)], vec![no(11)])]);
     }
-    if nested {
-        let mut first = table[count - 1].clone();
-        first.retain(|x| x.proposition != 7 && x.proposition != 9);
-        first.extend([no(7), yes(9), yes(10)]);
-        table[0] = set_of(first);
+    let sheet = plain(12, effects);
+    let mut table: Vec<Set> = (0..count).map(|i| [seven_bits(i), vec![literal(7, i % 2 == 0), yes(8), no(9), no(10)]].concat()).collect();
+    for entry in &mut table[count - open..] {
+        entry.retain(|x| x.proposition != 7);
+    }
+    let mut changed = table[count - 1].clone();
+    match last {
+        Last::Plain => {}
+        Last::Nested => {
+            changed.retain(|x| x.proposition != 7 && x.proposition != 9);
+            changed.extend([no(7), yes(9), yes(11)]);
+            table[0] = set_of(changed);
+        }
+        Last::Clash => {
+            changed.retain(|x| x.proposition != 10);
+            changed.push(yes(10));
+            table[count - 1] = set_of(changed);
+        }
     }
     let numbers = with_rubbish(r, &table);
     Case { bytes: encode(&sheet), tables: vec![numbers] }
@@ -140,11 +160,54 @@ fn splitting(r: &mut Random, count: usize, open: usize, nested: bool) -> Case {
 
 fn entries(r: &mut Random) -> Vec<Case> {
     let mut cases = Vec::new();
-    for (count, open) in [(127, 0), (128, 0), (126, 1), (127, 1), (128, 1), (126, 2), (127, 2), (64, 63), (64, 64), (65, 64), (128, 128)] {
-        cases.push(splitting(r, count, open, false));
-        cases.push(splitting(r, count, open.min(count - 1), true));
+    for (count, open) in [(127, 0), (128, 0), (126, 1), (127, 1), (128, 1), (126, 2), (127, 2), (64, 63), (64, 64), (65, 64), (128, 127)] {
+        cases.extend([Last::Plain, Last::Nested, Last::Clash].map(|last| splitting(r, count, open, last)));
     }
     cases
+}
+
+/// 64 or 128 entries and moves in any order of which some bring the goal about, some fill the table, some are undefined or do nothing: a
+/// search has to tell which plan comes first.
+fn races(r: &mut Random) -> Case {
+    let open = r.pick(&[6, 7, 7]);
+    let pool = [
+        vec![effect(vec![], vec![yes(8)])],
+        vec![effect(vec![yes(8)], vec![yes(9)])],
+        vec![effect(vec![yes(10)], vec![yes(11)]), effect(vec![yes(11)], vec![no(10)])],
+        vec![effect(vec![no(8)], vec![no(12)]), effect(vec![yes(9)], vec![yes(13)]), effect(vec![no(13)], vec![yes(10)])],
+        vec![effect(vec![yes(0)], vec![yes(7)]), effect(vec![yes(0)], vec![no(7)])],
+        vec![effect(vec![yes(0), yes(1)], vec![no(0)])],
+        vec![],
+    ];
+    let mut sheet = plain(14, vec![]);
+    sheet.moves = (0..r.range(2, 5)).map(|_| Move { precondition: vec![], effects: pool[r.below(pool.len())].clone() }).collect();
+    if r.one_in(5) {
+        sheet.moves[0].precondition = vec![yes(8)];
+    }
+    sheet.oneofs = (0..open).map(|p| vec![vec![yes(p)], vec![no(p)]]).collect();
+    sheet.known = if r.one_in(2) { vec![no(8), yes(12)] } else { vec![] };
+    sheet.goal = r.pick(&[&[8][..], &[8], &[8], &[9], &[8, 9], &[11], &[9, 11]]).iter().map(|p| vec![yes(*p)]).collect();
+    sheet.plan = (0..r.range(0, 4)).map(|_| r.below(sheet.moves.len()) as u8).collect();
+    case(&sheet)
+}
+
+/// An or-clause whose picture has around 256 clauses, the product of the lengths of its alternatives, and one more for each known literal.
+fn pictured(r: &mut Random) -> Case {
+    let sizes: &[usize] = r.pick(&[&[4, 4, 4, 4][..], &[4, 4, 4, 4], &[4, 4, 4, 2, 2], &[4, 4, 4, 3], &[4, 3, 3, 3, 2], &[4, 4, 4, 4, 2]]);
+    let mut sheet = plain(20, vec![effect(vec![], vec![yes(19)])]);
+    sheet.moves.push(Move { precondition: vec![], effects: vec![effect(vec![], vec![literal(0, r.one_in(2))])] });
+    let mut next = 0;
+    let mut clause = Vec::new();
+    for size in sizes {
+        clause.push((next..next + size).map(|p| literal(p, r.one_in(2))).collect());
+        next += size;
+    }
+    sheet.ors = vec![clause];
+    sheet.known = (next..19).map(|p| literal(p, r.one_in(2))).collect();
+    let most = r.pick(&[0, 0, 1]);
+    sheet.known.truncate(most);
+    sheet.plan = (0..r.range(0, 3)).map(|_| r.below(2) as u8).collect();
+    case(&sheet)
 }
 
 /// Two entries of 16 and 17 literals with `common` complementary pairs: 16 · 17 - common clauses; and products of disjoint entries.
@@ -211,18 +274,21 @@ fn longest(r: &mut Random, lasting: bool) -> Vec<u8> {
     encode(&Sheet { n: 32, known, ors, oneofs, moves, goal, plan })
 }
 
-/// One empty entry split by eight conditions of four literals: 5^8 pieces. Their results make the pieces alike, fill the table, or clash
-/// in the last piece only.
+/// One empty entry split by eight conditions of four literals: 5^8 pieces. Their results fill the table, clash in the first piece, clash
+/// only when the table is full long since, or make the pieces alike.
 pub fn worst(r: &mut Random) -> Vec<Vec<u8>> {
     let condition = |i: usize| -> Set { (4 * i..4 * i + 4).map(|p| literal(p, p % 3 == 0)).collect() };
     let complements = |i: usize| -> Set { condition(i).iter().map(|x| x.complement()).collect() };
     let overflow = plain(32, (0..8).map(|i| effect(condition(i), complements(i))).collect());
     let mut clash = overflow.clone();
     clash.moves[0].effects[7].result = condition(0);
+    let mut late = overflow.clone();
+    late.moves[0].effects[6] = effect(vec![complements(0)[3]], vec![yes(24)]);
+    late.moves[0].effects[7] = effect(vec![complements(0)[3]], vec![no(24)]);
     // Four conditions of four, and unconditional results over what they read: 5^4 pieces, few entries.
     let mut alike: Vec<Effect> = (0..4).map(|i| effect(condition(i), vec![yes(16 + i)])).collect();
     alike.extend((0..4).map(|i| effect(vec![], condition(i))));
-    vec![encode(&overflow), encode(&clash), encode(&plain(32, alike)), longest(r, true), longest(r, false)]
+    vec![encode(&overflow), encode(&clash), encode(&late), encode(&plain(32, alike)), longest(r, true), longest(r, false)]
 }
 
 /// All of them but the slowest; drawn anew for each call.
@@ -231,6 +297,9 @@ pub fn limits(r: &mut Random) -> Vec<Case> {
     cases.extend(oneofs(r));
     for _ in 0..30 {
         cases.push(near_full(r));
+    }
+    for _ in 0..8 {
+        cases.extend([races(r), races(r), races(r), pictured(r)]);
     }
     cases.extend(entries(r));
     cases.extend(clauses(r));

@@ -23,7 +23,8 @@ fn small(c: &mut Comparer) {
     } else if c.random.one_in(40) {
         bytes = sheets::noise(&mut c.random);
     }
-    c.sheet(&bytes, &[], 4, 600);
+    let budget = if c.random.one_in(200) { 5000 } else { 600 };
+    c.sheet(&bytes, &[], 4, budget);
 }
 
 /// A large sheet, one with many entries, and ten damaged ones.
@@ -44,7 +45,8 @@ fn large(c: &mut Comparer) {
 /// Every NAME.sheet of the folder with its NAME.expected.
 fn folder(c: &mut Comparer, folder: &Path) -> Result<usize, String> {
     let list = std::fs::read_dir(folder).map_err(|e| format!("{}: {e}", folder.display()))?;
-    let mut paths: Vec<_> = list.flatten().map(|entry| entry.path()).filter(|path| path.extension().is_some_and(|e| e == "sheet")).collect();
+    let mut paths: Vec<_> = list.flatten().map(|entry| entry.path()).collect();
+    paths.retain(|path| path.extension().is_some_and(|extension| extension == "sheet"));
     paths.sort();
     for path in &paths {
         let expected = path.with_extension("expected");
@@ -77,7 +79,7 @@ fn main() -> ExitCode {
     let (small_count, large_count) = (numbers[1], numbers[2]);
     for _ in 0..small_count.div_ceil(1000) {
         for case in limits::limits(&mut c.random) {
-            c.sheet(&case.bytes, &case.tables, 0, 2);
+            c.sheet(&case.bytes, &case.tables, 0, 20);
         }
     }
     for bytes in limits::worst(&mut c.random) {

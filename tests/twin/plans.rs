@@ -18,8 +18,8 @@ pub struct Run {
     pub table: Vec<Set>,
 }
 
-/// "Goal [..]; a world is in the goal if each [clause] has a literal true there": every world of an entry has it if the entry has it, since no
-/// clause holds a complementary pair.
+/// "Goal [..]; a world is in the goal if each [clause] has a literal true there": every world of an entry has it if the entry has it, since
+/// no clause holds a complementary pair.
 pub fn in_goal(sheet: &Sheet, table: &[Set]) -> bool {
     table.iter().all(|entry| sheet.goal.iter().all(|clause| clause.iter().any(|x| entry.contains(x))))
 }

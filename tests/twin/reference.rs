@@ -298,8 +298,8 @@ pub fn step(sheet: &Sheet, table: &[Set], number: usize) -> Result<Vec<Set>, Fau
     if full { Err(state(21)) } else { Ok(fresh) }
 }
 
-/// "the first entry's literals as one-literal clauses, ascending; for each next entry a fresh table of at most 256 clauses, into which every
-/// clause with each of the entry's literals added, ascending, is put unless it then holds a complementary pair"
+/// "the first entry's literals as one-literal clauses, ascending; for each next entry a fresh table of at most 256 clauses, into which
+/// every clause with each of the entry's literals added, ascending, is put unless it then holds a complementary pair"
 pub fn picture(table: &[Set]) -> Result<Vec<Set>, Fault> {
     let mut clauses: Vec<Set> = table[0].iter().map(|x| vec![*x]).collect();
     for entry in &table[1..] {
@@ -323,8 +323,8 @@ pub fn masks(set: &[Literal]) -> (u32, u32) {
     (sum(true), sum(false))
 }
 
-/// "Bytes: count in two bytes, then per clause the mask of true and of false propositions, four bytes each, high byte first, sorted by first
-/// then second mask"
+/// "Bytes: count in two bytes, then per clause the mask of true and of false propositions, four bytes each, high byte first, sorted by
+/// first then second mask"
 pub fn picture_bytes(clauses: &[Set]) -> Vec<u8> {
     let mut pairs: Vec<(u32, u32)> = clauses.iter().map(|clause| masks(clause)).collect();
     pairs.sort();

@@ -282,7 +282,8 @@ pub fn with_rubbish(r: &mut Random, table: &[Set]) -> [u32; NUMBERS] {
     numbers
 }
 
-/// A table with one or two faults: counts, bits at n and above, bits in both masks, entries that lie in others. Some keep to 01 all the same.
+/// A table with one or two faults: counts, bits at n and above, bits in both masks, entries that lie in others. Some keep to 01 all the
+/// same.
 pub fn bad_table(r: &mut Random, n: usize) -> [u32; NUMBERS] {
     if r.one_in(10) {
         return rubbish(r);

@@ -59,7 +59,8 @@ pub fn of_table(n: usize, table: &[Set]) -> Vec<World> {
     (0..1 << n).filter(|w| table.iter().any(|entry| holds(*w, entry))).collect()
 }
 
-/// "the clauses without complementary literals that hold in all its worlds and have no shorter such clause within", as sorted pairs of masks
+/// "the clauses without complementary literals that hold in all its worlds and have no shorter such clause within", as sorted pairs of
+/// masks.
 fn primes(n: usize, worlds: &[World]) -> Vec<(u32, u32)> {
     let implied = |trues: u32, falses: u32| worlds.iter().all(|w| w & trues != 0 || !w & falses != 0);
     let mut found = Vec::new();
