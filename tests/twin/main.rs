@@ -75,15 +75,17 @@ fn main() -> ExitCode {
             }
         }
     }
-    // The sheets at the limits: once for each thousand small sheets, the slowest of them once.
+    // The sheets at the limits, once for each thousand small sheets; the slowest of them once, if there are large sheets at all.
     let (small_count, large_count) = (numbers[1], numbers[2]);
     for _ in 0..small_count.div_ceil(1000) {
         for case in limits::limits(&mut c.random) {
             c.sheet(&case.bytes, &case.tables, 0, 20);
         }
     }
-    for bytes in limits::worst(&mut c.random) {
-        c.slow_sheet(&bytes);
+    if large_count > 0 {
+        for bytes in limits::worst(&mut c.random) {
+            c.slow_sheet(&bytes);
+        }
     }
     println!("limits: {} passed, {} failed", c.passed, c.failed);
     for (name, count, one) in [("small", small_count, small as fn(&mut Comparer)), ("large", large_count, large)] {

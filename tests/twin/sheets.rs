@@ -55,7 +55,9 @@ pub fn literals(r: &mut Random, n: usize, low: usize, high: usize) -> Set {
 /// The largest counts that a random sheet may have, and what keeps its start and its steps from growing too long.
 struct Size {
     n: (usize, usize),
+    /// At most so many known literals; with `sure` all propositions but a few, so that conditions seldom split.
     known: usize,
+    sure: bool,
     clauses: usize,
     alternatives: usize,
     literals: usize,
@@ -72,7 +74,8 @@ struct Size {
     guarded: usize,
 }
 
-fn clauses(r: &mut Random, n: usize, size: &Size, count: usize) -> Vec<Vec<Set>> {
+/// Clauses of sections 3 and 4; the first alternative often agrees with what is known, so that there are starting worlds.
+fn clauses(r: &mut Random, n: usize, size: &Size, count: usize, most: usize, known: &Set) -> Vec<Vec<Set>> {
     let mut list = Vec::new();
     for _ in 0..count {
         let mut clause: Vec<Set> = Vec::new();
@@ -80,17 +83,23 @@ fn clauses(r: &mut Random, n: usize, size: &Size, count: usize) -> Vec<Vec<Set>>
         for _ in 0..r.range(1, size.alternatives) {
             let alternative = literals(r, n, 1, size.literals);
             choices *= alternative.len();
-            if choices * clause.len() > size.choices {
+            if choices * clause.len() > most {
                 break;
             }
             clause.push(alternative);
+        }
+        if !r.one_in(4) {
+            for x in &mut clause[0] {
+                *x = known.iter().find(|y| x.proposition == y.proposition).copied().unwrap_or(*x);
+            }
         }
         list.push(clause);
     }
     list
 }
 
-fn a_move(r: &mut Random, n: usize, size: &Size, known: &Set) -> Move {
+/// A move; its results are all true in the world `lasting`, if one is given, so that they never contradict.
+fn a_move(r: &mut Random, n: usize, size: &Size, known: &Set, lasting: Option<u64>) -> Move {
     let mut precondition = Vec::new();
     if r.one_in(size.guarded) {
         precondition = literals(r, n, 0, size.precondition);
@@ -102,24 +111,29 @@ fn a_move(r: &mut Random, n: usize, size: &Size, known: &Set) -> Move {
     let mut pieces = 1;
     for _ in 0..r.range(0, size.effects) {
         let condition = literals(r, n, 0, size.condition);
-        pieces *= 1 + condition.len();
+        pieces *= 1 + condition.iter().filter(|x| known.iter().all(|y| x.proposition != y.proposition)).count();
         if pieces > size.pieces {
             break;
         }
         let most = r.pick(&[1, 4]);
-        effects.push(Effect { condition, result: literals(r, n, 1, most) });
+        let mut result = literals(r, n, 1, most);
+        if let Some(world) = lasting {
+            result.iter_mut().for_each(|x| x.truth = world >> x.proposition & 1 == 1);
+        }
+        effects.push(Effect { condition, result });
     }
     Move { precondition, effects }
 }
 
 fn random_sheet(r: &mut Random, size: &Size) -> Sheet {
     let n = r.range(size.n.0, size.n.1);
-    let known = literals(r, n, 0, size.known);
+    let known = literals(r, n, if size.sure { n.saturating_sub(6) } else { 0 }, size.known);
     let count = r.range(0, size.clauses);
-    let ors = clauses(r, n, size, count);
+    let ors = clauses(r, n, size, count, usize::MAX, &known);
     let count = r.range(0, size.clauses - count);
-    let oneofs = clauses(r, n, size, count);
-    let moves: Vec<Move> = (0..r.range(1, size.moves)).map(|_| a_move(r, n, size, &known)).collect();
+    let oneofs = clauses(r, n, size, count, size.choices, &known);
+    let lasting = if r.one_in(3) { Some(r.next()) } else { None };
+    let moves: Vec<Move> = (0..r.range(1, size.moves)).map(|_| a_move(r, n, size, &known, lasting)).collect();
     let results: Set = moves.iter().flat_map(|m| &m.effects).flat_map(|e| e.result.clone()).collect();
     let goal = (0..r.range(0, size.goal))
         .map(|_| {
@@ -142,7 +156,7 @@ fn random_sheet(r: &mut Random, size: &Size) -> Sheet {
 pub fn small(r: &mut Random) -> Sheet {
     let literals = r.pick(&[1, 2, 2, 4]);
     let size = Size {
-        n: (1, 6), known: r.pick(&[0, 1, 2, 6]), clauses: r.pick(&[0, 1, 2, 4]), alternatives: r.pick(&[2, 3, 5]), literals,
+        n: (1, 6), known: r.pick(&[0, 1, 2, 6]), sure: false, clauses: r.pick(&[0, 1, 2, 4]), alternatives: r.pick(&[2, 3, 5]), literals,
         moves: r.pick(&[1, 2, 3, 4, 8]), precondition: 3, effects: r.pick(&[1, 2, 4, 8]), condition: r.pick(&[1, 2, 4]),
         goal: r.pick(&[1, 2, 3]), plan: r.pick(&[2, 4, 8]), choices: 200, pieces: 60, guarded: r.pick(&[2, 4, 8]),
     };
@@ -152,12 +166,12 @@ pub fn small(r: &mut Random) -> Sheet {
 /// A sheet of 7 to 10 propositions, for the count over worlds, or of up to 32, with every count up to its limit.
 pub fn large(r: &mut Random) -> Sheet {
     let n = r.pick(&[(7, 10), (11, 24), (25, 32), (32, 32)]);
-    let most = r.one_in(3);
+    let sure = r.one_in(3);
     let size = Size {
-        n, known: if most { 32 } else { r.pick(&[0, 4, 16]) }, clauses: if most { 8 } else { r.pick(&[1, 2, 3, 4]) },
+        n, known: if sure { 32 } else { r.pick(&[0, 4, 16]) }, sure, clauses: if sure { 8 } else { r.pick(&[1, 2, 3, 4]) },
         alternatives: r.pick(&[2, 4, 8]), literals: r.pick(&[1, 2, 4]), moves: r.pick(&[4, 12, 32]), precondition: 8, effects: 8,
-        condition: r.pick(&[1, 2, 4]), goal: r.pick(&[1, 3, 8]), plan: if most { 64 } else { r.pick(&[4, 16, 64]) },
-        choices: if most { 300 } else { 60 }, pieces: r.pick(&[2, 8, 30]), guarded: r.pick(&[3, 8, 30]),
+        condition: r.pick(&[1, 2, 4]), goal: r.pick(&[1, 3, 8]), plan: if sure { 64 } else { r.pick(&[4, 16, 64]) },
+        choices: if sure { 300 } else { 60 }, pieces: r.pick(&[2, 8, 30]), guarded: r.pick(&[3, 8, 30]),
     };
     random_sheet(r, &size)
 }
@@ -166,7 +180,7 @@ pub fn large(r: &mut Random) -> Sheet {
 pub fn wide(r: &mut Random) -> Sheet {
     let n = r.range(8, 14);
     let size = Size {
-        n: (n, n), known: 0, clauses: 0, alternatives: 1, literals: 1, moves: 5, precondition: 1, effects: 3, condition: r.pick(&[1, 2]),
+        n: (n, n), known: 0, sure: false, clauses: 0, alternatives: 1, literals: 1, moves: 5, precondition: 1, effects: 3, condition: r.pick(&[1, 2]),
         goal: r.pick(&[1, 3]), plan: 8, choices: 1, pieces: 8, guarded: 20,
     };
     let mut sheet = random_sheet(r, &size);
