@@ -116,6 +116,17 @@ fn near_full(r: &mut Random) -> Case {
     case(&sheet)
 }
 
+/// Oneof-clauses of several alternatives with several literals: the order of the choices shows in the order of the entries.
+fn choosing(r: &mut Random) -> Case {
+    let n = r.range(7, 14);
+    let mut sheet = plain(n, vec![effect(vec![yes(0)], vec![no(1)])]);
+    for _ in 0..r.pick(&[1, 1, 2]) {
+        let clause = (0..r.range(3, 4)).map(|_| literals(r, n, 1, 3)).collect();
+        sheet.oneofs.push(clause);
+    }
+    case(&sheet)
+}
+
 fn seven_bits(i: usize) -> Set {
     (0..7).map(|p| literal(p, i >> p & 1 == 1)).collect()
 }
@@ -299,7 +310,7 @@ pub fn limits(r: &mut Random) -> Vec<Case> {
         cases.push(near_full(r));
     }
     for _ in 0..8 {
-        cases.extend([races(r), races(r), races(r), pictured(r)]);
+        cases.extend([races(r), races(r), races(r), pictured(r), choosing(r), choosing(r)]);
     }
     cases.extend(entries(r));
     cases.extend(clauses(r));
