@@ -56,15 +56,23 @@ def checked_run(sheet, plan):
 
 def first_plan(moves, limit, first, step, done):
     """The first plan, shorter first, then ascending, for whose last state `done` has an answer. `step` gives the next state, or None where
-    a beginning ends there; each beginning is stepped once."""
-    states = {(): first}
-    for length in range(limit + 1):
-        for plan in product(range(moves), repeat=length):
-            if plan and plan not in states:
-                before = states.get(plan[:-1])
-                states[plan] = None if before is None else step(plan[-1], before)
-            if states[plan] is not None and done(states[plan]):
-                return list(plan), done(states[plan])
+    a beginning ends there. A state that an earlier plan came to is not followed: what can be reached from it, the earlier plan reaches
+    earlier."""
+    if done(first):
+        return [], done(first)
+    level, seen = [([], first)], {first}
+    for _ in range(limit):
+        after = []
+        for plan, state in level:
+            for number in range(moves):
+                new = step(number, state)
+                if new is None or new in seen:
+                    continue
+                if done(new):
+                    return plan + [number], done(new)
+                seen.add(new)
+                after.append((plan + [number], new))
+        level = after
     return [], None
 
 
@@ -72,7 +80,7 @@ def search_tables(sheet, limit):
     """The search as document 01 has it, over tables."""
     def step(number, entries):
         try:
-            return p.step(sheet["moves"][number], entries) if entries != "full" else None
+            return tuple(p.step(sheet["moves"][number], entries))
         except p.Fault as fault:
             return "full" if fault.number == 21 else None
 
@@ -81,7 +89,7 @@ def search_tables(sheet, limit):
             return "full"
         return "reached" if all(any(l in e for l in clause) for e in entries for clause in sheet["goal"]) else None
 
-    plan, answer = first_plan(len(sheet["moves"]), limit, p.start(sheet), step, done)
+    plan, answer = first_plan(len(sheet["moves"]), limit, tuple(p.start(sheet)), step, done)
     return (("none",) if answer is None else ("full", len(plan)) if answer == "full" else ("reached",)), plan
 
 
@@ -334,8 +342,8 @@ def search_cases():
     b.write()
 
 
-SEARCHED = {"lit_vacuum_solution": 4, "lit_vacuum_short": 3, "lit_ring_2": 5, "lit_corner_3": 4, "lit_corner_4": 6, "lit_safe_3": 3, "lit_safe_8": 2,
-            "lit_square_3": 6, "lit_bomb_5": 5, "lit_dispose_2_1": 6, "lit_sortnet_4": 5, "lit_turret_4": 7, "lit_lamp_6": 3}
+SEARCHED = {"lit_vacuum_solution": 4, "lit_vacuum_short": 3, "lit_ring_2": 5, "lit_corner_3": 4, "lit_corner_4": 6, "lit_safe_3": 3, "lit_safe_8": 8, "lit_safe_8_short": 7,
+            "lit_square_3": 6, "lit_bomb_5": 5, "lit_bomb_8": 8, "lit_dispose_2_1": 6, "lit_sortnet_4": 5, "lit_turret_4": 7, "lit_lamp_6": 6}
 
 if __name__ == "__main__":
     check_cases()
