@@ -4,29 +4,26 @@ use mathlib.Core.Bool.{true, false}
 use mathlib.Core.List.{List, _∷_}
 use Prim.Native.Nat.{ℕ, _+_, _≤_, _<_}
 use native.Mathlib.Omega.{arith}
-use lib.ListN.{length, set, replicate}
+use lib.ListN.{length, replicate}
 use Rattle.sheet.specs.declared.Answer.the-variants.{Refused}
 use Rattle.sheet.specs.declared.Literals.{Literals}
-use Rattle.sheet.specs.declared.Move.{Move}
 use Rattle.sheet.specs.declared.Sets.{Sets}
-use Rattle.sheet.specs.Encoding.{ProperAction}
-use Rattle.sheet.specs.Decoded.{actionIn, setsIn}
+use Rattle.sheet.specs.Decoded.{setsIn}
 use Rattle.table.specs.declared.Table.{Table}
 use Rattle.table.specs.Minimal.{Outcome, refused, table, Described}
 use Rattle.table.specs.Step.{stepTable}
 use Rattle.table.specs.Slots.{entriesOf, entries, tableOf}
 use Rattle.table.specs.Calls.{orGiven}
-use Rattle.table.specs.Moves.{Steps}
 use Rattle.table.proofs.Demands.{step-table}
 use Rattle.table.proofs.Pads.{length-pad}
 use Rattle.plan.specs.declared.Searched.{Searched}
 use Rattle.table.specs.declared.steps.Stepped.{Stepped}
 use Rattle.table.specs.declared.steps.Stepped.the-variants as moved
-use Rattle.table.specs.Moves.{lent, tabled}
+use Rattle.table.specs.Moves.{Fits, lent, tabled}
 use Rattle.plan.specs.Search.{fullAt, nothing}
 use Rattle.plan.specs.Calls.{answered}
-use Rattle.plan.specs.Packed.{moveAt}
-use Rattle.plan.specs.Walks.{answeredAt, endedBy, actionOf, Searchable, Unmet, walked, begun}
+use Rattle.plan.specs.Packed.{actionOf}
+use Rattle.plan.specs.Walks.{answeredAt, endedBy, Searchable, Unmet, walked, begun}
 use Rattle.plan.specs.Course.{Ready}
 use Rattle.plan.proofs.TableRuns.{entries-table}
 use Rattle.plan.proofs.Courses.{stepped, stopped, ready-table, ready-count}
@@ -42,29 +39,26 @@ slots-room {packed} {k} {goal} {n} {ts} {fs} h =
     let b : length fs ≡ 128 = ap (λ (t : Table). length (t .falses)) z ∙ length-pad 128 0 _ in
     (omega (arith, h .entries-most), omega (arith, h .entries-most))
 
-module _ {packed : List ℕ} {k : ℕ} {goal : Sets} {n : ℕ} {ts fs : List ℕ} (h : Searchable packed k goal (lent n ts fs)) {m : ℕ} (lt : m < k) {mv : Move}
-    (is : mv ≡ moveAt packed m) where
+module _ {packed : List ℕ} {k : ℕ} {goal : Sets} {n : ℕ} {ts fs : List ℕ} (h : Searchable packed k goal (lent n ts fs)) {m : ℕ} (lt : m < k) where
   abbrev t : Table
   t = lent n ts fs
 
-  pub can-step : Steps mv t
-  unfolding actionOf
+  pub can-step : Fits (actionOf packed m) t
   can-step = record {
     n = h .n;
     n-most = h .n-most;
-    effects-most = subst (λ (x : Move). x .count ≤ 8) (sym is) (h .effects-most m lt);
     entries-most = h .entries-most;
-    action = subst (λ (x : Move). ProperAction (h .n) (actionIn x)) (sym is) (h .actions m lt);
+    action = h .actions m lt;
     proper = h .ready .described .proper;
   }
 
-  module _ (r : Stepped) (us gs : List ℕ) (told : tabled t r us gs ≡ orGiven t (stepTable 128 (actionIn mv) (entriesOf n ts fs))) where
+  module _ (r : Stepped) (us gs : List ℕ) (told : tabled t r us gs ≡ orGiven t (stepTable 128 (actionOf packed m) (entriesOf n ts fs))) where
     abbrev outcome : Outcome
     outcome = stepTable 128 (actionOf packed m) (entries t)
 
     step-is : (x : Stepped) → r ≡ x → tabled t x us gs ≡ orGiven t outcome
-    unfolding actionOf entries
-    step-is x e = ap (λ (y : Stepped). tabled t y us gs) (sym e) ∙ told ∙ ap (λ (y : Move). orGiven t (stepTable 128 (actionIn y) (entriesOf n ts fs))) is
+    unfolding entries
+    step-is x e = ap (λ (y : Stepped). tabled t y us gs) (sym e) ∙ told
 
     -- ---- the step gave a table to go on from
     module _ {j : ℕ} (e : r ≡ moved.To j) where

@@ -1,7 +1,7 @@
 -- The final picture of a run is what the picture call writes for the table that the run returns. Assumes nothing.
 use mathlib.Core.Path.{_≡_, refl, sym, ap, ap₂, _∙_}
 use mathlib.Core.Bool.{Bool, true, false, cond}
-use mathlib.Core.List.{List, [], _∷_, _++_}
+use mathlib.Core.List.{List, _++_}
 use mathlib.Core.Option.{Option, none, some, Option·some-ne-none}
 use Prim.Native.Nat.{ℕ, _+_, _*_, _≤_}
 use native.Mathlib.Omega.{arith}
@@ -15,10 +15,11 @@ use Rattle.table.specs.declared.Pictured.{Pictured}
 use Rattle.table.specs.Worlds.{andThen}
 use Rattle.table.specs.Minimal.{described, table}
 use Rattle.table.specs.Start.{startTable}
-use Rattle.table.specs.Picture.{picture, maskBytes, clauseBytes, pictureBytes}
+use Rattle.table.specs.Picture.{picture, pictureBytes}
 use Rattle.table.specs.Slots.{entries}
 use Rattle.table.specs.PictureCalls.{refusal, tooLong, given, pictureOf, written, bufferOf}
 use Rattle.table.proofs.Demands.{described-iff}
+use Rattle.table.proofs.MaskBytes.{clauseBytes-length}
 use Rattle.table.proofs.Pictures.{picture-ascending}
 use Rattle.plan.specs.declared.Ran.{Ran}
 use Rattle.plan.specs.Run.{actionsOf, lastTable}
@@ -26,14 +27,9 @@ use Rattle.plan.specs.Calls.{runOf}
 use Rattle.plan.specs.Demand3.{finalClauses, finalPicture}
 use Rattle.plan.proofs.CallRuns.{statement-proper, final-bytes, last-described, last-entries, last-clauses}
 
-clauses-length : (s : List Literals) → length (clauseBytes s) ≡ 8 * length s
-unfolding clauseBytes maskBytes
-clauses-length [] = refl
-clauses-length (c ∷ s) = unfold clauseBytes maskBytes in omega (arith, clauses-length s)
-
 pub bytes-length : (s : List Literals) → length (pictureBytes s) ≡ 2 + 8 * length s
 unfolding pictureBytes
-bytes-length s = omega (arith, clauses-length s)
+bytes-length s = omega (arith, clauseBytes-length s)
 
 no-clauses : (r : Ran) → finalPicture r ≡ none → finalClauses r ≡ none
 unfolding finalPicture

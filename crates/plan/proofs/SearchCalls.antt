@@ -8,14 +8,13 @@ use lib.Dec.{ltb}
 use lib.ListN.{length}
 use borrow.Author.Tests.{lt-ltb, le-ltb}
 use Rattle.sheet.specs.declared.Answer.the-variants.{Accepted, Refused}
-use Rattle.sheet.specs.declared.Move.{Move}
 use Rattle.sheet.specs.declared.Sheet.{Sheet}
 use Rattle.sheet.specs.declared.Decoded.{Decoded}
 use Rattle.sheet.specs.Lists.{All}
 use Rattle.sheet.specs.Problem.{Action, Problem}
 use Rattle.sheet.specs.Format.{Judgement, accepted, refused as faulty, sheetOf}
 use Rattle.sheet.specs.Encoding.{ProperAction}
-use Rattle.sheet.specs.Decoded.{actionIn, setsIn, problemIn}
+use Rattle.sheet.specs.Decoded.{noMove, setsIn, problemIn}
 use Rattle.sheet.specs.Calls.{decodedOf}
 use Rattle.sheet.proofs.SlotLaws.{problem-slots, not-both, Said}
 use Rattle.sheet.proofs.ListFacts.{all-map}
@@ -32,8 +31,8 @@ use Rattle.plan.specs.Search.{plansUpTo, firstOf}
 use Rattle.plan.specs.Order.{PlanOf}
 use Rattle.plan.specs.Calls.{refusedSearch, answered, searchedFrom, searched, searchOf}
 use Rattle.plan.specs.Course.{Ready}
-use Rattle.plan.specs.Packed.{moveAt, Small, Packs}
-use Rattle.plan.specs.Walks.{ranFrom, actionOf, Searchable, searchedBy}
+use Rattle.plan.specs.Packed.{actionOf, Small, Packs}
+use Rattle.plan.specs.Walks.{ranFrom, Searchable, searchedBy}
 use Rattle.plan.proofs.TableRuns.{entries-table, at-proper}
 use Rattle.plan.proofs.Searching.{out-plans}
 use Rattle.plan.proofs.Courses.{stepped, stopped, ready-count, goal-most, proper, start-ready}
@@ -64,14 +63,9 @@ module _ (x : Sheet) (g : Filled x) (s : Tabled) (is : s ≡ orGiven (tableOf []
     pub small : Small (x .moves)
     small i e lt = steps-of x g (s .table) i lt (described-iff 128 (x .n) (entries (s .table)) .1 (first .described)) e .effects-most
 
-    module _ (packed : List ℕ) (w : Packs (x .moves) packed) where
-      -- any move will do past the end
-      some-move : Move
-      some-move = moveAt packed 0
-
+    module _ (packed : List ℕ) (w : Packs (x .moves) (x .moves .count) packed) where
       laid : (i : ℕ) → i < x .moves .count → actionOf packed i ≡ actionAt (problemIn x) i
-      unfolding actionOf
-      laid i lt = ap actionIn (w .each i some-move lt) ∙ move-is x g (s .table) i lt some-move
+      laid i lt = w .each i lt noMove .is ∙ move-is x g (s .table) i lt noMove
 
       count-is : x .moves .count ≡ length (problemIn x .actions)
       count-is = actions-are x g (s .table) 0
@@ -84,7 +78,7 @@ module _ (x : Sheet) (g : Filled x) (s : Tabled) (is : s ≡ orGiven (tableOf []
         least = rw count-is (proper x g .actions .least);
         most = moves-most x g (s .table) 0;
         room = omega (arith, w .long, moves-most x g (s .table) 0);
-        effects-most = λ i lt. subst (λ (m : Move). m .count ≤ 8) (sym (w .each i some-move lt)) (small i some-move lt);
+        effects-most = λ i lt. w .each i lt noMove .most;
         actions = λ i lt. subst (ProperAction (x .n)) (sym (laid i lt)) (at-proper (problemIn x) (proper x g) i (rw (← count-is) lt));
         goal-most = goal-most x g;
         entries-most = ready-count (x .n) (s .table) first .1;

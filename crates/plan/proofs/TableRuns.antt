@@ -11,7 +11,7 @@ use lib.ListN.{length, take, getD}
 use lib.Seq.{take-length}
 use Rattle.sheet.specs.declared.Literals.{Literals}
 use Rattle.sheet.specs.Literals.{Proper}
-use Rattle.sheet.specs.Lists.{All, allOf, pad}
+use Rattle.sheet.specs.Lists.{All, allOf}
 use Rattle.sheet.specs.Problem.{Action, Problem}
 use Rattle.sheet.specs.Encoding.{ProperList, ProperAction, ProperProblem}
 use Rattle.sheet.proofs.Bools.{T-true, T-false, true-T, false-T, not-in}
@@ -20,13 +20,14 @@ use Rattle.table.specs.Worlds.{Starting, InGoal}
 use Rattle.table.specs.Minimal.{In, Described, refused, table}
 use Rattle.table.specs.Start.{startTable}
 use Rattle.table.specs.Picture.{picture}
-use Rattle.table.specs.Slots.{pairs, trues-of, falses-of, entriesOf, entries, tableOf}
+use Rattle.table.specs.Slots.{entries, tableOf}
 use Rattle.table.specs.Calls.{actionAt}
 use Rattle.table.proofs.Demands.{start-table}
 use Rattle.table.proofs.Stepping as stepping
 use Rattle.table.proofs.Stepping.{code-is, table-refused}
 use Rattle.table.proofs.Primes.{primeList-same}
 use Rattle.table.proofs.Pictures.{picture-list, picture-ascending, picture-worlds}
+use Rattle.table.proofs.Pads.{entriesOf-pad}
 use Rattle.plan.specs.Run.{actionsOf, inGoal, Verdict, reached, short, stopped, full, ended, endedBy, runFrom, lastTable, movesTaken}
 use Rattle.plan.specs.Calls.{verdictOf}
 use Rattle.plan.specs.Places.{tableAt, Refuses}
@@ -38,15 +39,9 @@ use Rattle.plan.proofs.Verdicts.{Arrives, all-next, arrives, run-means,
 use Rattle.plan.proofs.Exactly.{Exact}
 
 -- ---- a table in its slots
-slots-back : (cap : ℕ) (es : List Literals) → length es ≤ cap → entriesOf (length es) (pad cap 0 (trues-of es)) (pad cap 0 (falses-of es)) ≡ es
-unfolding entriesOf pairs pad
-slots-back cap [] h = refl
-slots-back zero (e ∷ es) h = absurd (omega arith)
-slots-back (suc cap) (e ∷ es) h = unfold entriesOf in ap {B = List Literals} (λ r. e ∷ r) (slots-back cap es (omega arith))
-
 pub entries-table : (es : List Literals) → length es ≤ 128 → entries (tableOf es) ≡ es
 unfolding entries tableOf
-entries-table es h = slots-back 128 es h
+entries-table es h = entriesOf-pad 128 es h
 
 -- ---- the moves of a plan are the sheet's
 all-at : {A : Type 0} (P : A → Type 0) (xs : List A) (d : A) (i : ℕ) → All P xs → i < length xs → P (getD xs i d)

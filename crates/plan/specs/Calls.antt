@@ -1,12 +1,12 @@
 -- The calls `run` and `search` as functions of what they are given (document 01, "Numbers and their order").
-use mathlib.Core.Bool.{Bool, true, false, cond}
+use mathlib.Core.Bool.{cond}
 use mathlib.Core.List.{List, [], _++_}
 use Prim.Native.Nat.{ℕ}
 use lib.Dec.{ltb}
 use lib.ListN.{length, drop}
 use Rattle.sheet.specs.declared.Literals.{Literals}
 use Rattle.sheet.specs.Lists.{pad}
-use Rattle.sheet.specs.Problem.{Problem, Statement}
+use Rattle.sheet.specs.Problem.{Problem}
 use Rattle.sheet.specs.Format.{Judgement, accepted, refused}
 use Rattle.table.specs.Minimal.{Outcome}
 use Rattle.table.specs.Start.{startTable}
@@ -16,7 +16,6 @@ use Rattle.plan.specs.declared.Ran.{Ran}
 use Rattle.plan.specs.declared.Verdict as case
 use Rattle.plan.specs.declared.Verdict.the-variants as ran
 use Rattle.plan.specs.declared.Searched.{Searched}
-use Rattle.plan.specs.declared.Kind.{Kind}
 use Rattle.plan.specs.declared.Kind.the-variants as kind
 use Rattle.plan.specs.Run.{Verdict, reached, short, stopped, full, runFrom, lastTable, rowsFrom, actionsOf}
 use Rattle.plan.specs.Search.{Answer, found, fullAt, nothing, firstOf, plansUpTo}

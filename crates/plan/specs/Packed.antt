@@ -1,49 +1,41 @@
 -- Moves laid out as numbers, 35 for each: the two masks of its precondition, its count, and the four masks of each of eight effects.
 use mathlib.Core.Path.{_≡_}
-use mathlib.Core.List.{List, [], _∷_}
-use Prim.Native.Nat.{ℕ, _+_, _*_, _≤_, _<_}
-use lib.ListN.{length, getD}
-use Rattle.sheet.specs.declared.Literals.{Literals}
-use Rattle.sheet.specs.declared.Effect.{Effect}
+use mathlib.Core.List.{List}
+use Prim.Native.Nat.{ℕ, _*_, _≤_, _<_}
+use lib.ListN.{length, getD, take, drop}
 use Rattle.sheet.specs.declared.Move.{Move}
 use Rattle.sheet.specs.declared.Moves.{Moves}
+use Rattle.sheet.specs.Problem.{Action}
+use Rattle.sheet.specs.Decoded.{actionIn}
+use Rattle.table.specs.Moves.{setFrom, actionBy}
 
--- the set, the effect and the move that stand from number i on
-unfoldable pub setAt : List ℕ → ℕ → Literals
-setAt xs i = record { trues = getD xs i 0; falses = getD xs (i + 1) 0 }
+-- ---- the numbers of one move: its count, its action
+abbrev pub countIn : List ℕ → ℕ
+countIn row = getD row 2 0
 
-unfoldable pub effectAt : List ℕ → ℕ → Effect
-effectAt xs i = record { condition = setAt xs i; result = setAt xs (i + 2) }
+unfoldable pub actionFrom : List ℕ → Action
+actionFrom row = actionBy (setFrom row 0) (countIn row) (take 32 (drop 3 row))
 
-abbrev pub effectsAt : List ℕ → ℕ → List Effect
-effectsAt xs i =
-    effectAt xs i
-    ∷ effectAt xs (i + 4)
-    ∷ effectAt xs (i + 8)
-    ∷ effectAt xs (i + 12)
-    ∷ effectAt xs (i + 16)
-    ∷ effectAt xs (i + 20)
-    ∷ effectAt xs (i + 24)
-    ∷ effectAt xs (i + 28)
-    ∷ []
+-- the move, of no more than eight effects, lies in them
+pub record Lies (m : Move) (row : List ℕ) : Type 0 where
+  pub is : actionFrom row ≡ actionIn m
+  pub most : countIn row ≤ 8
 
-unfoldable pub moveFrom : List ℕ → ℕ → Move
-moveFrom xs i = record { precondition = setAt xs i; count = getD xs (i + 2) 0; effects = effectsAt xs (i + 3) }
+-- ---- the numbers of move m among those of all, its count, its action
+unfoldable pub rowOf : List ℕ → ℕ → List ℕ
+rowOf xs m = take 35 (drop (m * 35) xs)
 
--- the move of a number
-unfoldable pub moveAt : List ℕ → ℕ → Move
-moveAt xs m = moveFrom xs (m * 35)
+abbrev pub countOf : List ℕ → ℕ → ℕ
+countOf xs m = countIn (rowOf xs m)
 
--- the numbers before i are as they were, and no fewer
-pub record Kept (i : ℕ) (xs ys : List ℕ) : Type 0 where
-  pub long : length ys ≡ length xs
-  pub below : (j : ℕ) → j < i → getD ys j 0 ≡ getD xs j 0
+abbrev pub actionOf : List ℕ → ℕ → Action
+actionOf xs m = actionFrom (rowOf xs m)
 
 -- no move has more than eight effects
 abbrev pub Small : Moves → Type 0
 Small ms = (i : ℕ) (d : Move) → i < ms .count → getD (ms .items) i d .count ≤ 8
 
--- each move stands at its number
-pub record Packs (ms : Moves) (xs : List ℕ) : Type 0 where
+-- each of the first n moves lies at its number
+pub record Packs (ms : Moves) (n : ℕ) (xs : List ℕ) : Type 0 where
   pub long : length xs ≡ 1120
-  pub each : (i : ℕ) (d : Move) → i < ms .count → moveAt xs i ≡ getD (ms .items) i d
+  pub each : (i : ℕ) → i < n → (d : Move) → Lies (getD (ms .items) i d) (rowOf xs i)

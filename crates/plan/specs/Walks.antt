@@ -3,15 +3,13 @@ use mathlib.Core.Bool.{Bool, true, false}
 use mathlib.Core.List.{List, _∷_, _++_, map}
 use Prim.Native.Nat.{ℕ, _+_, _*_, _≤_, _<_}
 use lib.ListN.{length, replicate}
-use Rattle.sheet.specs.declared.Answer.the-variants.{Accepted, Refused}
 use Rattle.sheet.specs.declared.Literals.{Literals}
 use Rattle.sheet.specs.declared.Sets.{Sets}
 use Rattle.sheet.specs.Lists.{All, pad}
 use Rattle.sheet.specs.Problem.{Action}
 use Rattle.sheet.specs.Encoding.{ProperAction}
-use Rattle.sheet.specs.Decoded.{actionIn, setsIn}
+use Rattle.sheet.specs.Decoded.{setsIn}
 use Rattle.table.specs.declared.Table.{Table}
-use Rattle.table.specs.declared.Tabled.{Tabled}
 use Rattle.table.specs.Slots.{entries}
 use Rattle.plan.specs.declared.Searched.{Searched}
 use Rattle.plan.specs.declared.Kind.{Kind}
@@ -21,7 +19,7 @@ use Rattle.plan.specs.Search.{plansOf, plansUpTo, Answer, found, fullAt,
 use Rattle.plan.specs.Order.{Fails}
 use Rattle.plan.specs.Calls.{answered}
 use Rattle.plan.specs.Course.{Ready}
-use Rattle.plan.specs.Packed.{moveAt}
+use Rattle.plan.specs.Packed.{countOf, actionOf}
 
 -- ---- the first answer from the table t, `place` moves already taken, by the numbers of the moves f
 -- the verdict of a plan
@@ -53,18 +51,14 @@ endedBy (kind.Full k) = true
 endedBy kind.Nothing = false
 endedBy (kind.Refused number position) = true
 
--- ---- the moves laid out as numbers
-unfoldable pub actionOf : List ℕ → ℕ → Action
-actionOf packed i = actionIn (moveAt packed i)
-
--- moves, goal and table over the same n propositions, within their slots
+-- ---- moves laid out, goal and table over the same n propositions, within their slots
 pub record Searchable (packed : List ℕ) (count : ℕ) (goal : Sets) (t : Table) : Type 0 where
   pub n : ℕ
   pub n-most : n ≤ 32
   pub least : 1 ≤ count
   pub most : count ≤ 32
   pub room : count * 35 ≤ length packed
-  pub effects-most : (i : ℕ) → i < count → moveAt packed i .count ≤ 8
+  pub effects-most : (i : ℕ) → i < count → countOf packed i ≤ 8
   pub actions : (i : ℕ) → i < count → ProperAction n (actionOf packed i)
   pub goal-most : goal .count ≤ 8
   pub entries-most : t .count ≤ 128

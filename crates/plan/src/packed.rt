@@ -1,51 +1,18 @@
 // Moves laid out as numbers in a slice, 35 for each, so that a search lends them instead of copying them.
-use sheet::Effect;
-use sheet::Literals;
 use sheet::Move;
 use sheet::Moves;
+use table::effects::lay;
+use table::effects::set_from;
+use table::steps::Stepped;
+use table::steps::step_into;
 ghost use mathlib.Core.Path.{_≡_};
-ghost use Prim.Native.Nat.{_+_, _*_, _≤_, _<_};
-ghost use lib.ListN.{length, getD};
+ghost use Prim.Native.Nat.{_+_, _*_, _≤_};
+ghost use lib.ListN.{length, replicate};
+ghost use Rattle.table.specs.Step as S;
+ghost use Rattle.table.specs.Slots.{entriesOf};
+ghost use Rattle.table.specs.Moves as M;
+ghost use Rattle.table.specs.Calls.{orGiven};
 ghost use Rattle.plan.specs.Packed as P;
-
-// The set from number i on.
-pub(crate) fn set_at(packed: &[u32], i: usize) -> Literals
-    requires { ⌜ i + 2 ≤ length (now packed) ⌝ }
-    ensures { λ r. ⌜ r ≡ P.setAt (now (packed .entry)) i ⌝ }
-{
-    Literals {
-        trues: packed[i],
-        falses: packed[i + 1],
-    }
-}
-
-// The effect from number i on.
-pub(crate) fn effect_at(packed: &[u32], i: usize) -> Effect
-    requires { ⌜ i + 4 ≤ length (now packed) ⌝ }
-    ensures { λ r. ⌜ r ≡ P.effectAt (now (packed .entry)) i ⌝ }
-{
-    Effect {
-        condition: set_at(packed, i),
-        result: set_at(packed, i + 2),
-    }
-}
-
-// The eight effects from number i on.
-pub(crate) fn effects_at(packed: &[u32], i: usize) -> [Effect; 8]
-    requires { ⌜ i + 32 ≤ length (now packed) ⌝ }
-    ensures { λ r. ⌜ r ≡ P.effectsAt (now (packed .entry)) i ⌝ }
-{
-    [
-        effect_at(packed, i),
-        effect_at(packed, i + 4),
-        effect_at(packed, i + 8),
-        effect_at(packed, i + 12),
-        effect_at(packed, i + 16),
-        effect_at(packed, i + 20),
-        effect_at(packed, i + 24),
-        effect_at(packed, i + 28),
-    ]
-}
 
 // A number as a count.
 fn wide(x: u32) -> usize
@@ -54,71 +21,60 @@ fn wide(x: u32) -> usize
     x as usize
 }
 
-// The move of a number.
-pub(crate) fn move_at(packed: &[u32], m: usize) -> Move
-    requires { ⌜ m * 35 + 35 ≤ length (now packed) ⌝ }
-    ensures { λ r. ⌜ r ≡ P.moveAt (now (packed .entry)) m ⌝ }
+// The step of a lent table by the move of a number, into arrays of zeros.
+pub(crate) fn step_at<'a, 'b, 'c>(
+    packed: &'a [u32],
+    m: usize,
+    ts: &'b [u32],
+    fs: &'b [u32],
+    n: usize,
+    us: &'c mut [u32],
+    gs: &'c mut [u32],
+) -> Stepped
+    requires { ⌜ (m * 35 + 35 ≤ length (now packed)) × (P.countOf (now packed) m ≤ 8) ⌝ }
+    requires { ⌜ M.Fits (P.actionOf (now packed) m) (M.lent n (now ts) (now fs)) ⌝ }
+    requires { ⌜ (n ≤ length (now ts)) × (n ≤ length (now fs)) ⌝ }
+    requires { ⌜ (now us ≡ replicate 128 0) × (now gs ≡ replicate 128 0) ⌝ }
+    ensures { λ r. ⌜ M.tabled (M.lent n (now (ts .entry)) (now (fs .entry))) r (now (us .exit)) (now (gs .exit)) ≡ orGiven (M.lent n (now (ts .entry)) (now (fs .entry))) (S.stepTable 128 (P.actionOf (now (packed .entry)) m) (entriesOf n (now (ts .entry)) (now (fs .entry)))) ⌝ }
 {
     let i = m * 35;
-    Move {
-        precondition: set_at(packed, i),
-        count: wide(packed[i + 2]),
-        effects: effects_at(packed, i + 3),
-    }
+    let row = &packed[i..i + 35];
+    step_into(
+        set_from(row, 0),
+        &row[3..35],
+        wide(row[2]),
+        ts,
+        fs,
+        n,
+        us,
+        gs,
+    )
 }
 
-// A set laid from number i on.
-pub(crate) fn lay_set(packed: &mut [u32], i: usize, a: Literals)
-    requires { ⌜ i + 2 ≤ length (now packed) ⌝ }
-    ensures { λ r. ⌜ P.Kept i (now (packed .entry)) (now (packed .exit)) × (P.setAt (now (packed .exit)) i ≡ a) ⌝ }
+// A move laid in its 35 numbers.
+pub(crate) fn lay_move(row: &mut [u32], mv: Move)
+    requires { ⌜ (length (now row) ≡ 35) × (mv .count ≤ 8) ⌝ }
+    ensures { λ r. ⌜ P.Lies mv (now (row .exit)) ⌝ }
 {
-    packed[i] = a.trues;
-    packed[i + 1] = a.falses;
-}
-
-// An effect laid from number i on.
-pub(crate) fn lay_effect(packed: &mut [u32], i: usize, e: Effect)
-    requires { ⌜ i + 4 ≤ length (now packed) ⌝ }
-    ensures { λ r. ⌜ P.Kept i (now (packed .entry)) (now (packed .exit)) × (P.effectAt (now (packed .exit)) i ≡ e) ⌝ }
-{
-    lay_set(packed, i, e.condition);
-    lay_set(packed, i + 2, e.result);
-}
-
-// The effects of a move laid from number i on.
-pub(crate) fn lay_effects(packed: &mut [u32], i: usize, mv: Move)
-    requires { ⌜ i + 32 ≤ length (now packed) ⌝ }
-    ensures { λ r. ⌜ P.Kept i (now (packed .entry)) (now (packed .exit)) × (P.effectsAt (now (packed .exit)) i ≡ mv .effects) ⌝ }
-{
-    let mut j: usize = 0;
-    while j < 8 {
-        let e = mv.effects[j];
-        lay_effect(packed, i + 4 * j, e);
-        j += 1;
-    }
-}
-
-// A move laid from number i on.
-pub(crate) fn lay_move(packed: &mut [u32], i: usize, mv: Move)
-    requires { ⌜ (i + 35 ≤ length (now packed)) × (mv .count ≤ 8) ⌝ }
-    ensures { λ r. ⌜ P.Kept i (now (packed .entry)) (now (packed .exit)) × (P.moveFrom (now (packed .exit)) i ≡ mv) ⌝ }
-{
-    lay_set(packed, i, mv.precondition);
-    packed[i + 2] = mv.count as u32;
-    lay_effects(packed, i + 3, mv);
+    let precondition = mv.precondition;
+    row[0] = precondition.trues;
+    row[1] = precondition.falses;
+    row[2] = mv.count as u32;
+    lay(mv, &mut row[3..35]);
 }
 
 // The moves laid out.
 pub(crate) fn pack(moves: Moves) -> [u32; 1120]
     requires { ⌜ (moves .count ≤ 32) × P.Small moves ⌝ }
-    ensures { λ r. ⌜ P.Packs moves r ⌝ }
+    ensures { λ r. ⌜ P.Packs moves (moves .count) r ⌝ }
 {
     let count = moves.count;
     let mut packed = [0u32; 1120];
     let mut m: usize = 0;
     while m < count {
         let mv = moves.items[m];
-        lay_move(&mut packed, m * 35, mv);
+        let i = m * 35;
+        lay_move(&mut packed[i..i + 35], mv);
         m += 1;
     }
     packed

@@ -2,14 +2,13 @@
 use crate::Kind;
 use crate::Searched;
 use crate::goals::all_in_goal;
-use crate::packed::move_at;
 use crate::packed::pack;
+use crate::packed::step_at;
 use sheet::Answer;
 use sheet::Sets;
 use sheet::Sheet;
 use table::first::first_table;
 use table::steps::Stepped;
-use table::steps::step_into;
 ghost use mathlib.Core.Path.{_≡_};
 ghost use mathlib.Core.Bool.{true};
 ghost use mathlib.Core.List.{_∷_};
@@ -123,7 +122,7 @@ fn begin<'a, 'b>(
 {
     let mut us = [0u32; 128];
     let mut gs = [0u32; 128];
-    let stepped = step_into(move_at(packed, m), ts, fs, n, &mut us, &mut gs);
+    let stepped = step_at(packed, m, ts, fs, n, &mut us, &mut gs);
     let next = at + 1;
     match stepped {
         Stepped::To(k) => {

@@ -1,17 +1,18 @@
 -- Laws of masks by their bits: what `has` says of each operation, and that the bits decide the number.
 -- Assumes nothing.
 use mathlib.Core.Path.{_≡_, refl, sym, ap, ap₂, _∙_, subst}
-use mathlib.Core.Logic.{_⊎_, inl, inr, ⊎-elim}
+use mathlib.Core.Logic.{_⊎_, inl, inr}
 use mathlib.Core.Bool.{Bool, true, false, not, _&&_, _||_, and-eq-true-iff, true≢false, false≢true}
-use Prim.Native.Nat.{ℕ, zero, suc, _+_, _-_, _*_, _/_, _%_, _^_, _≤_, _<_, min, max}
+use Prim.Native.Nat.{ℕ, zero, suc, _-_, _/_, _%_, _^_, _≤_, _<_}
 use native.Mathlib.Nat.{div-one, div-div-eq-div-mul, pow-succ', mod-lt, zero-lt-suc, div-eq-of-lt, zero-div, mod-eq-of-lt, lt-of-lt-of-le, le-of-suc-le-suc, not-suc-le-zero}
 use native.Mathlib.Omega.{arith}
 use lib.Dec.{eqb, ltb, eqb·suc-suc, eqb·zero-suc, eqb·suc-zero, leb·suc-suc, leb·zero, leb·suc-zero}
 use lib.Arith.{bin-ind}
-use lib.Bits.{bitAnd, bitOr, or-add-and, and-step, and-shr, or-shr, and-mod, or-mod, and-le-l, and-le-r, and-mask, and-zero-l, and-comm}
+use lib.Bits.{bitAnd, bitOr, or-add-and, and-step, and-shr, or-shr, and-mod, or-mod, and-le-l, and-le-r, and-mask}
 use lib.Pow.{pow-mono, pow-pos}
-use borrow.Author.Tests.{eq-eqb, ne-eqb, eqb-true, eqb-false, lt-ltb, le-ltb, ltb-true, ltb-false, not-true}
+use borrow.Author.Tests.{eq-eqb, eqb-true, lt-ltb, ltb-true, ltb-false, not-true}
 use Rattle.sheet.specs.Literals.{has}
+use Rattle.sheet.proofs.Bools.{iff-eq}
 
 -- ---- a bit at 0, and one further up
 
@@ -259,15 +260,10 @@ and-not n a k ha hk =
 
 -- ---- two masks tested at once
 
-same-test : (x y : Bool) → (x ≡ true → y ≡ true) → (y ≡ true → x ≡ true) → x ≡ y
-same-test true y f g = sym (f refl)
-same-test false true f g = g refl
-same-test false false f g = refl
-
 -- a union is empty if both parts are
 pub or-none : (a b : ℕ) → eqb (bitOr a b) 0 ≡ (eqb a 0 && eqb b 0)
 or-none a b =
-    same-test _ _
+    iff-eq _ _
     (λ e.
     let z : bitOr a b ≡ 0 = eqb-true (bitOr a b) 0 e in
     ap₂ _&&_ (eq-eqb a 0 (omega (arith, or-add-and a b, and-le-r a b))) (eq-eqb b 0 (omega (arith, or-add-and a b, and-le-l a b))))
@@ -279,5 +275,5 @@ or-none a b =
 pub outside-none : (n a k : ℕ) → a < 2 ^ n → k < 2 ^ n → eqb (bitAnd a ((2 ^ n - 1) - k)) 0 ≡ eqb (bitAnd a k) a
 outside-none n a k ha hk =
     ap (λ (x : ℕ). eqb x 0) (and-not n a k ha hk)
-    ∙ same-test _ _ (λ e. eq-eqb (bitAnd a k) a (omega (arith, eqb-true (a - bitAnd a k) 0 e, and-le-l a k)))
+    ∙ iff-eq _ _ (λ e. eq-eqb (bitAnd a k) a (omega (arith, eqb-true (a - bitAnd a k) 0 e, and-le-l a k)))
     (λ e. eq-eqb (a - bitAnd a k) 0 (omega (arith, eqb-true (bitAnd a k) a e)))

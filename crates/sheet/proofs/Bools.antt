@@ -78,13 +78,19 @@ pub not-not : (b : Bool) → T (not (not b)) → T b
 not-not true t = tt
 not-not false t = t
 
-pub to-not : (b : Bool) → T b → T (not (not b))
-to-not true t = tt
-to-not false t = t
+-- two tests that hold together
+pub iff-eq : (x y : Bool) → (x ≡ true → y ≡ true) → (y ≡ true → x ≡ true) → x ≡ y
+iff-eq true y f g = sym (f refl)
+iff-eq false true f g = g refl
+iff-eq false false f g = refl
 
 -- where p is true, q decides
 pub kept : {p : Bool} (q : Bool) → p ≡ true → q ≡ (p && q)
 kept q e = sym (ap (λ (b : Bool). b && q) e)
+
+-- where it is false, so is the whole
+pub and-no : {p : Bool} (q : Bool) → p ≡ false → false ≡ (p && q)
+and-no q e = sym (ap (λ (b : Bool). b && q) e)
 
 -- a test that is known picks its case
 pub cond-true : {A : Type 0} {b : Bool} (x y : A) → b ≡ true → x ≡ cond b x y

@@ -1,18 +1,18 @@
 -- Literal bytes: a byte is a sign and a proposition, and the bytes of a set are found in ascending order.
 -- Assumes nothing.
 use mathlib.Core.Path.{_≡_, refl, sym, ap, ap₂, _∙_, subst}
-use mathlib.Core.Bool.{Bool, true, false, not, cond, true≢false, false≢true}
+use mathlib.Core.Bool.{Bool, true, false, cond, true≢false}
 use mathlib.Core.List.{List, [], _∷_, List·Memᴰ, List·Memᴰ·head, List·Memᴰ·tail, List·Memᴰ·not-nil, List·Memᴰ·cases-cons}
 use mathlib.Core.Logic.{_⊎_, inl, inr, ⊎-elim}
-use Prim.Native.Nat.{ℕ, zero, suc, _+_, _-_, _*_, _/_, _%_, _^_, _≤_, _<_}
+use Prim.Native.Nat.{ℕ, zero, suc, _+_, _-_, _*_, _/_, _%_, _≤_, _<_}
 use native.Mathlib.Nat.{eq-or-lt-of-le}
 use native.Mathlib.Numerals.{add-one}
 use native.Mathlib.Omega.{arith}
 use lib.Dec.{eqb, ltb}
 use borrow.Author.Tests.{eq-eqb, ne-eqb, eqb-true, eqb-false, ltb-true, ltb-false}
 use Rattle.sheet.specs.declared.Literals.{Literals}
-use Rattle.sheet.specs.Literals.{mem, single, sign, byte, literal, contains, below, within, clash, nextFrom, membersFrom, next, members}
-use Rattle.sheet.proofs.LiteralSets.{below-of, within-single, clash-single}
+use Rattle.sheet.specs.Literals.{mem, single, sign, byte, literal, contains, below, within, nextFrom, membersFrom, next, members}
+use Rattle.sheet.proofs.LiteralSets.{below-of, within-single}
 
 -- ---- a byte is a sign and a proposition
 

@@ -1,18 +1,16 @@
 -- What is proved of the sheet layer, over the definition that the contract of `judge` cites (`judgeOf`, by `sheetOf`), for every
 -- list of bytes and with no hypothesis. Read the definitions in specs/ beside them.
 -- Assumes nothing.
-use mathlib.Core.Path.{_≡_, refl, sym, ap, _∙_}
-use mathlib.Core.Logic.{_↔_, _⊎_}
-use mathlib.Core.List.{List, [], _∷_, _++_}
-use mathlib.Core.Option.{Option, none, some}
-use Prim.Native.Nat.{ℕ, suc, _+_, _*_, _/_, _≤_, _<_}
+use mathlib.Core.Path.{_≡_, refl, ap, _∙_}
+use mathlib.Core.Logic.{_↔_}
+use mathlib.Core.List.{List, _∷_, _++_}
+use mathlib.Core.Option.{Option, some}
+use Prim.Native.Nat.{ℕ, _+_, _*_, _/_, _≤_, _<_}
 use native.Mathlib.Omega.{arith}
-use lib.ListN.{length, take, drop}
-use Rattle.sheet.specs.declared.Answer.{Answer}
+use lib.ListN.{length, take}
 use Rattle.sheet.specs.declared.Answer.the-variants.{Accepted, Refused}
 use Rattle.sheet.specs.Problem.{Statement}
-use Rattle.sheet.specs.Form.{Form, done, due}
-use Rattle.sheet.specs.Format.{literalFault, sheet, Judgement, accepted, refused, sheetOf}
+use Rattle.sheet.specs.Format.{literalFault, Judgement, accepted, refused, sheetOf}
 use Rattle.sheet.specs.Encoding.{ProperStatement, encode}
 use Rattle.sheet.specs.Calls.{answerOf, judgeOf}
 use Rattle.sheet.proofs.Judging as J

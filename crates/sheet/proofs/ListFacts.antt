@@ -4,10 +4,6 @@ use mathlib.Core.Path.{_≡_, refl}
 use mathlib.Core.Bool.{Bool, true, false, not}
 use mathlib.Core.List.{List, [], _∷_, _++_, map}
 use mathlib.Core.Logic.{_⊎_, inl, inr}
-use Prim.Native.Nat.{ℕ, zero, suc, _<_}
-use native.Mathlib.Nat.{not-suc-le-zero}
-use native.Mathlib.Omega.{arith}
-use native.Mathlib.Decide.{ℕ-discrete}
 use lib.Dec.{T}
 use Rattle.sheet.specs.Lists.{Any, All, anyOf, allOf, addIf, keep, collect}
 use Rattle.sheet.proofs.Bools.{true-T, false-T, and-l, and-r, and-in, and-not, or-out, or-not-l, or-not-r}

@@ -2,17 +2,16 @@
 -- `within`, `clash` and `consistent` say of the members. Nothing here looks at a mask's digits.
 -- Assumes nothing.
 use mathlib.Core.Path.{_≡_, refl, sym, ap, ap₂, _∙_, subst}
-use mathlib.Core.Logic.{_↔_, _⊎_, inl, inr, ⊎-elim}
+use mathlib.Core.Logic.{_⊎_, inl, inr, ⊎-elim}
 use mathlib.Core.Bool.{Bool, true, false, not, _&&_, _||_, Bool·beq, and-eq-true-iff, or-comm, or-assoc, true≢false, false≢true}
-use Prim.Native.Nat.{ℕ, zero, suc, _+_, _-_, _*_, _/_, _%_, _^_, _≤_, _<_}
-use native.Mathlib.Omega.{arith}
-use lib.Dec.{T, eqb, ltb}
-use lib.Bits.{bitAnd, bitOr, and-comm}
-use borrow.Author.Tests.{eq-eqb, ne-eqb, eqb-true, eqb-false, lt-ltb, le-ltb, ltb-true, ltb-false, not-true, not-false}
+use Prim.Native.Nat.{ℕ, _-_, _^_, _<_}
+use lib.Dec.{eqb, ltb}
+use lib.Bits.{bitAnd, and-comm}
+use borrow.Author.Tests.{eq-eqb, eqb-true, eqb-false, lt-ltb, ltb-true, not-true, not-false}
 use Rattle.sheet.specs.declared.Literals.{Literals}
-use Rattle.sheet.specs.Literals.{has, side, mem, within, clash, consistent, join, flip, replace, single, sign, literal, contains, state, below, Proper}
-use Rattle.sheet.proofs.Bools.{T-true, true-T}
-use Rattle.sheet.proofs.Bits.{has-and, has-or, has-minus, has-pow, has-none, has-not, has-above, has-below, below-has, ext, sub-of, of-sub, not-sub, disjoint-of, of-disjoint, not-disjoint}
+use Rattle.sheet.specs.Literals.{has, side, mem, within, clash, consistent, join, flip, replace, single, state, below, Proper}
+use Rattle.sheet.proofs.Bools.{T-true, true-T, iff-eq}
+use Rattle.sheet.proofs.Bits.{has-or, has-minus, has-pow, has-none, has-not, has-below, below-has, ext, sub-of, of-sub, not-sub, disjoint-of, of-disjoint, not-disjoint}
 
 -- ---- the members of each set
 
@@ -80,9 +79,6 @@ pub of-within : (a b : Literals) → Within a b → within a b ≡ true
 unfolding mem within
 of-within a b h = ap₂ _&&_ (eq-eqb _ _ (of-sub _ _ (h true))) (eq-eqb _ _ (of-sub _ _ (h false)))
 
-pub within-iff : (a b : Literals) → (within a b ≡ true) ↔ Within a b
-within-iff a b = (within-of a b, of-within a b)
-
 -- a member of a that is none of b
 pub not-within : (a b : Literals) → within a b ≡ false → (s : Bool) × (p : ℕ) × (mem a s p ≡ true) × (mem b s p ≡ false)
 unfolding mem within
@@ -111,9 +107,6 @@ unfolding mem clash
 of-apart a b h =
     ap₂ (λ (x y : Bool). not (x && y)) (eq-eqb _ _ (of-disjoint _ _ (h true))) (eq-eqb _ _ (of-disjoint _ _ (h false)))
 
-pub apart-iff : (a b : Literals) → (clash a b ≡ false) ↔ Apart a b
-apart-iff a b = (apart-of a b, of-apart a b)
-
 -- a member of a with its complement in b
 pub clash-at : (a b : Literals) → clash a b ≡ true → (s : Bool) × (p : ℕ) × (mem a s p ≡ true) × (mem b (not s) p ≡ true)
 unfolding mem clash
@@ -134,11 +127,6 @@ clash-here a b s p e f = go (clash a b) refl
     go false h = absurd (true≢false (sym f ∙ apart-of a b h s p e))
 
 -- ---- truth values
-
-pub iff-eq : (x y : Bool) → (x ≡ true → y ≡ true) → (y ≡ true → x ≡ true) → x ≡ y
-iff-eq true y f g = sym (f refl)
-iff-eq false true f g = g refl
-iff-eq false false f g = refl
 
 pub or-cases : (x y : Bool) → (x || y) ≡ true → (x ≡ true) ⊎ (y ≡ true)
 or-cases true y e = inl refl
@@ -234,9 +222,6 @@ consistent-of a e = apart-of a a (not-true _ (sym (consistent-clash a) ∙ e))
 pub of-consistent : (a : Literals) → Apart a a → consistent a ≡ true
 of-consistent a h = consistent-clash a ∙ ap not (of-apart a a h)
 
-pub consistent-iff : (a : Literals) → (consistent a ≡ true) ↔ Apart a a
-consistent-iff a = (consistent-of a, of-consistent a)
-
 pub consistent-within : (a b : Literals) → within a b ≡ true → consistent b ≡ true → consistent a ≡ true
 consistent-within a b w e = of-consistent a (λ s p m. go s p (within-of a b w s p m) (mem a (not s) p) refl)
   where
@@ -316,10 +301,6 @@ pub meet-here : (a b : Literals) (s : Bool) (p : ℕ) → mem a s p ≡ true →
 meet-here a b s p e f =
     clash-here (flip a) b (not s) p (mem-flip a (not s) p ∙ ap (λ (t : Bool). mem a t p) (not-not s) ∙ e) (ap (λ (t : Bool). mem b t p) (not-not s) ∙ f)
 
-pub flip-flip : (a : Literals) → flip (flip a) ≡ a
-unfolding flip
-flip-flip a = refl
-
 -- ---- the propositions named
 
 -- each proposition named in a is below n
@@ -334,9 +315,6 @@ below-of n a e false p m = has-below (ltb-true _ _ (and-eq-true-iff (ltb (a .tru
 pub of-below : (n : ℕ) (a : Literals) → Below n a → below n a ≡ true
 unfolding mem below
 of-below n a h = both _ _ (lt-ltb _ _ (below-has n (a .trues) (h true))) (lt-ltb _ _ (below-has n (a .falses) (h false)))
-
-pub below-iff : (n : ℕ) (a : Literals) → (below n a ≡ true) ↔ Below n a
-below-iff n a = (below-of n a, of-below n a)
 
 pub below-trues : (n : ℕ) (a : Literals) → below n a ≡ true → a .trues < 2 ^ n
 unfolding below

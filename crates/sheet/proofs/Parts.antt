@@ -2,7 +2,7 @@
 -- Assumes nothing.
 use mathlib.Core.Path.{_≡_, refl, sym, ap, _∙_}
 use mathlib.Core.Bool.{Bool, true, false, cond}
-use mathlib.Core.List.{List, [], _∷_, _++_}
+use mathlib.Core.List.{List, [], _∷_}
 use mathlib.Core.Option.{Option, none, some}
 use Prim.Native.Nat.{ℕ, zero, suc, _+_, _*_, _-_, _/_, _≤_, _<_}
 use native.Mathlib.Omega.{arith}
@@ -10,17 +10,17 @@ use native.Mathlib.Nat.{sub-zero}
 use native.Mathlib.Numerals.{add-one}
 use lib.ListN.{length}
 use lib.Bits.{or-zero-r}
-use lib.Dec.{ltb, leb, eqb}
-use borrow.Author.Tests.{ltb-true, ltb-false, lt-ltb, le-ltb, leb-true, leb-false, le-leb, lt-leb, eq-eqb, ne-eqb, eqb-true, eqb-false}
+use lib.Dec.{ltb, leb}
+use borrow.Author.Tests.{ltb-false, lt-ltb, le-ltb, leb-false, le-leb, lt-leb, eq-eqb, ne-eqb}
 use Rattle.sheet.specs.declared.Literals.{Literals}
 use Rattle.sheet.specs.declared.reader.Mark.{Mark}
 use Rattle.sheet.specs.declared.reader.Mark.the-variants.{At, Fault}
 use Rattle.sheet.specs.Literals.{noLiteral, join, literal}
-use Rattle.sheet.specs.Form.{Form, done, byte, _>>=_, judged, times, Read, item, fault, after, read}
-use Rattle.sheet.specs.Format.{countFault, literalFault, numberFault, count, listOf, ascending, setOf, literals}
+use Rattle.sheet.specs.Form.{Form, done, _>>=_, judged, times, Read, item, fault, after, read}
+use Rattle.sheet.specs.Format.{countFault, literalFault, numberFault, count, listOf, ascending, setOf}
 use Rattle.sheet.specs.Marks.{Gave, same, before}
 use Rattle.sheet.proofs.LiteralSets.{join-assoc}
-use Rattle.sheet.proofs.Forms.{read-then, read-judged}
+use Rattle.sheet.proofs.Forms.{read-then}
 use Rattle.sheet.proofs.Reading.{gave-item, gave-fault, got-item, got-fault, byte-passed, onto, times-more}
 
 -- ---- the rules of single bytes

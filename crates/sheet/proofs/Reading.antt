@@ -1,20 +1,18 @@
 -- Laws of reading: what a mark and a value say, one byte, and the loops that fill slots.
 -- Assumes nothing.
 use mathlib.Core.Path.{_≡_, refl, sym, ap, ap₂, _∙_, subst}
-use mathlib.Core.Bool.{Bool, true, false, cond}
+use mathlib.Core.Bool.{Bool, true, false}
 use mathlib.Core.List.{List, [], _∷_, _++_, map, append-assoc, append-nil}
-use mathlib.Core.Option.{Option, none, some}
-use Prim.Native.Nat.{ℕ, zero, suc, _+_, _*_, _-_, _≤_, _<_}
+use Prim.Native.Nat.{ℕ, zero, suc, _+_, _-_, _≤_, _<_}
 use native.Mathlib.Omega.{arith}
 use native.Mathlib.Nat.{sub-zero}
-use native.Mathlib.Numerals.{add-one}
 use lib.ListN.{length, set, getD, length-append, length-map}
 use lib.Dec.{ltb}
-use borrow.Author.Tests.{ltb-true, ltb-false, lt-ltb, le-ltb}
+use borrow.Author.Tests.{lt-ltb, le-ltb}
 use Rattle.sheet.specs.declared.reader.Mark.{Mark}
 use Rattle.sheet.specs.declared.reader.Mark.the-variants.{At, Fault}
 use Rattle.sheet.specs.Lists.{pad}
-use Rattle.sheet.specs.Form.{Form, done, byte, _>>=_, judged, times, Read, item, fault, after, admit, byteAt, read}
+use Rattle.sheet.specs.Form.{Form, done, _>>=_, judged, times, Read, item, fault, after, admit, byteAt, read}
 use Rattle.sheet.specs.Marks.{markOf, Gave, same}
 use Rattle.sheet.proofs.Forms.{read-then, read-judged}
 

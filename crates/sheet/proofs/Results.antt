@@ -1,15 +1,16 @@
 -- Results: what `replace` keeps and brings, and when two sets of results may change places.
 -- Assumes nothing.
-use mathlib.Core.Path.{_≡_, refl, sym, ap, ap₂, _∙_, subst}
+use mathlib.Core.Path.{_≡_, refl, sym, ap, _∙_}
 use mathlib.Core.Logic.{_⊎_, inl, inr, ⊎-elim}
 use mathlib.Core.Bool.{Bool, true, false, not, _&&_, _||_, and-eq-true-iff, and-true, and-false, or-true, or-false, true≢false}
 use Prim.Native.Nat.{ℕ}
 use lib.Bits.{bitAnd}
 use borrow.Author.Tests.{not-true}
 use Rattle.sheet.specs.declared.Literals.{Literals}
-use Rattle.sheet.specs.Literals.{has, mem, within, clash, consistent, join, replace, after, below, names}
+use Rattle.sheet.specs.Literals.{has, mem, within, clash, consistent, join, replace, below, names}
 use Rattle.sheet.proofs.Bits.{has-or, disjoint-of}
-use Rattle.sheet.proofs.LiteralSets.{mem-join, mem-replace, set-ext, iff-eq, or-cases, or-left, or-right, not-not, within-of, of-within, apart-of, of-apart, clash-at, clash-here, consistent-of, of-consistent, below-of, of-below}
+use Rattle.sheet.proofs.Bools.{iff-eq}
+use Rattle.sheet.proofs.LiteralSets.{mem-join, mem-replace, set-ext, or-cases, or-left, or-right, not-not, within-of, of-within, apart-of, consistent-of, of-consistent, below-of, of-below}
 
 -- the results come from a or from r
 pub replace-cases : (a r : Literals) (s : Bool) (p : ℕ) → mem (replace a r) s p ≡ true
@@ -85,12 +86,6 @@ module _ (a c r : Literals) (h : bitAnd (names c) (names r) ≡ 0) where
       iff-eq _ _ (λ w. of-within c a (λ s p e. sym (same s s p e) ∙ within-of c _ w s p e))
       (λ w. of-within c _ (λ s p e. same s s p e ∙ within-of c a w s p e))
 
-  pub clash-other : clash c (replace a r) ≡ clash c a
-  clash-other =
-      iff-eq _ _
-      (λ w. let k = clash-at c (replace a r) w in clash-here c a (k .0) (k .1) (k .2) (sym (same (k .0) (not (k .0)) (k .1) (k .2)) ∙ k .3))
-      (λ w. let k = clash-at c a w in clash-here c _ (k .0) (k .1) (k .2) (same (k .0) (not (k .0)) (k .1) (k .2) ∙ k .3))
-
 -- ---- two sets of results, one after the other
 
 swap : (x r r′ q q′ : Bool) → (r ≡ true → q ≡ false) → (r ≡ true → q′ ≡ false) → (r′ ≡ true → q ≡ false) → (r′ ≡ true → q′ ≡ false)
@@ -98,14 +93,6 @@ swap : (x r r′ q q′ : Bool) → (r ≡ true → q ≡ false) → (r ≡ true
 swap x true r′ q q′ h₁ h₂ h₃ h₄ = rw (h₁ refl, h₂ refl) (simp or-true)
 swap x false true q q′ h₁ h₂ h₃ h₄ = rw (h₃ refl, h₄ refl) (simp and-false)
 swap x false false q q′ h₁ h₂ h₃ h₄ = simp (and-true, or-false)
-
--- results that name no proposition in common may change places
-pub replace-comm : (a r q : Literals) → bitAnd (names r) (names q) ≡ 0 → replace (replace a r) q ≡ replace (replace a q) r
-replace-comm a r q h =
-    set-ext _ _ (λ s p.
-    simp mem-replace
-    (swap (mem a s p) (mem r s p) (mem r (not s) p) (mem q s p) (mem q (not s) p) (apart-names r q h s s p) (apart-names r q h s (not s) p)
-    (apart-names r q h (not s) s p) (apart-names r q h (not s) (not s) p)))
 
 merge : (x r r′ q q′ : Bool) → (r ≡ true → q′ ≡ false) → ((x && not (r′ || q′)) || (r || q)) ≡ ((((x && not r′) || r) && not q′) || q)
 merge x true r′ q q′ h = rw (h refl) (simp or-true)
@@ -118,12 +105,3 @@ replace-join a r q h =
     set-ext _ _ (λ s p.
     simp (mem-replace, mem-join)
     (merge (mem a s p) (mem r s p) (mem r (not s) p) (mem q s p) (mem q (not s) p) (apart-of r q h s p)))
-
--- the same of worlds
-pub after-comm : (w : ℕ) (r q : Literals) → bitAnd (names r) (names q) ≡ 0 → after (after w r) q ≡ after (after w q) r
-unfolding after replace
-after-comm w r q h = ap (λ (a : Literals). a .trues) (replace-comm (record { trues = w; falses = 0 }) r q h)
-
-pub after-join : (w : ℕ) (r q : Literals) → clash r q ≡ false → after w (join r q) ≡ after (after w r) q
-unfolding after replace join
-after-join w r q h = ap (λ (a : Literals). a .trues) (replace-join (record { trues = w; falses = 0 }) r q h)

@@ -1,7 +1,7 @@
 -- The sections of a sheet, one after the other: what each function of the reader that goes through them gives.
 -- Assumes nothing.
 use mathlib.Core.Path.{_≡_, refl, sym, ap, ap₂, _∙_, subst}
-use mathlib.Core.List.{List, length-map}
+use mathlib.Core.List.{List}
 use Prim.Native.Nat.{ℕ, _≤_, _<_}
 use lib.ListN.{length}
 use borrow.Author.Tests.{lt-ltb, le-ltb}
@@ -13,7 +13,7 @@ use Rattle.sheet.specs.declared.Plan.{Plan}
 use Rattle.sheet.specs.declared.reader.Facts as slots
 use Rattle.sheet.specs.declared.reader.Mark.{Mark}
 use Rattle.sheet.specs.declared.reader.Mark.the-variants.{At, Fault}
-use Rattle.sheet.specs.Problem.{Action, Facts, Statement, problemOf}
+use Rattle.sheet.specs.Problem.{Action, Facts, problemOf}
 use Rattle.sheet.specs.Form.{Form, done, _>>=_, Read, item, fault, after, read}
 use Rattle.sheet.specs.Format.{count, literals, listOf, clauses, actions, goal, plan, facts, sheet, refused, ended, sheetOf}
 use Rattle.sheet.specs.Decoded.{clausesOf, movesOf, setsOf, planOf, slots}

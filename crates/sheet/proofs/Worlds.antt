@@ -1,14 +1,14 @@
 -- Literal sets and worlds: a world is a complete set, a consistent set has a completion, and results take a world to a world.
 -- Assumes nothing.
 use mathlib.Core.Path.{_≡_, refl, sym, ap, ap₂, _∙_, subst}
-use mathlib.Core.Logic.{_⊎_, inl, inr, ⊎-elim}
-use mathlib.Core.Bool.{Bool, true, false, not, _&&_, _||_, Bool·beq, and-eq-true-iff, true≢false, false≢true}
-use Prim.Native.Nat.{ℕ, zero, suc, _+_, _-_, _*_, _/_, _%_, _^_, _≤_, _<_}
-use lib.Dec.{eqb, ltb}
+use mathlib.Core.Logic.{_⊎_, ⊎-elim}
+use mathlib.Core.Bool.{Bool, true, false, not, _&&_, Bool·beq, and-eq-true-iff, true≢false}
+use Prim.Native.Nat.{ℕ, _-_, _^_, _<_}
+use lib.Dec.{ltb}
 use borrow.Author.Tests.{lt-ltb, ltb-true, not-true, not-false}
 use Rattle.sheet.specs.declared.Literals.{Literals}
 use Rattle.sheet.specs.Literals.{has, mem, within, clash, consistent, join, flip, replace, single, state, after, below}
-use Rattle.sheet.proofs.LiteralSets.{mem-state, mem-join, set-ext, Within, within-of, of-within, not-within, apart-of, of-apart, clash-at, clash-here, clash-sym, clash-single, clash-within, consistent-of, of-consistent, consistent-join, not-not, below-of, of-below, below-trues, below-join, below-single, within-join, within-join-l, within-join-r, within-trans, within-single, within-antisym, consistent-single, consistent-within, consistent-flip, below-within, below-flip}
+use Rattle.sheet.proofs.LiteralSets.{mem-state, within-of, of-within, not-within, of-apart, clash-at, clash-here, clash-sym, clash-single, consistent-of, of-consistent, consistent-join, not-not, below-of, of-below, below-trues, below-join, below-single, within-join, within-join-l, within-join-r, within-trans, within-single, within-antisym, consistent-single, consistent-within, consistent-flip, below-within, below-flip}
 use Rattle.sheet.proofs.Results.{consistent-replace, below-replace, within-replace, replace-cases, replace-kept}
 
 -- ---- what holds in a world
@@ -102,20 +102,6 @@ implied-clause n c d e f bc bd all = go (clash (flip c) d) refl
     go false k =
         let r = counter-world n c d e f k bc bd in
         absurd (true≢false (sym (all (r .0) (r .1) (r .2)) ∙ r .3))
-
--- a lies in b if every world of b is one of a
-pub worlds-within : (n : ℕ) (a b : Literals) → consistent b ≡ true → below n a ≡ true → below n b ≡ true
-    → ((w : ℕ) → w < 2 ^ n → within b (state n w) ≡ true → within a (state n w) ≡ true) → within a b ≡ true
-worlds-within n a b e ba bb all = go (within a b) refl
-  where
-    go : (t : Bool) → within a b ≡ t → within a b ≡ true
-    go true k = k
-    go false k =
-        let r = not-within a b k in
-        let w = completion-with n b (not (r .0)) (r .1) e bb (below-of n a ba (r .0) (r .1) (r .2)) (ap (λ (t : Bool). mem b t (r .1)) (not-not (r .0)) ∙ r .3) in
-        absurd
-        (true≢false
-        (sym (w .3) ∙ consistent-of _ (state-consistent n (w .0) (w .1)) (r .0) (r .1) (within-of a _ (all (w .0) (w .1) (w .2)) (r .0) (r .1) (r .2))))
 
 -- ---- splitting: a world of d in which c fails has the complement of a literal of c that d leaves open
 

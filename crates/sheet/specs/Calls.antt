@@ -4,7 +4,6 @@ use Prim.Native.Nat.{ℕ}
 use Rattle.sheet.specs.declared.Answer.{Answer}
 use Rattle.sheet.specs.declared.Answer.the-variants.{Accepted, Refused}
 use Rattle.sheet.specs.declared.Decoded.{Decoded}
-use Rattle.sheet.specs.Problem.{Statement}
 use Rattle.sheet.specs.Format.{Judgement, accepted, refused, sheetOf}
 use Rattle.sheet.specs.Decoded.{slots, noSheet}
 

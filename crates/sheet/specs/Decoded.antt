@@ -1,5 +1,5 @@
 -- A statement in the slots of the declared structs, and back. Slots that are not used hold the empty item.
-use mathlib.Core.List.{List, [], _∷_, map}
+use mathlib.Core.List.{List, [], map}
 use Prim.Native.Nat.{ℕ}
 use lib.ListN.{length, take}
 use Rattle.sheet.specs.declared.Literals.{Literals}

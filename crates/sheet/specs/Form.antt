@@ -1,6 +1,6 @@
 -- Reading bytes one after the other. Each byte has a role, which the bytes before it decide; a role is a rule that gives the
 -- number of a byte's fault, 0 for none.
-use mathlib.Core.Bool.{Bool, true, false, cond}
+use mathlib.Core.Bool.{cond}
 use mathlib.Core.List.{List, [], _∷_}
 use mathlib.Core.Option.{Option, none, some}
 use Prim.Native.Nat.{ℕ, zero, suc, _+_}

@@ -1,15 +1,15 @@
 -- The format of a sheet (document 01, "The sheet"): seven sections in fixed order, each after its count byte.
-use mathlib.Core.Bool.{Bool, true, false, cond}
+use mathlib.Core.Bool.{cond}
 use mathlib.Core.List.{List, [], _∷_}
 use mathlib.Core.Option.{Option, none, some}
-use Prim.Native.Nat.{ℕ, zero, suc, _+_, _*_, _/_}
+use Prim.Native.Nat.{ℕ, zero, suc, _*_, _/_}
 use lib.Dec.{ltb, leb, eqb}
 use lib.ListN.{length}
 use Rattle.sheet.specs.declared.Literals.{Literals}
 use Rattle.sheet.specs.declared.Effect.{Effect}
 use Rattle.sheet.specs.Literals.{noLiteral, join, literal}
 use Rattle.sheet.specs.Problem.{Action, Facts, Statement, problemOf}
-use Rattle.sheet.specs.Form.{Form, done, byte, _>>=_, judged, times, Read, item, fault, read}
+use Rattle.sheet.specs.Form.{Form, done, _>>=_, judged, times, Read, item, fault, read}
 
 -- ---- the rules of single bytes (document 01, "Numbers and their order")
 -- 2: count out of its range

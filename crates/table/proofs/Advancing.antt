@@ -21,6 +21,8 @@ use Rattle.sheet.specs.Format.{Judgement, accepted, refused as faulty, sheetOf}
 use Rattle.sheet.specs.Encoding.{ProperEffect, ProperAction, ProperStatement}
 use Rattle.sheet.specs.Decoded.{moveOf, noMove, movesOf, slots, actionIn, problemIn}
 use Rattle.sheet.specs.Calls.{decodedOf}
+use Rattle.sheet.proofs.ListFacts.{all-map}
+use Rattle.sheet.proofs.LiteralSets.{proper-consistent}
 use Rattle.sheet.proofs.SlotLaws.{action-slots, problem-slots, not-both, Said}
 use Rattle.table.specs.declared.slots.Grown.{Grown}
 use Rattle.table.specs.declared.slots.Grown.the-variants as grown
@@ -34,9 +36,11 @@ use Rattle.table.specs.Slots.{pairs, entriesOf, entries, tableOf, Grew, 
 use Rattle.table.specs.Calls.{orGiven, actionAt, stepKnown, stepMove, stepOf}
 use Rattle.table.specs.declared.steps.Stepped.{Stepped}
 use Rattle.table.specs.declared.steps.Stepped.the-variants as moved
-use Rattle.table.specs.Moves.{effectsOf, lent, tabled, Steps, Filled}
-use Rattle.table.proofs.Pads.{length-entriesOf}
-use Rattle.table.proofs.Started.{all-at, no-entries}
+use Rattle.table.specs.Moves.{effectsOf, effectsAt, actionBy, lent, tabled, Fits, Steps, Filled}
+use Rattle.table.specs.Carry.{Steady}
+use Rattle.table.proofs.Pads.{length-entriesOf, fresh}
+use Rattle.table.proofs.Started.{all-at}
+use Rattle.table.proofs.EffectRows.{laid-action}
 use Rattle.table.proofs.PairLaws.{pairs-contradict}
 use Rattle.table.proofs.Describing.{described-iff}
 
@@ -62,28 +66,28 @@ all-clear n hn es he (d ∷ t) h =
     ∙ neither (contradicts es d) (anyOf (λ q. contradicts es q) t)
 
 -- ---- the outcome, by the tests in their order
-module _ (m : Move) (t : Table) (h : Steps m t) where
+module _ (a : Action) (t : Table) (h : Fits a t) where
   abbrev outcome : Outcome
-  outcome = stepTable 128 (actionIn m) (entries t)
+  outcome = stepTable 128 a (entries t)
 
-  by-sure : (b : Bool) → allOf (λ d. within (m .precondition) d) (entries t) ≡ b → outcome ≡ stepSure b 128 (effectsOf m) (entries t)
-  unfolding stepTable actionIn
-  by-sure b e = ap (λ (x : Bool). stepSure x 128 (effectsOf m) (entries t)) e
+  abbrev es : List Effect
+  es = a .effects
 
-  pub unsure : allOf (λ d. within (m .precondition) d) (entries t) ≡ false → outcome ≡ refused 24
+  abbrev ps : List Literals
+  ps = collect (pieces es) (entries t)
+
+  by-sure : (b : Bool) → allOf (λ d. within (a .precondition) d) (entries t) ≡ b → outcome ≡ stepSure b 128 es (entries t)
+  unfolding stepTable
+  by-sure b e = ap (λ (x : Bool). stepSure x 128 es (entries t)) e
+
+  pub unsure : allOf (λ d. within (a .precondition) d) (entries t) ≡ false → outcome ≡ refused 24
   unsure e = by-sure false e
 
-  -- the effects as they were laid out
-  module _ (s : allOf (λ d. within (m .precondition) d) (entries t) ≡ true) (es : List Effect) (known : effectsOf m ≡ es) where
-    abbrev ps : List Literals
-    ps = collect (pieces es) (entries t)
-
+  module _ (s : allOf (λ d. within (a .precondition) d) (entries t) ≡ true) where
     by-clear : (b : Bool) → anyOf (λ d. contradicts es d) (entries t) ≡ b → outcome ≡ stepClear (not b) 128 es ps
     by-clear b e =
         by-sure true s
-        ∙ ap (λ (x : List Effect). stepSure true 128 x (entries t)) known
-        ∙ ap (λ (x : Bool). stepClear x 128 es ps)
-        (all-clear (h .n) (h .n-most) es (subst (All (ProperEffect (h .n))) known (h .action .effects .each)) (entries t) (h .proper) ∙ ap not e)
+        ∙ ap (λ (x : Bool). stepClear x 128 es ps) (all-clear (h .n) (h .n-most) es (h .action .effects .each) (entries t) (h .proper) ∙ ap not e)
 
     pub unclear : anyOf (λ d. contradicts es d) (entries t) ≡ true → outcome ≡ refused 25
     unclear e = by-clear true e
@@ -108,36 +112,52 @@ module _ (m : Move) (t : Table) (h : Steps m t) where
 -- ---- the same in lent arrays, into arrays of zeros
 module _ (us gs : List ℕ) (e : us ≡ replicate 128 0) (f : gs ≡ replicate 128 0) where
   pub fresh-held : Held (length us) 0 us gs
-  fresh-held = subst (λ (x : List ℕ). Held (length x) 0 x gs) (sym e) (subst (λ (y : List ℕ). Held 128 0 (replicate 128 0) y) (sym f) no-entries)
+  fresh-held = subst (λ (x : List ℕ). Held (length x) 0 x gs) (sym e) (subst (λ (y : List ℕ). Held 128 0 (replicate 128 0) y) (sym f) (fresh 128))
 
   fresh-puts : (cs : List Literals) (r : Grown) (vs hs : List ℕ) → Puts cs 0 us gs r vs hs → Puts cs 0 (replicate 128 0) (replicate 128 0) r vs hs
   fresh-puts cs r vs hs p = subst (λ (y : List ℕ). Puts cs 0 (replicate 128 0) y r vs hs) f (subst (λ (x : List ℕ). Puts cs 0 x gs r vs hs) e p)
 
-module _ (m : Move) (n : ℕ) (ts fs : List ℕ) (h : Steps m (lent n ts fs)) where
+module _ (a : Action) (n : ℕ) (ts fs : List ℕ) (h : Fits a (lent n ts fs)) where
   abbrev given : Table
   given = lent n ts fs
 
   abbrev due : Tabled
-  due = orGiven given (stepTable 128 (actionIn m) (entriesOf n ts fs))
+  due = orGiven given (stepTable 128 a (entriesOf n ts fs))
 
-  pub lent-unsure : allOf (λ d. within (m .precondition) d) (entriesOf n ts fs) ≡ false → tabled given (moved.Refused 24) [] [] ≡ due
+  -- no condition and no entry contradicts itself
+  pub lent-steady : Steady (a .effects) × All (λ d. consistent d ≡ true) (entriesOf n ts fs)
+  unfolding entries
+  lent-steady = (
+    all-map (ProperEffect (h .n)) (λ e. consistent (e .condition) ≡ true) (λ e x. proper-consistent (h .n) (e .condition) (x .condition .proper)) (a .effects) (h .action .effects .each),
+    all-map (Proper (h .n)) (λ d. consistent d ≡ true) (proper-consistent (h .n)) (entriesOf n ts fs) (h .proper),
+  )
+
+  pub lent-unsure : allOf (λ d. within (a .precondition) d) (entriesOf n ts fs) ≡ false → tabled given (moved.Refused 24) [] [] ≡ due
   unfolding entries orGiven
-  lent-unsure s = sym (ap (orGiven given) (unsure m given h s))
+  lent-unsure s = sym (ap (orGiven given) (unsure a given h s))
 
-  module _ (s : allOf (λ d. within (m .precondition) d) (entriesOf n ts fs) ≡ true) (es : List Effect) (known : effectsOf m ≡ es) where
-    pub lent-unclear : anyOf (λ d. contradicts es d) (entriesOf n ts fs) ≡ true → tabled given (moved.Refused 25) [] [] ≡ due
+  module _ (s : allOf (λ d. within (a .precondition) d) (entriesOf n ts fs) ≡ true) where
+    pub lent-unclear : anyOf (λ d. contradicts (a .effects) d) (entriesOf n ts fs) ≡ true → tabled given (moved.Refused 25) [] [] ≡ due
     unfolding entries orGiven
-    lent-unclear u = sym (ap (orGiven given) (unclear m given h s es known u))
+    lent-unclear u = sym (ap (orGiven given) (unclear a given h s u))
 
-    module _ (u : anyOf (λ d. contradicts es d) (entriesOf n ts fs) ≡ false) (us gs : List ℕ) (e : us ≡ replicate 128 0) (f : gs ≡ replicate 128 0)
-        (r : Grown) (vs hs : List ℕ) (w : Puts (map (image es) (collect (pieces es) (entriesOf n ts fs))) 0 us gs r vs hs) where
+    module _ (u : anyOf (λ d. contradicts (a .effects) d) (entriesOf n ts fs) ≡ false) (us gs : List ℕ) (e : us ≡ replicate 128 0) (f : gs ≡ replicate 128 0)
+        (r : Grown) (vs hs : List ℕ) (w : Puts (map (image (a .effects)) (collect (pieces (a .effects)) (entriesOf n ts fs))) 0 us gs r vs hs) where
       pub lent-full : r ≡ grown.Full → tabled given (moved.Refused 21) vs hs ≡ due
       unfolding entries orGiven
-      lent-full q = sym (ap (orGiven given) (overfull m given h s es known u r vs hs (fresh-puts us gs e f _ r vs hs w) q))
+      lent-full q = sym (ap (orGiven given) (overfull a given h s u r vs hs (fresh-puts us gs e f _ r vs hs w) q))
 
       pub lent-to : (k : ℕ) → r ≡ grown.To k → tabled given (moved.To k) vs hs ≡ due
       unfolding entries
-      lent-to k q = stepped m given h s es known u r vs hs (fresh-puts us gs e f _ r vs hs w) k q
+      lent-to k q = stepped a given h s u r vs hs (fresh-puts us gs e f _ r vs hs w) k q
+
+-- ---- a move whose effects are laid out
+module _ (m : Move) (t : Table) (row : List ℕ) (e : effectsOf m ≡ effectsAt (m .count) row) where
+  pub laid-fits : Fits (actionIn m) t → Fits (actionBy (m .precondition) (m .count) row) t
+  laid-fits h = subst (λ (a : Action). Fits a t) (laid-action m row e) h
+
+  pub laid-step : {d : Tabled} → d ≡ orGiven t (stepTable 128 (actionBy (m .precondition) (m .count) row) (entries t)) → d ≡ orGiven t (stepTable 128 (actionIn m) (entries t))
+  laid-step q = q ∙ ap (λ (a : Action). orGiven t (stepTable 128 a (entries t))) (sym (laid-action m row e))
 
 -- a table and a refusal, as the call by value gives them
 pub lent-given : (t : Table) (d : Tabled) (r : Stepped) (us gs : List ℕ) (k : ℕ) → r ≡ moved.To k → tabled t r us gs ≡ d
@@ -179,12 +199,14 @@ module _ (y : Statement) (h : ProperStatement y) (i : ℕ) (e : Move) (lt : i < 
   its-steps t d =
       let k = described-iff 128 (y .problem .n) (entries t) .0 d in
       record {
-        n = y .problem .n;
-        n-most = h .problem .n-most;
         effects-most = its-count;
-        entries-most = subst (λ (z : ℕ). z ≤ 128) (length-entriesOf (t .count) (t .trues) (t .falses)) (k .most);
-        action = subst (ProperAction (y .problem .n)) (sym its-back) its-action;
-        proper = k .proper;
+        fits = record {
+          n = y .problem .n;
+          n-most = h .problem .n-most;
+          entries-most = subst (λ (z : ℕ). z ≤ 128) (length-entriesOf (t .count) (t .trues) (t .falses)) (k .most);
+          action = subst (ProperAction (y .problem .n)) (sym its-back) its-action;
+          proper = k .proper;
+        };
       }
 
 module _ (x : Sheet) (g : Filled x) (t : Table) (i : ℕ) where

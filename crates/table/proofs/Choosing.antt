@@ -1,11 +1,11 @@
 -- The consistent candidates of a clause, one alternative and one literal at a time; an inconsistent branch may be cut. Assumes nothing.
-use Prim.Native.Nat.{ℕ, zero, suc, _+_, _-_, _≤_, _<_}
+use Prim.Native.Nat.{ℕ, zero, suc, _+_, _-_, _*_, _≤_, _<_}
 use mathlib.Core.Path.{_≡_, refl, sym, ap, ap₂, _∙_}
 use mathlib.Core.Bool.{Bool, true, false, cond}
-use mathlib.Core.List.{List, [], _∷_, _++_, map}
+use mathlib.Core.List.{List, [], _∷_, _++_, map, append-assoc, append-nil}
 use native.Mathlib.Numerals.{add-one}
 use native.Mathlib.Omega.{arith}
-use lib.ListN.{length, drop, take, getD, drop-of-length-le}
+use lib.ListN.{length, set, drop, take, getD, drop-of-length-le}
 use lib.Seq.{drop-cons, take-suc}
 use borrow.Author.Tests.{eq-eqb, ne-eqb}
 use Rattle.sheet.specs.declared.Literals.{Literals}
@@ -13,9 +13,13 @@ use Rattle.sheet.specs.Literals.{noLiteral, join, consistent, flip, literal, me
 use Rattle.sheet.specs.Lists.{addIf, keep, collect}
 use Rattle.sheet.proofs.LiteralSets.{consistent-join}
 use Rattle.sheet.proofs.Bytes.{next-ge, members-next, members-loop, members-end}
+use Rattle.table.specs.declared.slots.Grown.{Grown}
+use Rattle.table.specs.Slots.{Puts}
 use Rattle.table.specs.Start.{falsify, Pick, picks, candidates, oneOf}
 use Rattle.table.specs.Reads.{others}
+use Rattle.table.specs.Moves.{setsAt}
 use Rattle.table.proofs.Compact.{keep-append}
+use Rattle.table.proofs.Rows.{sets-more, sets-end}
 
 -- ---- one candidate
 
@@ -24,6 +28,15 @@ kept-one c e = ap (λ (b : Bool). addIf b c []) e
 
 pub left-out : (c : Literals) → consistent c ≡ false → keep consistent (c ∷ []) ≡ []
 left-out c e = ap (λ (b : Bool). addIf b c []) e
+
+-- no alternative is left
+pub chosen-all : (n : ℕ) (row : List ℕ) (i : ℕ) (d : Literals) → n ≤ i → consistent d ≡ true → d ∷ [] ≡ keep consistent (falsify (drop i (setsAt n row)) d)
+chosen-all n row i d h e = sym (ap (λ (x : List Literals). keep consistent (falsify x d)) (sets-end n row i h) ∙ kept-one d e)
+
+-- what was put, by the names that the slots and the result have later
+pub puts-later : (cs : List Literals) (k : ℕ) (ts fs : List ℕ) (r : Grown) (us gs : List ℕ) (r′ : Grown) (us′ gs′ : List ℕ) → us′ ≡ us → gs′ ≡ gs → r′ ≡ r
+    → Puts cs k ts fs r us gs → Puts cs k ts fs r′ us′ gs′
+puts-later cs k ts fs r us gs r′ us′ gs′ p q e w = rw (p, q, e) w
 
 -- ---- a branch that is inconsistent
 
@@ -70,20 +83,48 @@ without at (suc j) (x ∷ xs) =
     ∙ ap (λ (k : ℕ). x ∷ others k (at + 1) xs) e
     ∙ ap (λ (r : List Literals). x ∷ r) (without (at + 1) j xs)
 
+-- ---- the alternatives but one, laid out in a row of masks: k of those below j, and those from j on are still to come
+pub record Laying (xs : List Literals) (i j k : ℕ) (row : List ℕ) : Type 0 where
+  pub few : k ≤ j
+  pub is : setsAt k row ++ others i j (drop j xs) ≡ others i 0 xs
+
+pub laying-start : (xs : List Literals) (i : ℕ) (row : List ℕ) → Laying xs i 0 0 row
+unfolding setsAt
+laying-start xs i row = record { few = omega arith; is = refl }
+
+module _ (xs : List Literals) (i j k : ℕ) (row : List ℕ) (a : Literals) (g : Laying xs i j k row) where
+  pub laying-one : drop j xs ≡ a ∷ drop (j + 1) xs → (j ≡ i → ⊥) → 2 * k + 2 ≤ length row
+      → Laying xs i (j + 1) (k + 1) (set (set row (2 * k) (a .trues)) (2 * k + 1) (a .falses))
+  laying-one e n h = record {
+    few = omega (arith, g .few);
+    is = ap (λ (y : List Literals). y ++ others i (j + 1) (drop (j + 1) xs))
+        (ap (λ (m : ℕ). setsAt m (set (set row (2 * k) (a .trues)) (2 * k + 1) (a .falses))) (add-one k) ∙ sets-more k row a h)
+        ∙ append-assoc (setsAt k row) (a ∷ []) (others i (j + 1) (drop (j + 1) xs))
+        ∙ ap (λ (y : List Literals). setsAt k row ++ y) (sym (others-keep i j a (drop j xs) (drop (j + 1) xs) e n))
+        ∙ g .is;
+  }
+
+  pub laying-none : drop j xs ≡ a ∷ drop (j + 1) xs → j ≡ i → Laying xs i (j + 1) k row
+  laying-none e n = record {
+    few = omega (arith, g .few);
+    is = ap (λ (y : List Literals). setsAt k row ++ y) (sym (others-skip i j a (drop j xs) (drop (j + 1) xs) e n)) ∙ g .is;
+  }
+
+pub laying-end : (xs : List Literals) (i j k : ℕ) (row : List ℕ) → Laying xs i j k row → drop j xs ≡ [] → setsAt k row ≡ others i 0 xs
+laying-end xs i j k row g e =
+    sym (append-nil (setsAt k row)) ∙ ap (λ (y : List Literals). setsAt k row ++ others i j y) (sym e) ∙ g .is
+
 -- ---- the literals of an alternative, from l on
 
 unfoldable pub choicesFrom : List Literals → Literals → Literals → ℕ → List Literals
 choicesFrom os a d l = collect (λ j. falsify os (join d (flip (literal j)))) (members a l)
 
 module _ (os : List Literals) (a d : Literals) where
-  pub choices-all : falsify (a ∷ os) d ≡ choicesFrom os a d 0
+  pub choices-start : (bs : List Literals) (l : ℕ) → bs ≡ a ∷ os → l ≡ next a 0 → keep consistent (falsify bs d) ≡ keep consistent (choicesFrom os a d l)
   unfolding choicesFrom
-  choices-all = refl
-
-  pub choices-start : (l : ℕ) → l ≡ next a 0 → keep consistent (choicesFrom os a d 0) ≡ keep consistent (choicesFrom os a d l)
-  unfolding choicesFrom
-  choices-start l e =
-      ap (λ (x : List ℕ). keep consistent (collect (λ j. falsify os (join d (flip (literal j)))) x)) (members-next a 0 ∙ ap (members a) (sym e))
+  choices-start bs l q e =
+      ap (λ (x : List Literals). keep consistent (falsify x d)) q
+      ∙ ap (λ (x : List ℕ). keep consistent (collect (λ j. falsify os (join d (flip (literal j)))) x)) (members-next a 0 ∙ ap (members a) (sym e))
 
   pub choices-step : (l m : ℕ) (one f w : Literals) → next a l ≡ l → l < 64 → one ≡ literal l → f ≡ flip one → w ≡ join d f → m ≡ next a (l + 1)
       → keep consistent (choicesFrom os a d l) ≡ keep consistent (falsify os w) ++ keep consistent (choicesFrom os a d m)
@@ -113,11 +154,14 @@ pub ways-start : (xs : List Literals) (d : Literals) → keep consistent (candid
 unfolding waysFrom
 ways-start xs d = refl
 
-pub ways-step : (xs : List Literals) (d a w : Literals) (i : ℕ) → i < length xs → getD xs i noLiteral ≡ a → w ≡ join d a
-    → keep consistent (waysFrom xs d i) ≡ keep consistent (falsify (others i 0 xs) w) ++ keep consistent (waysFrom xs d (i + 1))
+pub ways-step : (xs : List Literals) (d : Literals) (i : ℕ) → i < length xs
+    → keep consistent (waysFrom xs d i) ≡ keep consistent (falsify (others i 0 xs) (join d (getD xs i noLiteral))) ++ keep consistent (waysFrom xs d (i + 1))
 unfolding waysFrom
-ways-step xs d a w i lt is q = keep-split (waysFrom xs d i) (falsify (others i 0 xs) w) (waysFrom xs d (i + 1)) split-up
+ways-step xs d i lt = keep-split (waysFrom xs d i) (falsify (others i 0 xs) (join d a)) (waysFrom xs d (i + 1)) split-up
   where
+    a : Literals
+    a = getD xs i noLiteral
+
     way : Pick → List Literals
     way k = falsify (k .rest) (join d (k .chosen))
 
@@ -125,13 +169,13 @@ ways-step xs d a w i lt is q = keep-split (waysFrom xs d i) (falsify (others i 0
     zero-plus = omega arith
 
     more : take i xs ++ a ∷ [] ≡ take (i + 1) xs
-    more = ap (λ (y : Literals). take i xs ++ y ∷ []) (sym is) ∙ sym (take-suc xs i noLiteral lt) ∙ ap (λ (k : ℕ). take k xs) (sym (add-one i))
+    more = sym (take-suc xs i noLiteral lt) ∙ ap (λ (k : ℕ). take k xs) (sym (add-one i))
 
-    split-up : waysFrom xs d i ≡ falsify (others i 0 xs) w ++ waysFrom xs d (i + 1)
+    split-up : waysFrom xs d i ≡ falsify (others i 0 xs) (join d a) ++ waysFrom xs d (i + 1)
     split-up =
-        ap (λ (r : List Literals). collect way (picks (take i xs) r)) (drop-cons xs i noLiteral lt ∙ ap (λ (y : Literals). y ∷ drop (suc i) xs) is)
+        ap (λ (r : List Literals). collect way (picks (take i xs) r)) (drop-cons xs i noLiteral lt)
         ∙ ap₂ (λ (y z : List Literals). y ++ z)
-        (ap₂ (λ (y : List Literals) (z : Literals). falsify y z) (sym (ap (λ (k : ℕ). others k 0 xs) zero-plus ∙ without 0 i xs)) (sym q))
+        (ap (λ (y : List Literals). falsify y (join d a)) (sym (ap (λ (k : ℕ). others k 0 xs) zero-plus ∙ without 0 i xs)))
         (ap₂ (λ (y z : List Literals). collect way (picks y z)) more (ap (λ (k : ℕ). drop k xs) (sym (add-one i))))
 
 pub ways-end : (xs : List Literals) (d : Literals) (i : ℕ) → drop i xs ≡ [] → keep consistent (waysFrom xs d i) ≡ []

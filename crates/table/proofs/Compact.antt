@@ -1,19 +1,19 @@
 -- Compaction in place: the members that pass move up, and the slots behind them are zero. Assumes nothing.
-use mathlib.Core.Path.{_≡_, refl, sym, ap, ap₂, _∙_}
-use mathlib.Core.Bool.{Bool, true, false}
+use mathlib.Core.Path.{_≡_, refl, sym, ap, _∙_}
+use mathlib.Core.Bool.{Bool, true, false, not, _||_, true≢false}
 use mathlib.Core.List.{List, [], _∷_, _++_, map, map-append, append-assoc, append-nil}
 use Prim.Native.Nat.{ℕ, suc, _+_, _≤_, _<_}
 use native.Mathlib.Nat.{le-of-suc-le-suc}
 use native.Mathlib.Numerals.{add-one}
 use native.Mathlib.Omega.{arith}
 use lib.ListN.{length, getD, take, drop, set, length-append, length-set, length-map}
-use lib.Seq.{take-suc, take-all, length-take-le, drop-cons, set-at, getD-at, set-append-left}
+use lib.Seq.{take-suc, take-all, drop-cons, set-at, getD-at, set-append-left}
 use Rattle.sheet.specs.declared.Literals.{Literals}
 use Rattle.sheet.specs.Literals.{noLiteral}
-use Rattle.sheet.specs.Lists.{addIf, keep, pad}
+use Rattle.sheet.specs.Lists.{anyOf, addIf, keep, pad}
 use Rattle.sheet.proofs.Reading.{pad-set}
 use Rattle.table.specs.Slots.{trues-of, falses-of, entriesOf, Holds, Held}
-use Rattle.table.proofs.Pads.{length-pad, pad-suc, pad-over, pad-front, length-entriesOf, getD-entriesOf, holds-falses-long}
+use Rattle.table.proofs.Pads.{length-pad, pad-suc, pad-over, length-entriesOf, getD-entriesOf, holds-falses-long}
 
 -- ---- one array
 
@@ -75,15 +75,14 @@ module _ (f : Literals → Bool) (es : List Literals) (i : ℕ) (e : Literals) (
   keep-less : f e ≡ false → keep f (take (i + 1) es) ≡ keep f (take i es)
   keep-less t = keep-step ∙ ap (λ (b : Bool). keep f (take i es) ++ addIf b e []) t ∙ append-nil (keep f (take i es))
 
--- one entry more that stays where it is
-pub stays-on : (f : Literals → Bool) (n : ℕ) (ts fs : List ℕ) (i : ℕ) → i < n → f (record { trues = getD ts i 0; falses = getD fs i 0 }) ≡ true
-    → keep f (take i (entriesOf n ts fs)) ≡ take i (entriesOf n ts fs) → keep f (take (i + 1) (entriesOf n ts fs)) ≡ take (i + 1) (entriesOf n ts fs)
-stays-on f n ts fs i lt t e =
-    let in-list : i < length (entriesOf n ts fs) = omega (arith, length-entriesOf n ts fs) in
-    let is = getD-entriesOf n ts fs i lt in
-    keep-more f (entriesOf n ts fs) i _ in-list is t
-    ∙ ap (λ (r : List Literals). r ++ record { trues = getD ts i 0; falses = getD fs i 0 } ∷ []) e
-    ∙ sym (one-more (entriesOf n ts fs) i _ in-list is)
+-- where no member passes, those that do not are all
+pub none-goes : (f : Literals → Bool) (s : List Literals) → anyOf f s ≡ false → keep (λ e. not (f e)) s ≡ s
+none-goes f [] h = refl
+none-goes f (x ∷ s) h = at (f x) h (λ k. none-goes f s k)
+  where
+    at : (b : Bool) → (b || anyOf f s) ≡ false → (anyOf f s ≡ false → keep (λ e. not (f e)) s ≡ s) → addIf (not b) x (keep (λ e. not (f e)) s) ≡ x ∷ s
+    at true k rec = absurd (true≢false k)
+    at false k rec = ap (λ (z : List Literals). x ∷ z) (rec k)
 
 -- ---- a loop over the slots below n: those below i are done, and k members are kept
 
@@ -100,27 +99,17 @@ module _ (f : Literals → Bool) (n : ℕ) (ts₀ fs₀ : List ℕ) (held : Held
   falses-long₀ : length fs₀ ≡ length ts₀
   falses-long₀ = holds-falses-long _ _ _ _ _ held
 
-  -- the entries below i all stay where they are
-  pub moved-from : (i : ℕ) → i ≤ n → keep f (take i (entriesOf n ts₀ fs₀)) ≡ take i (entriesOf n ts₀ fs₀) → Moved f n ts₀ fs₀ ts₀ fs₀ i i
-  moved-from i le e = record {
-    upto = le;
+  pub moved-start : Moved f n ts₀ fs₀ ts₀ fs₀ 0 0
+  unfolding pad
+  moved-start = record {
+    upto = omega arith;
     behind = omega arith;
     trues-long = refl;
     falses-long = falses-long₀;
-    count-is = sym (ap length e ∙ length-take-le i es (omega (arith, length-entriesOf n ts₀ fs₀)));
-    trues-are = front (λ (x : Literals). x .trues) ts₀ (held .trues-are);
-    falses-are = front (λ (x : Literals). x .falses) fs₀ (held .falses-are);
+    count-is = refl;
+    trues-are = refl;
+    falses-are = refl;
   }
-    where
-      es : List Literals
-      es = entriesOf n ts₀ fs₀
-
-      front : (g : Literals → ℕ) (xs : List ℕ) → xs ≡ pad (length ts₀) 0 (map g (entriesOf n ts₀ fs₀))
-          → xs ≡ pad i 0 (map g (keep f (take i (entriesOf n ts₀ fs₀)))) ++ drop i xs
-      front g xs is =
-          is
-          ∙ pad-front g i (length ts₀) 0 (entriesOf n ts₀ fs₀) (omega (arith, length-entriesOf n ts₀ fs₀)) (omega (arith, length-entriesOf n ts₀ fs₀, held .room))
-          ∙ ap₂ (λ (x : List Literals) (y : List ℕ). pad i 0 (map g x) ++ drop i y) (sym e) (sym is)
 
   module _ (ts fs : List ℕ) (k i : ℕ) (m : Moved f n ts₀ fs₀ ts fs k i) where
     -- the set in slot i, which is not read yet

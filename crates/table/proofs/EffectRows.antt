@@ -6,53 +6,37 @@ use native.Mathlib.Nat.{not-suc-le-zero, le-of-suc-le-suc}
 use native.Mathlib.Numerals.{add-one}
 use native.Mathlib.Omega.{arith}
 use lib.ListN.{length, set, getD, take, drop, length-append, length-drop, drop-of-length-le}
-use lib.Seq.{getD-drop, take-suc, take-at, drop-drop, drop-append-add, take-all, length-take-le, sets-eq}
+use lib.Seq.{take-suc, take-at, drop-drop, drop-append-add, take-all, length-take-le, sets-eq}
 use Rattle.sheet.specs.declared.Effect.{Effect}
 use Rattle.sheet.specs.declared.Move.{Move}
 use Rattle.sheet.specs.Decoded.{actionIn}
 use Rattle.sheet.specs.Lists.{collect}
-use Rattle.table.specs.Moves.{effectsOf, masksOf, effectAt, effectsAt}
+use Rattle.table.specs.Moves.{effectsOf, masksOf, setFrom, effectAt, effectsAt, actionBy}
+use Rattle.table.proofs.Rows.{from-later, part-ahead, parts-end}
 
 -- the masks of some effects in a row
 abbrev rowOf : List Effect → List ℕ
 rowOf es = collect masksOf es
 
 -- ---- reading
-later : (row : List ℕ) (i c : ℕ) → getD (drop 4 row) (4 * i + c) 0 ≡ getD row (4 * suc i + c) 0
-later row i c = let k : 4 + (4 * i + c) ≡ 4 * suc i + c = omega arith in getD-drop 4 row (4 * i + c) 0 ∙ ap (λ (j : ℕ). getD row j 0) k
-
-first : (row : List ℕ) (i : ℕ) → getD (drop 4 row) (4 * i) 0 ≡ getD row (4 * suc i) 0
-first row i = let k : 4 + 4 * i ≡ 4 * suc i = omega arith in getD-drop 4 row (4 * i) 0 ∙ ap (λ (j : ℕ). getD row j 0) k
-
 at-later : (row : List ℕ) (i : ℕ) → effectAt (drop 4 row) i ≡ effectAt row (suc i)
 unfolding effectAt
 at-later row i =
-    λ k. record {
-      condition = record { trues = first row i k; falses = later row i 1 k };
-      result = record { trues = later row i 2 k; falses = later row i 3 k };
-    }
-
-long : (n : ℕ) (row : List ℕ) → length (effectsAt n row) ≡ n
-unfolding effectsAt
-long zero row = refl
-long (suc n) row = ap suc (long n (drop 4 row))
-
-ahead : (n : ℕ) (row : List ℕ) (i : ℕ) → i < n → drop i (effectsAt n row) ≡ effectAt row i ∷ drop (suc i) (effectsAt n row)
-unfolding effectsAt
-ahead zero row i h = absurd (not-suc-le-zero h)
-ahead (suc n) row zero h = refl
-ahead (suc n) row (suc i) h = ahead n (drop 4 row) i (le-of-suc-le-suc h) ∙ ap (λ (e : Effect). e ∷ drop (suc i) (effectsAt n (drop 4 row))) (at-later row i)
+    let a = from-later row 4 (4 * i) (4 * suc i) (omega arith) in
+    let b = from-later row 4 (4 * i + 2) (4 * suc i + 2) (omega arith) in
+    (λ k. record { condition = a k; result = b k })
 
 pub effects-step : (n : ℕ) (row : List ℕ) (i : ℕ) (e : Effect) → i < n → e ≡ effectAt row i → drop i (effectsAt n row) ≡ e ∷ drop (i + 1) (effectsAt n row)
-effects-step n row i e h q =
-    ahead n row i h ∙ ap₂ (λ (x : Effect) (j : ℕ). x ∷ drop j (effectsAt n row)) (sym q) (sym (add-one i))
+unfolding effectsAt
+effects-step = part-ahead 4 effectAt effectsAt (λ row. refl) (λ n row. refl) at-later
 
 pub effects-end : (n : ℕ) (row : List ℕ) (i : ℕ) → n ≤ i → drop i (effectsAt n row) ≡ []
-effects-end n row i h = let l : length (effectsAt n row) ≤ i = omega (arith, long n row) in drop-of-length-le (effectsAt n row) l
+unfolding effectsAt
+effects-end = parts-end 4 effectAt effectsAt (λ row. refl) (λ n row. refl) at-later
 
 -- the effects that were laid out
 effects-row : (n : ℕ) (es : List Effect) → n ≤ length es → effectsAt n (rowOf es) ≡ take n es
-unfolding effectsAt effectAt masksOf
+unfolding effectsAt effectAt setFrom masksOf
 effects-row zero es h = refl
 effects-row (suc n) [] h = absurd (not-suc-le-zero h)
 effects-row (suc n) (e ∷ es) h = ap (λ (x : List Effect). e ∷ x) (effects-row n es (le-of-suc-le-suc h))
@@ -133,3 +117,7 @@ pub laid-effects : (m : Move) (b : List ℕ) (i : ℕ) (row : List ℕ) → leng
 unfolding actionIn
 laid-effects m b i row n h l k g =
     sym (ap (effectsAt (m .count)) (laid-end (m .effects) b i row (omega arith) (omega arith) g) ∙ effects-row (m .count) (m .effects) (omega arith))
+
+pub laid-action : (m : Move) (row : List ℕ) → effectsOf m ≡ effectsAt (m .count) row → actionIn m ≡ actionBy (m .precondition) (m .count) row
+unfolding actionIn
+laid-action m row e = λ k. record { precondition = m .precondition; effects = e k }

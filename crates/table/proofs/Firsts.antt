@@ -10,8 +10,7 @@ use Rattle.sheet.specs.Literals.{literal, next, members}
 use Rattle.sheet.proofs.Bytes.{next-next, next-ge, members-next, members-loop, members-end}
 use Rattle.table.specs.Picture.{units}
 use Rattle.table.specs.Slots.{Holds, Held}
-use Rattle.table.proofs.Pads.{holds-push, holds-trues-long, holds-falses-long}
-use Rattle.table.proofs.Joining.{entries-none}
+use Rattle.table.proofs.Pads.{holds-push, holds-trues-long, holds-falses-long, entries-none}
 
 -- l is the next literal of e, and those before it stand in the slots
 pub record Listed (cap : ℕ) (e : Literals) (l n : ℕ) (ts fs : List ℕ) : Type 0 where

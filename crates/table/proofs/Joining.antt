@@ -1,16 +1,16 @@
--- Clauses joined with clauses, from a place in the slots on; fresh slots. Assumes nothing.
-use mathlib.Core.Path.{_≡_, refl, sym}
+-- Clauses joined with clauses, from a place in the slots on. Assumes nothing.
+use mathlib.Core.Path.{_≡_, refl}
 use mathlib.Core.List.{List, [], _∷_, _++_, map}
 use Prim.Native.Nat.{ℕ, _+_, _≤_, _<_}
 use native.Mathlib.Omega.{arith}
-use lib.ListN.{drop, getD, replicate}
+use lib.ListN.{drop, getD}
 use Rattle.sheet.specs.declared.Literals.{Literals}
 use Rattle.sheet.specs.Literals.{join, consistent}
-use Rattle.sheet.specs.Lists.{keep, pad}
+use Rattle.sheet.specs.Lists.{keep}
 use Rattle.table.specs.Picture.{unions}
-use Rattle.table.specs.Slots.{pairs, entriesOf, Held}
+use Rattle.table.specs.Slots.{entriesOf}
 use Rattle.table.specs.Moves.{slot}
-use Rattle.table.proofs.Pads.{pad-nil, length-entriesOf, getD-entriesOf}
+use Rattle.table.proofs.Pads.{length-entriesOf, getD-entriesOf}
 use Rattle.table.proofs.Choosing.{or-step, or-end, entries-step, entries-end}
 use Rattle.table.proofs.Turns.{entries-next, entries-done}
 
@@ -38,13 +38,3 @@ module _ (n : ℕ) (ts fs : List ℕ) (i : ℕ) where
   pub unions-end : (u : List Literals) → n ≤ i → unions (drop i (entriesOf n ts fs)) u ≡ []
   unfolding unions
   unions-end u le = entries-end (λ c. map (join c) u) (entriesOf n ts fs) i (omega (arith, length-entriesOf n ts fs))
-
--- ---- fresh slots
-
-pub entries-none : (ts fs : List ℕ) → entriesOf 0 ts fs ≡ []
-unfolding entriesOf pairs pad
-entries-none ts fs = refl
-
-pub fresh : (cap : ℕ) → Held cap 0 (replicate cap 0) (replicate cap 0)
-unfolding entriesOf pairs pad
-fresh cap = record { count-is = refl; room = omega arith; trues-are = sym (pad-nil cap 0); falses-are = sym (pad-nil cap 0) }

@@ -4,6 +4,7 @@ pub mod Scan
 pub mod Compact
 pub mod PutSlots
 pub mod Growing
+pub mod Rows
 pub mod Choosing
 pub mod Started
 pub mod Turns
@@ -30,6 +31,7 @@ pub mod Drawing
 pub mod Answers
 pub mod PictureAnswers
 pub mod Demands
+pub mod Carrying
 pub mod EffectRows
 pub mod Examples
 pub mod PictureExamples

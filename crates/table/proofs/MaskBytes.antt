@@ -10,7 +10,7 @@ use Rattle.sheet.specs.declared.Literals.{Literals}
 use Rattle.sheet.specs.Literals.{noLiteral}
 use Rattle.table.specs.Picture.{maskBytes, clauseBytes, pictureBytes}
 
-clauseBytes-length : (s : List Literals) → length (clauseBytes s) ≡ 8 * length s
+pub clauseBytes-length : (s : List Literals) → length (clauseBytes s) ≡ 8 * length s
 unfolding clauseBytes maskBytes
 clauseBytes-length [] = refl
 clauseBytes-length (c ∷ s) = omega (arith, clauseBytes-length s)

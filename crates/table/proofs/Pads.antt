@@ -149,3 +149,13 @@ held cap es n ts fs h = subst (λ (x : List Literals). Holds cap x n ts fs) (sym
 -- what is held in slices, at their own length
 pub held-own : (cap n : ℕ) (ts fs : List ℕ) → Held cap n ts fs → Held (length ts) n ts fs
 held-own cap n ts fs h = subst (λ (k : ℕ). Held k n ts fs) (sym (holds-trues-long _ _ _ _ _ h)) h
+
+-- ---- fresh slots
+
+pub entries-none : (ts fs : List ℕ) → entriesOf 0 ts fs ≡ []
+unfolding entriesOf pairs pad
+entries-none ts fs = refl
+
+pub fresh : (cap : ℕ) → Held cap 0 (replicate cap 0) (replicate cap 0)
+unfolding entriesOf pairs pad
+fresh cap = record { count-is = refl; room = omega arith; trues-are = sym (pad-nil cap 0); falses-are = sym (pad-nil cap 0) }

@@ -31,7 +31,7 @@ use Rattle.table.specs.Start.{Clause, clausesOf, candidates, fresh, grow
 use Rattle.table.specs.Slots.{pairs, trues-of, falses-of, entriesOf, Holds, Held, entries, tableOf, Grew, Puts}
 use Rattle.table.specs.Calls.{orGiven, startOf}
 use Rattle.table.specs.Reads.{clauseOf, Counts, Readable}
-use Rattle.table.proofs.Pads.{pad-nil, length-entriesOf, holds-entries, held as held-of}
+use Rattle.table.proofs.Pads.{length-entriesOf, holds-entries, held as held-of}
 
 -- a member of a list has what all have
 pub all-at : {A : Type 0} (P : A → Type 0) (xs : List A) (i : ℕ) (e : A) → i < length xs → All P xs → P (getD xs i e)
@@ -40,10 +40,6 @@ all-at P (x ∷ xs) zero e h p = p .0
 all-at P (x ∷ xs) (suc i) e h p = all-at P xs i e (le-of-suc-le-suc h) (p .1)
 
 -- ---- one clause
-
-pub no-entries : Held 128 0 (replicate 128 0) (replicate 128 0)
-unfolding entriesOf pairs pad
-no-entries = record { count-is = refl; room = omega arith; trues-are = sym (pad-nil 128 0); falses-are = sym (pad-nil 128 0) }
 
 abbrev pub Right : Outcome → Tabled → Type 0
 Right o s = (s ≡ orGiven (tableOf []) o) × (s .table .count ≤ 128)

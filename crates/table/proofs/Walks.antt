@@ -1,121 +1,138 @@
--- The walk over the pieces of an entry, one condition and one literal at a time, and what is put on it. Assumes nothing.
-use mathlib.Core.Path.{_≡_, refl, sym, ap, ap₂, _∙_, subst}
-use mathlib.Core.Bool.{Bool, true, false, not, _||_}
+-- The walk over the pieces of an entry, one condition and one part at a time, and what is put on it. Assumes nothing.
+use mathlib.Core.Path.{_≡_, refl, sym, ap, _∙_, subst}
+use mathlib.Core.Bool.{Bool, true, false, not, cond, _&&_, _||_}
 use mathlib.Core.List.{List, [], _∷_, _++_, map, map-append, append-nil}
-use mathlib.Core.Option.{Option}
-use Prim.Native.Nat.{ℕ, _+_, _≤_, _<_}
-use lib.ListN.{length}
+use Prim.Native.Nat.{ℕ, zero, suc, _+_, _/_, _≤_, _<_}
+use native.Mathlib.Numerals.{add-one}
+use native.Mathlib.Omega.{arith}
 use Rattle.sheet.specs.declared.Literals.{Literals}
 use Rattle.sheet.specs.declared.Effect.{Effect}
-use Rattle.sheet.specs.Literals.{join, flip, literal, contains, within, clash, next, members}
+use Rattle.sheet.specs.Literals.{mem, sign, join, flip, literal, contains, within, clash, next, members, membersFrom}
 use Rattle.sheet.specs.Lists.{addIf, keep, collect}
-use Rattle.sheet.proofs.Bytes.{next-next, next-ge, members-next, members-loop, members-end}
-use Rattle.table.specs.declared.slots.Grown.{Grown}
-use Rattle.table.specs.declared.slots.Grown.the-variants as grown
-use Rattle.table.specs.Worlds.{andThen}
-use Rattle.table.specs.Minimal.{putAll}
+use Rattle.sheet.proofs.Bits.{has-minus}
+use Rattle.sheet.proofs.Bytes.{scan, next-end, next-here, next-step, next-next, next-ge, members-next, members-loop, members-end}
 use Rattle.table.specs.Step.{missing, splitBy, split, pieces, image}
-use Rattle.table.specs.Slots.{entriesOf, Held, Grew, Puts}
-use Rattle.table.proofs.Pads.{holds-trues-long, held-own}
-use Rattle.table.proofs.Growing.{putAll-append, Going}
-
--- ---- some candidates, and then others
-module _ (xs ys zs : List Literals) (k : ℕ) (ts fs : List ℕ) (r : Grown) (us gs : List ℕ) (is : zs ≡ xs ++ ys) (w : Puts xs k ts fs r us gs) where
-  abbrev cap : ℕ
-  cap = length ts
-
-  at : (x : Grown) → r ≡ x → Grew cap (putAll cap xs (entriesOf k ts fs)) x us gs
-  at x e = subst (λ (y : Grown). Grew cap (putAll cap xs (entriesOf k ts fs)) y us gs) e (w .grew)
-
-  abbrev rest-of : Option (List Literals) → Option (List Literals)
-  rest-of o = andThen o (λ v. putAll cap ys v)
-
-  parts : putAll cap zs (entriesOf k ts fs) ≡ rest-of (putAll cap xs (entriesOf k ts fs))
-  parts = ap (λ (x : List Literals). putAll cap x (entriesOf k ts fs)) is ∙ putAll-append cap xs ys (entriesOf k ts fs)
-
-  pub puts-then : (j : ℕ) → r ≡ grown.To j → (s : Grown) (vs hs : List ℕ) → Puts ys j us gs s vs hs → Puts zs k ts fs s vs hs
-  puts-then j e s vs hs v =
-      let m = at (grown.To j) e in
-      record {
-        grew =
-            subst (λ (o : Option (List Literals)). Grew cap o s vs hs) (sym (parts ∙ ap rest-of (m .0)))
-            (subst (λ (y : ℕ). Grew y (putAll y ys (entriesOf j us gs)) s vs hs) (holds-trues-long _ _ _ _ _ (m .1)) (v .grew));
-      }
-
-  pub puts-stop : r ≡ grown.Full → Puts zs k ts fs grown.Full us gs
-  puts-stop e = record { grew = parts ∙ ap rest-of (at grown.Full e) }
-
--- what was put is held
-pub puts-held : (xs : List Literals) (k : ℕ) (ts fs : List ℕ) (r : Grown) (us gs : List ℕ) → Puts xs k ts fs r us gs → (j : ℕ) → r ≡ grown.To j → Held (length us) j us gs
-puts-held xs k ts fs r us gs w j e = held-own _ _ _ _ (at xs [] (xs ++ []) k ts fs r us gs refl w (grown.To j) e .1)
+use Rattle.table.specs.Carry.{lacks, partAt}
+use Rattle.table.proofs.Growing.{Going}
 
 -- the same at equal values
-pub going-at : (all : List Literals) (k₀ : ℕ) (ts₀ fs₀ : List ℕ) (ds es : List Literals) (k k′ : ℕ) (ts fs ts′ fs′ : List ℕ)
-    → ds ≡ es → k′ ≡ k → ts′ ≡ ts → fs′ ≡ fs → Going all k₀ ts₀ fs₀ ds k ts fs → Going all k₀ ts₀ fs₀ es k′ ts′ fs′
-going-at all k₀ ts₀ fs₀ ds es k k′ ts fs ts′ fs′ d p q r g = rw (← d, p, q, r) g
+pub going-at : (all : List Literals) (k₀ : ℕ) (ts₀ fs₀ : List ℕ) (ds : List Literals) (k k′ : ℕ) (ts fs ts′ fs′ : List ℕ)
+    → k′ ≡ k → ts′ ≡ ts → fs′ ≡ fs → Going all k₀ ts₀ fs₀ ds k ts fs → Going all k₀ ts₀ fs₀ ds k′ ts′ fs′
+going-at all k₀ ts₀ fs₀ ds k k′ ts fs ts′ fs′ p q r g = rw (p, q, r) g
 
 -- the next literal is one
-pub next-fixed : (c : Literals) (l m : ℕ) → m ≡ next c l → next c m ≡ m
+next-fixed : (c : Literals) (l m : ℕ) → m ≡ next c l → next c m ≡ m
 next-fixed c l m e = ap (next c) e ∙ next-next c l ∙ sym e
 
-pub next-past : (c : Literals) (l m : ℕ) → m ≡ next c l → l ≤ m
-next-past c l m e = rw e (next-ge c l)
+-- turn t is 0, or comes after a literal of m
+abbrev pub Turn : Literals → ℕ → Type 0
+Turn m t = (l : ℕ) → t ≡ l + 1 → next m l ≡ l
+
+pub turn-start : (m : Literals) → Turn m 0
+turn-start m l e = absurd (omega (arith, e))
+
+pub turn-on : (m : Literals) (t n : ℕ) → n ≡ next m t → Turn m (n + 1)
+turn-on m t n q l e = let k : n ≡ l = omega (arith, e) in subst (λ (x : ℕ). next m x ≡ x) k (next-fixed m t n q)
+
+pub turn-less : (m : Literals) (t n : ℕ) → n ≡ next m t → t ≤ n
+turn-less m t n q = rw q (next-ge m t)
+
+pub turn-most : (m : Literals) (t n : ℕ) → n ≡ next m t → t < 65 → n ≤ 64
+turn-most m t n q h = rw q (most t (omega (arith, h)))
+  where
+    most : (l : ℕ) → l ≤ 64 → next m l ≤ 64
+    most =
+        scan m (λ (l : ℕ). l ≤ 64 → next m l ≤ 64) (λ l h k. omega (arith, next-end m l h)) (λ l h e k. omega (arith, next-here m l h e))
+        (λ l h e r k. omega (arith, r (omega (arith, h)), next-step m l h e))
+
+-- ---- the literals of c that d lacks
+module _ (c d : Literals) where
+  mem-lacks : (s : Bool) (p : ℕ) → mem (lacks c d) s p ≡ (mem c s p && not (mem d s p))
+  unfolding mem lacks
+  mem-lacks true p = has-minus (c .trues) (d .trues) p
+  mem-lacks false p = has-minus (c .falses) (d .falses) p
+
+  pub contains-lacks : (l : ℕ) → contains (lacks c d) l ≡ (contains c l && not (contains d l))
+  unfolding contains
+  contains-lacks l = mem-lacks (sign l) (l / 2)
+
+  lacks-from : (k l : ℕ) → membersFrom k (lacks c d) l ≡ keep (λ j. not (contains d j)) (membersFrom k c l)
+  unfolding membersFrom
+  lacks-from zero l = refl
+  lacks-from (suc k) l =
+      ap (λ (x : Bool). cond x (l ∷ membersFrom k (lacks c d) (suc l)) (membersFrom k (lacks c d) (suc l))) (contains-lacks l)
+      ∙ ap (λ (x : List ℕ). cond (contains c l && not (contains d l)) (l ∷ x) x) (lacks-from k (suc l))
+      ∙ one (contains c l) (membersFrom k c (suc l))
+    where
+      add : (b : Bool) (xs : List ℕ) → cond b (l ∷ xs) xs ≡ addIf b l xs
+      add true xs = refl
+      add false xs = refl
+
+      one : (a : Bool) (ys : List ℕ)
+          → cond (a && not (contains d l)) (l ∷ keep (λ j. not (contains d j)) ys) (keep (λ j. not (contains d j)) ys)
+          ≡ keep (λ j. not (contains d j)) (cond a (l ∷ ys) ys)
+      one true ys = add (not (contains d l)) (keep (λ j. not (contains d j)) ys)
+      one false ys = refl
+
+  members-lacks : members (lacks c d) 0 ≡ missing c d
+  unfolding members missing
+  members-lacks = lacks-from 64 0
 
 -- ---- the effects that are left: none, or e and those after it
 pub at-leaf : (es gs : List Effect) (d : Literals) → gs ≡ [] → image es d ∷ [] ≡ map (image es) (pieces gs d)
 at-leaf es gs d q = sym (ap (λ (x : List Effect). map (image es) (pieces x d)) q)
 
--- the literals of c that are missing in d, from l on: what becomes of d with the complement of each
-unfoldable pub waysFrom : List Effect → List Effect → Literals → Literals → ℕ → List Literals
-waysFrom es hs c d l =
-    map (image es) (collect (pieces hs) (map (λ j. join d (flip (literal j))) (keep (λ j. not (contains d j)) (members c l))))
+-- the parts of d by c from turn t on, where d lacks the literals m of c
+unfoldable pub partList : Literals → Literals → Literals → ℕ → List Literals
+partList c d m zero = join d c ∷ map (λ j. join d (flip (literal j))) (members m 0)
+partList c d m (suc l) = map (λ j. join d (flip (literal j))) (members m l)
+
+-- what becomes of d in them
+unfoldable pub partsFrom : List Effect → List Effect → Literals → Literals → Literals → ℕ → List Literals
+partsFrom es hs c d m t = map (image es) (collect (pieces hs) (partList c d m t))
 
 module _ (es gs hs : List Effect) (e : Effect) (d : Literals) (q : gs ≡ e ∷ hs) where
-  node : (b : Bool) → (within (e .condition) d || clash (e .condition) d) ≡ b
-      → map (image es) (pieces gs d) ≡ map (image es) (collect (pieces hs) (splitBy b (e .condition) d))
+  pub at-whole : (within (e .condition) d || clash (e .condition) d) ≡ true → pieces hs d ≡ pieces gs d
   unfolding split
-  node b t =
+  at-whole t =
+      sym
+      (ap (λ (x : List Effect). pieces x d) q ∙ ap (λ (x : Bool). collect (pieces hs) (splitBy x (e .condition) d)) t ∙ append-nil (pieces hs d))
+
+  -- all parts come, where the condition splits the piece
+  pub parts-start : (m : Literals) → (within (e .condition) d || clash (e .condition) d) ≡ false → m ≡ lacks (e .condition) d
+      → map (image es) (pieces gs d) ≡ partsFrom es hs (e .condition) d m 0
+  unfolding split partsFrom partList
+  parts-start m t is =
       ap (λ (x : List Effect). map (image es) (pieces x d)) q
       ∙ ap (λ (x : Bool). map (image es) (collect (pieces hs) (splitBy x (e .condition) d))) t
+      ∙ ap (λ (x : List ℕ). map (image es) (collect (pieces hs) (join d (e .condition) ∷ map (λ j. join d (flip (literal j))) x)))
+      (sym (ap (λ (x : Literals). members x 0) is ∙ members-lacks (e .condition) d))
 
-  pub at-whole : (within (e .condition) d || clash (e .condition) d) ≡ true → map (image es) (pieces hs d) ≡ map (image es) (pieces gs d)
-  at-whole t = sym (node true t ∙ ap (map (image es)) (append-nil (pieces hs d)))
+-- ---- one part after the other
+module _ (c d m : Literals) where
+  list-turn : (t n : ℕ) → t < 65 → Turn m t → n ≡ next m t → partList c d m t ≡ partAt d c t ∷ partList c d m (n + 1)
+  unfolding partList partAt
+  list-turn zero n h f q =
+      ap (λ (x : List ℕ). join d c ∷ map (λ j. join d (flip (literal j))) x) (members-next m 0 ∙ ap (members m) (sym q))
+      ∙ ap (λ (x : ℕ). join d c ∷ partList c d m x) (sym (add-one n))
+  list-turn (suc l) n h f q =
+      ap (λ (x : List ℕ). map (λ j. join d (flip (literal j))) x)
+      (members-loop m l (f l (sym (add-one l))) (omega (arith, h)) ∙ ap (λ (x : ℕ). l ∷ members m x) (ap (next m) (add-one l) ∙ sym q))
+      ∙ ap (λ (x : ℕ). join d (flip (literal l)) ∷ partList c d m x) (sym (add-one n))
 
-  pub at-parts : (w : Literals) (l : ℕ) → (within (e .condition) d || clash (e .condition) d) ≡ false → w ≡ join d (e .condition) → l ≡ next (e .condition) 0
-      → map (image es) (pieces gs d) ≡ map (image es) (pieces hs w) ++ waysFrom es hs (e .condition) d l
-  unfolding waysFrom missing
-  at-parts w l t p s =
-      node false t
-      ∙ map-append (image es) (pieces hs (join d (e .condition))) (collect (pieces hs) (map (λ j. join d (flip (literal j))) (missing (e .condition) d)))
-      ∙ ap₂ (λ (x : Literals) (m : List ℕ). map (image es) (pieces hs x) ++ map (image es) (collect (pieces hs) (map (λ j. join d (flip (literal j))) (keep (λ j. not (contains d j)) m))))
-      (sym p) (members-next (e .condition) 0 ∙ ap (members (e .condition)) (sym s))
+  pub parts-turn : (es hs : List Effect) (t n : ℕ) → t < 65 → Turn m t → n ≡ next m t → (w : Literals) → w ≡ partAt d c t
+      → partsFrom es hs c d m t ≡ map (image es) (pieces hs w) ++ partsFrom es hs c d m (n + 1)
+  unfolding partsFrom
+  parts-turn es hs t n h f q w p =
+      ap (λ (x : List Literals). map (image es) (collect (pieces hs) x)) (list-turn t n h f q)
+      ∙ map-append (image es) (pieces hs (partAt d c t)) (collect (pieces hs) (partList c d m (n + 1)))
+      ∙ ap (λ (x : Literals). map (image es) (pieces hs x) ++ partsFrom es hs c d m (n + 1)) (sym p)
 
-module _ (es hs : List Effect) (c d : Literals) (l : ℕ) where
-  module _ (m : ℕ) (b : Bool) (f : next c l ≡ l) (h : l < 64) (s : m ≡ next c (l + 1)) (is : b ≡ contains d l) where
-    turn : (t : Bool) → not b ≡ t
-        → waysFrom es hs c d l ≡ map (image es) (collect (pieces hs) (map (λ j. join d (flip (literal j))) (addIf t l (keep (λ j. not (contains d j)) (members c m)))))
-    unfolding waysFrom
-    turn t e =
-        ap (λ (x : List ℕ). map (image es) (collect (pieces hs) (map (λ j. join d (flip (literal j))) (keep (λ j. not (contains d j)) x))))
-        (members-loop c l f h ∙ ap (λ (k : ℕ). l ∷ members c k) (sym s))
-        ∙ ap (λ (x : Bool). map (image es) (collect (pieces hs) (map (λ j. join d (flip (literal j))) (addIf x l (keep (λ j. not (contains d j)) (members c m))))))
-        (ap not (sym is) ∙ e)
-
-    pub ways-in : (w : Literals) → not b ≡ true → w ≡ join d (flip (literal l)) → waysFrom es hs c d l ≡ map (image es) (pieces hs w) ++ waysFrom es hs c d m
-    unfolding waysFrom
-    ways-in w t p =
-        turn true t
-        ∙ map-append (image es) (pieces hs (join d (flip (literal l)))) _
-        ∙ ap (λ (x : Literals). map (image es) (pieces hs x) ++ waysFrom es hs c d m) (sym p)
-
-    pub ways-out : not b ≡ false → waysFrom es hs c d l ≡ waysFrom es hs c d m
-    unfolding waysFrom
-    ways-out t = turn false t
-
-  pub ways-end : 64 ≤ l → waysFrom es hs c d l ≡ []
-  unfolding waysFrom
-  ways-end h =
-      ap (λ (x : List ℕ). map (image es) (collect (pieces hs) (map (λ j. join d (flip (literal j))) (keep (λ j. not (contains d j)) x)))) (members-end c l h)
+  pub parts-end : (es hs : List Effect) (t : ℕ) → 65 ≤ t → partsFrom es hs c d m t ≡ []
+  unfolding partsFrom partList
+  parts-end es hs zero h = absurd (omega (arith, h))
+  parts-end es hs (suc l) h =
+      ap (λ (x : List ℕ). map (image es) (collect (pieces hs) (map (λ j. join d (flip (literal j))) x))) (members-end m l (omega (arith, h)))
 
 -- ---- the entries, one after the other
 pub entries-ways : (es : List Effect) (e : Literals) (xs ys : List Literals) → xs ≡ e ∷ ys

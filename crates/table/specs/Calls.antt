@@ -1,13 +1,13 @@
 -- The calls `start` and `step` as functions of what they are given (document 01, "Numbers and their order").
 use mathlib.Core.Bool.{Bool, true, false}
-use mathlib.Core.List.{List, [], _∷_}
+use mathlib.Core.List.{[]}
 use Prim.Native.Nat.{ℕ}
 use lib.Dec.{ltb}
 use lib.ListN.{length, getD}
 use Rattle.sheet.specs.declared.Answer.the-variants.{Accepted, Refused}
 use Rattle.sheet.specs.Literals.{noLiteral}
-use Rattle.sheet.specs.Problem.{Action, Problem, Statement}
-use Rattle.sheet.specs.Format.{Judgement, accepted, refused, sheetOf}
+use Rattle.sheet.specs.Problem.{Action, Problem}
+use Rattle.sheet.specs.Format.{Judgement, accepted, refused}
 use Rattle.table.specs.declared.Table.{Table}
 use Rattle.table.specs.declared.Tabled.{Tabled}
 use Rattle.table.specs.Minimal.{described, Outcome}

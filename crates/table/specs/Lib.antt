@@ -9,6 +9,7 @@ pub mod Prime
 pub mod Slots
 pub mod Reads
 pub mod Moves
+pub mod Carry
 pub mod Counts
 pub mod Calls
 pub mod PictureCalls

@@ -9,7 +9,7 @@ use Rattle.sheet.specs.declared.Move.{Move}
 use Rattle.sheet.specs.Literals.{Proper}
 use Rattle.sheet.specs.Lists.{All}
 use Rattle.sheet.specs.declared.Sheet.{Sheet}
-use Rattle.sheet.specs.Problem.{Statement}
+use Rattle.sheet.specs.Problem.{Action, Statement}
 use Rattle.sheet.specs.Encoding.{ProperAction, ProperStatement}
 use Rattle.sheet.specs.Decoded.{actionIn, slots}
 use Rattle.sheet.specs.declared.Answer.the-variants.{Accepted, Refused}
@@ -27,21 +27,31 @@ slot ts fs i = record { trues = getD ts i 0; falses = getD fs i 0 }
 abbrev pub effectsOf : Move → List Effect
 effectsOf m = actionIn m .effects
 
--- ---- effects as a row of masks, four to an effect
+-- ---- sets and effects in a row of masks
+-- the set whose two masks stand from number i on
+unfoldable pub setFrom : List ℕ → ℕ → Literals
+setFrom row i = record { trues = getD row i 0; falses = getD row (i + 1) 0 }
+
+-- the first n sets, two masks to a set
+unfoldable pub setsAt : ℕ → List ℕ → List Literals
+setsAt zero row = []
+setsAt (suc n) row = setFrom row 0 ∷ setsAt n (drop 2 row)
+
+-- four masks to an effect: its condition, its result
 unfoldable pub masksOf : Effect → List ℕ
 masksOf e = e .condition .trues ∷ e .condition .falses ∷ e .result .trues ∷ e .result .falses ∷ []
 
 unfoldable pub effectAt : List ℕ → ℕ → Effect
-effectAt row i =
-    record {
-      condition = record { trues = getD row (4 * i) 0; falses = getD row (4 * i + 1) 0 };
-      result = record { trues = getD row (4 * i + 2) 0; falses = getD row (4 * i + 3) 0 };
-    }
+effectAt row i = record { condition = setFrom row (4 * i); result = setFrom row (4 * i + 2) }
 
 -- the first n of them
 unfoldable pub effectsAt : ℕ → List ℕ → List Effect
 effectsAt zero row = []
 effectsAt (suc n) row = effectAt row 0 ∷ effectsAt n (drop 4 row)
+
+-- the action with these effects
+abbrev pub actionBy : Literals → ℕ → List ℕ → Action
+actionBy precondition size row = record { precondition = precondition; effects = effectsAt size row }
 
 -- ---- a table in lent arrays
 abbrev pub lent : ℕ → List ℕ → List ℕ → Table
@@ -52,14 +62,18 @@ abbrev pub tabled : Table → Stepped → List ℕ → List ℕ → Tabled
 tabled t (stepped.To k) us gs = record { answer = Accepted; table = lent k us gs }
 tabled t (stepped.Refused number) us gs = record { answer = Refused number 0; table = t }
 
--- a move and a table over the same n propositions, within their slots
-pub record Steps (m : Move) (t : Table) : Type 0 where
+-- an action and a table over the same n propositions
+pub record Fits (a : Action) (t : Table) : Type 0 where
   pub n : ℕ
   pub n-most : n ≤ 32
-  pub effects-most : m .count ≤ 8
   pub entries-most : t .count ≤ 128
-  pub action : ProperAction n (actionIn m)
+  pub action : ProperAction n a
   pub proper : All (Proper n) (entries t)
+
+-- the same of a move within its slots
+pub record Steps (m : Move) (t : Table) : Type 0 where
+  pub effects-most : m .count ≤ 8
+  pub fits : Fits (actionIn m) t
 
 -- a sheet that was read
 pub record Filled (x : Sheet) : Type 0 where

@@ -1,6 +1,6 @@
 -- The call `picture` as a function of what it is given (document 01, "Numbers and their order"): a fault of the sheet; 22; 21; 23 for the
 -- buffer's own length. Refused, it gives 0 clauses and leaves every byte of the buffer as it was.
-use mathlib.Core.Bool.{Bool, true, false, cond}
+use mathlib.Core.Bool.{Bool, cond}
 use mathlib.Core.List.{List, _++_}
 use mathlib.Core.Option.{Option, none, some}
 use Prim.Native.Nat.{ℕ, _+_, _*_}

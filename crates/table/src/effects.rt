@@ -8,6 +8,17 @@ ghost use Prim.Native.Nat.{_≤_, _+_, _*_};
 ghost use lib.ListN.{length, take, drop};
 ghost use Rattle.table.specs.Moves as M;
 
+// The set whose two masks stand from number i on.
+pub fn set_from<'a>(row: &'a [u32], i: usize) -> Literals
+    requires { ⌜ i + 2 ≤ length (now row) ⌝ }
+    ensures { λ r. ⌜ r ≡ M.setFrom (now (row .entry)) i ⌝ }
+{
+    Literals {
+        trues: row[i],
+        falses: row[i + 1],
+    }
+}
+
 // The effect of a number.
 pub(crate) fn effect_at<'a>(effects: &'a [u32], i: usize) -> Effect
     requires { ⌜ 4 * i + 4 ≤ length (now effects) ⌝ }
@@ -15,14 +26,8 @@ pub(crate) fn effect_at<'a>(effects: &'a [u32], i: usize) -> Effect
 {
     let at = 4 * i;
     Effect {
-        condition: Literals {
-            trues: effects[at],
-            falses: effects[at + 1],
-        },
-        result: Literals {
-            trues: effects[at + 2],
-            falses: effects[at + 3],
-        },
+        condition: set_from(effects, at),
+        result: set_from(effects, at + 2),
     }
 }
 
@@ -40,7 +45,7 @@ pub(crate) fn write_effect(effects: &mut [u32], at: usize, e: Effect)
 }
 
 // The effects of a move, laid out.
-pub(crate) fn lay(mv: Move, effects: &mut [u32])
+pub fn lay(mv: Move, effects: &mut [u32])
     requires { ⌜ (mv .count ≤ 8) × (length (now effects) ≡ 32) ⌝ }
     ensures { λ r. ⌜ M.effectsOf mv ≡ M.effectsAt (mv .count) (now (effects .exit)) ⌝ }
 {

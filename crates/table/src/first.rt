@@ -1,6 +1,7 @@
 // The first table: the known literals, then a fresh table for each or-clause and for each oneof-clause.
 use crate::Table;
 use crate::Tabled;
+use crate::effects::set_from;
 use crate::slots::Grown;
 use crate::slots::offer;
 use sheet::Answer;
@@ -14,9 +15,10 @@ use sheet::masks::join;
 use sheet::masks::literal;
 use sheet::masks::next;
 ghost use mathlib.Core.Path.{_≡_};
+ghost use mathlib.Core.Bool.{true};
 ghost use mathlib.Core.List.{[], _∷_, map};
-ghost use Prim.Native.Nat.{_≤_};
-ghost use lib.ListN.{length, drop};
+ghost use Prim.Native.Nat.{_≤_, _<_, _*_};
+ghost use lib.ListN.{length, drop, getD};
 ghost use Rattle.sheet.specs.declared.Answer.the-variants.{Refused};
 ghost use Rattle.sheet.specs.Literals as L;
 ghost use Rattle.sheet.specs.Lists.{keep, collect};
@@ -25,6 +27,7 @@ ghost use Rattle.table.specs.Start as spec;
 ghost use Rattle.table.specs.Slots.{entriesOf, Held, Puts, entries, tableOf};
 ghost use Rattle.table.specs.Calls.{orGiven};
 ghost use Rattle.table.specs.Reads.{clauseOf, others, Counts, Readable};
+ghost use Rattle.table.specs.Moves.{setsAt};
 
 // Puts a candidate if it is consistent.
 pub(crate) fn admit(trues: &mut [u32], falses: &mut [u32], k: usize, c: Literals) -> Grown
@@ -63,43 +66,89 @@ pub(crate) fn widen_or(
     Grown::To(sum)
 }
 
-// Each alternative from `at` on but `i` is made false in every way; a branch that is inconsistent already is cut.
-pub(crate) fn choose(
-    alts: Sets,
-    i: usize,
+// The alternatives but the one of number i, laid out, two masks to each. The result is how many.
+pub(crate) fn lay_others(alts: Sets, i: usize, row: &mut [u32]) -> usize
+    requires { ⌜ (alts .count ≤ 8) × (length (now row) ≡ 16) ⌝ }
+    ensures { λ r. ⌜ (2 * r ≤ length (now (row .exit))) × (setsAt r (now (row .exit)) ≡ others i 0 (setsIn alts)) ⌝ }
+{
+    let count = alts.count;
+    let mut k: usize = 0;
+    let mut j: usize = 0;
+    while j < count {
+        if j != i {
+            let a = alts.items[j];
+            row[2 * k] = a.trues;
+            row[2 * k + 1] = a.falses;
+            k += 1;
+        }
+        j += 1;
+    }
+    k
+}
+
+// Each alternative from `at` on is made false in every way; a branch that is inconsistent is cut.
+pub(crate) fn choose<'a, 'b>(
+    row: &'a [u32],
+    size: usize,
     at: usize,
     piece: Literals,
+    trues: &'b mut [u32],
+    falses: &'b mut [u32],
+    k: usize,
+) -> Grown
+    requires { ⌜ 2 * size ≤ length (now row) ⌝ }
+    requires { ⌜ L.consistent piece ≡ true ⌝ }
+    requires { ⌜ Held (length (now trues)) k (now trues) (now falses) ⌝ }
+    ensures { λ r. ⌜ Puts (keep L.consistent (spec.falsify (drop at (setsAt size (now (row .entry)))) piece)) k (now (trues .entry)) (now (falses .entry)) r (now (trues .exit)) (now (falses .exit)) ⌝ }
+{
+    if size <= at {
+        return offer(trues, falses, k, piece);
+    }
+    let after = at + 1;
+    let a = set_from(row, 2 * at);
+    let mut sum = k;
+    let mut l = next(a, 0);
+    while l < 64 {
+        let chosen = join(piece, flip(literal(l)));
+        if consistent(chosen) {
+            if after < size {
+                let Grown::To(m) = choose(row, size, after, chosen, trues, falses, sum) else {
+                    return Grown::Full;
+                };
+                sum = m;
+            } else {
+                let Grown::To(m) = offer(trues, falses, sum, chosen) else {
+                    return Grown::Full;
+                };
+                sum = m;
+            }
+        }
+        l = next(a, l + 1);
+    }
+    Grown::To(sum)
+}
+
+// The entry with the alternative of number i, and the others made false.
+pub(crate) fn widen_one(
+    alts: Sets,
+    i: usize,
+    entry: Literals,
     trues: &mut [u32],
     falses: &mut [u32],
     k: usize,
 ) -> Grown
-    requires { ⌜ alts .count ≤ 8 ⌝ }
+    requires { ⌜ (alts .count ≤ 8) × (i < alts .count) ⌝ }
     requires { ⌜ Held (length (now trues)) k (now trues) (now falses) ⌝ }
-    ensures { λ r. ⌜ Puts (keep L.consistent (spec.falsify (others i at (drop at (setsIn alts))) piece)) k (now (trues .entry)) (now (falses .entry)) r (now (trues .exit)) (now (falses .exit)) ⌝ }
+    ensures { λ r. ⌜ Puts (keep L.consistent (spec.falsify (others i 0 (setsIn alts)) (L.join entry (getD (setsIn alts) i L.noLiteral)))) k (now (trues .entry)) (now (falses .entry)) r (now (trues .exit)) (now (falses .exit)) ⌝ }
 {
-    let count = alts.count;
-    if !consistent(piece) {
+    let a = alts.items[i];
+    let first = join(entry, a);
+    if !consistent(first) {
         return Grown::To(k);
     }
-    if count <= at {
-        return offer(trues, falses, k, piece);
-    }
-    let after = at + 1;
-    if at == i {
-        return choose(alts, i, after, piece, trues, falses, k);
-    }
-    let a = alts.items[at];
-    let mut sum = k;
-    let mut l = next(a, 0);
-    while l < 64 {
-        let one = literal(l);
-        let Grown::To(m) = choose(alts, i, after, join(piece, flip(one)), trues, falses, sum) else {
-            return Grown::Full;
-        };
-        sum = m;
-        l = next(a, l + 1);
-    }
-    Grown::To(sum)
+    let mut row = [0u32; 16];
+    let size = lay_others(alts, i, &mut row);
+    choose(&row, size, 0, first, trues, falses, k)
 }
 
 // The entry with each alternative of a oneof-clause, in order, and the others made false.
@@ -118,8 +167,7 @@ pub(crate) fn widen_oneof(
     let mut sum = k;
     let mut i: usize = 0;
     while i < count {
-        let a = alts.items[i];
-        let Grown::To(m) = choose(alts, i, 0, join(entry, a), trues, falses, sum) else {
+        let Grown::To(m) = widen_one(alts, i, entry, trues, falses, sum) else {
             return Grown::Full;
         };
         sum = m;

@@ -4,8 +4,9 @@ use sheet::masks::within;
 ghost use mathlib.Core.Path.{_≡_};
 ghost use mathlib.Core.List.{[], _∷_};
 ghost use Prim.Native.Nat.{_≤_};
-ghost use lib.ListN.{length, take};
+ghost use lib.ListN.{length};
 ghost use Rattle.sheet.specs.Literals as L;
+ghost use Rattle.sheet.specs.Lists.{anyOf};
 ghost use Rattle.table.specs.Slots.{entriesOf, Holds, Held, lastOf, left, after, fateOf, Puts};
 
 // The place of an entry, if there is one.
@@ -46,11 +47,12 @@ pub(crate) fn last_within(trues: &[u32], falses: &[u32], n: usize, l: Literals) 
     Found::Nothing
 }
 
-// How many of the first n entries stand before the first that contains l.
-pub(crate) fn first_above(trues: &[u32], falses: &[u32], n: usize, l: Literals) -> usize
+// Some of the first n entries contains l. The scan has no way out before its end, so that the compiler can compare several at a time.
+pub(crate) fn some_above(trues: &[u32], falses: &[u32], n: usize, l: Literals) -> bool
     requires { ⌜ (n ≤ length (now trues)) × (n ≤ length (now falses)) ⌝ }
-    ensures { λ r. ⌜ (r ≤ n) × (left (take r (entriesOf n (now (trues .entry)) (now (falses .entry)))) l ≡ take r (entriesOf n (now (trues .entry)) (now (falses .entry)))) ⌝ }
+    ensures { λ r. ⌜ r ≡ anyOf (λ e. L.within l e) (entriesOf n (now (trues .entry)) (now (falses .entry))) ⌝ }
 {
+    let mut found = false;
     let mut i: usize = 0;
     while i < n {
         let e = Literals {
@@ -58,11 +60,11 @@ pub(crate) fn first_above(trues: &[u32], falses: &[u32], n: usize, l: Literals) 
             falses: falses[i],
         };
         if within(l, e) {
-            return i;
+            found = true;
         }
         i += 1;
     }
-    i
+    found
 }
 
 // The entries that contain l go; the others move up in order, and the slots that come free are zero. The result is how many are left.
@@ -70,8 +72,11 @@ pub(crate) fn remove(trues: &mut [u32], falses: &mut [u32], n: usize, l: Literal
     requires { ⌜ Held (length (now trues)) n (now trues) (now falses) ⌝ }
     ensures { λ r. ⌜ Holds (length (now (trues .entry))) (left (entriesOf n (now (trues .entry)) (now (falses .entry))) l) r (now (trues .exit)) (now (falses .exit)) ⌝ }
 {
-    let mut i = first_above(trues, falses, n, l);
-    let mut k = i;
+    if !some_above(trues, falses, n, l) {
+        return n;
+    }
+    let mut i: usize = 0;
+    let mut k: usize = 0;
     while i < n {
         let e = Literals {
             trues: trues[i],

@@ -1,8 +1,8 @@
 // The step of a table over lent slices: 24, then 25 by pairs of effects, then the pieces of each entry, each image put in its turn.
 use crate::Table;
 use crate::Tabled;
-use crate::effects;
 use crate::effects::effect_at;
+use crate::effects::lay;
 use crate::slots;
 use crate::slots::Grown;
 use crate::tables::described;
@@ -14,20 +14,20 @@ use sheet::Move;
 use sheet::Sheet;
 use sheet::masks;
 ghost use mathlib.Core.Path.{_≡_};
-ghost use mathlib.Core.Bool.{_||_};
-ghost use mathlib.Core.List.{[], _∷_, map};
+ghost use mathlib.Core.Bool.{true};
+ghost use mathlib.Core.List.{map};
 ghost use Prim.Native.Nat.{_≤_, _<_, _*_};
 ghost use lib.ListN.{length, drop, replicate};
 ghost use Rattle.sheet.specs.Literals as L;
-ghost use Rattle.sheet.specs.Lists.{anyOf, allOf, collect};
+ghost use Rattle.sheet.specs.Lists.{All, anyOf, allOf, collect};
 ghost use lib.Dec.{ltb};
 ghost use Rattle.sheet.specs.Decoded.{actionIn, problemIn};
-ghost use Rattle.table.specs.Worlds as W;
 ghost use Rattle.table.specs.Minimal as O;
 ghost use Rattle.table.specs.Step as S;
 ghost use Rattle.table.specs.Slots.{entriesOf, Held, Puts, entries};
 ghost use Rattle.table.specs.Pairs as P;
 ghost use Rattle.table.specs.Moves as M;
+ghost use Rattle.table.specs.Carry.{Steady, Carried, Splits, Settles, lacks, partAt, carriedAt};
 ghost use Rattle.table.specs.Calls.{orGiven, stepMove};
 
 // The precondition lies in every entry (24 if not).
@@ -119,53 +119,6 @@ pub(crate) fn unclear<'a, 'b>(
     false
 }
 
-// The results of the effects whose conditions lie in the piece, joined.
-pub(crate) fn results<'a>(effects: &'a [u32], size: usize, piece: Literals) -> Literals
-    requires { ⌜ 4 * size ≤ length (now effects) ⌝ }
-    ensures { λ r. ⌜ r ≡ W.results (M.effectsAt size (now (effects .entry))) piece ⌝ }
-{
-    let mut sum = Literals {
-        trues: 0,
-        falses: 0,
-    };
-    let mut i = size;
-    while 0 < i {
-        i -= 1;
-        let e = effect_at(effects, i);
-        if masks::within(e.condition, piece) {
-            sum = masks::join(e.result, sum);
-        }
-    }
-    sum
-}
-
-// What a whole piece becomes is put.
-pub(crate) fn leaf<'a, 'b>(
-    effects: &'a [u32],
-    size: usize,
-    piece: Literals,
-    trues: &'b mut [u32],
-    falses: &'b mut [u32],
-    k: usize,
-) -> Grown
-    requires { ⌜ 4 * size ≤ length (now effects) ⌝ }
-    requires { ⌜ Held (length (now trues)) k (now trues) (now falses) ⌝ }
-    ensures { λ r. ⌜ Puts (S.image (M.effectsAt size (now (effects .entry))) piece ∷ []) k (now (trues .entry)) (now (falses .entry)) r (now (trues .exit)) (now (falses .exit)) ⌝ }
-{
-    let r = results(effects, size, piece);
-    slots::offer(trues, falses, k, masks::replace(piece, r))
-}
-
-// The condition splits nothing: it lies in the piece or contradicts it.
-pub(crate) fn stays(condition: Literals, piece: Literals) -> bool
-    ensures { λ r. ⌜ r ≡ (L.within condition piece || L.clash condition piece) ⌝ }
-{
-    if masks::within(condition, piece) {
-        return true;
-    }
-    masks::clash(condition, piece)
-}
-
 // The piece with the complement of the literal l.
 pub(crate) fn without(piece: Literals, l: usize) -> Literals
     requires { ⌜ l < 64 ⌝ }
@@ -174,53 +127,142 @@ pub(crate) fn without(piece: Literals, l: usize) -> Literals
     masks::join(piece, masks::flip(masks::literal(l)))
 }
 
-// The pieces of `piece` by the conditions from `at` on, depth first, each put in its turn.
+// The place of the first effect that splits a piece, and the results of those before it.
+pub struct Settled {
+    pub at: usize,
+    pub results: Literals,
+}
+
+// The first effect from `at` on whose condition splits the piece, not below `size` if there is none; `results` are those before `at`.
+pub(crate) fn settle<'a>(
+    effects: &'a [u32],
+    size: usize,
+    at: usize,
+    piece: Literals,
+    results: Literals,
+) -> Settled
+    requires { ⌜ 4 * size ≤ length (now effects) ⌝ }
+    requires { ⌜ Carried (M.effectsAt size (now effects)) at piece results ⌝ }
+    ensures { λ r. ⌜ Settles (M.effectsAt size (now (effects .entry))) at piece r × (r .at < size → Splits (M.effectAt (now (effects .entry)) (r .at) .condition) piece) ⌝ }
+{
+    let mut sum = results;
+    let mut i = at;
+    while i < size {
+        let e = effect_at(effects, i);
+        if masks::within(e.condition, piece) {
+            sum = masks::join(e.result, sum);
+        } else {
+            if !masks::clash(e.condition, piece) {
+                return Settled {
+                    at: i,
+                    results: sum,
+                };
+            }
+        }
+        i += 1;
+    }
+    Settled {
+        at: i,
+        results: sum,
+    }
+}
+
+// Part t of a piece that a condition splits: 0 has all of it, l + 1 the complement of its literal l.
+pub(crate) fn part(piece: Literals, condition: Literals, t: usize) -> Literals
+    requires { ⌜ t < 65 ⌝ }
+    ensures { λ r. ⌜ r ≡ partAt piece condition t ⌝ }
+{
+    if t == 0 {
+        return masks::join(piece, condition);
+    }
+    without(piece, t - 1)
+}
+
+// The results in part t: those of the effect are added in part 0 alone.
+pub(crate) fn carried(results: Literals, result: Literals, t: usize) -> Literals
+    ensures { λ r. ⌜ r ≡ carriedAt results result t ⌝ }
+{
+    if t == 0 {
+        return masks::join(result, results);
+    }
+    results
+}
+
+// The literals of a that are not in b.
+pub(crate) fn lacking(a: Literals, b: Literals) -> Literals
+    ensures { λ r. ⌜ r ≡ lacks a b ⌝ }
+{
+    Literals {
+        trues: a.trues & !b.trues,
+        falses: a.falses & !b.falses,
+    }
+}
+
+// The pieces of `piece` by the conditions from `at` on, the first of which splits it, each put in its turn: part 0, then a part for each literal that is missing.
 pub(crate) fn split<'a, 'b>(
     effects: &'a [u32],
     size: usize,
     at: usize,
     piece: Literals,
+    results: Literals,
     trues: &'b mut [u32],
     falses: &'b mut [u32],
     k: usize,
 ) -> Grown
     requires { ⌜ 4 * size ≤ length (now effects) ⌝ }
+    requires { ⌜ (at < size) × Splits (M.effectAt (now effects) at .condition) piece ⌝ }
+    requires { ⌜ Carried (M.effectsAt size (now effects)) at piece results ⌝ }
     requires { ⌜ Held (length (now trues)) k (now trues) (now falses) ⌝ }
     ensures { λ r. ⌜ Puts (map (S.image (M.effectsAt size (now (effects .entry)))) (S.pieces (drop at (M.effectsAt size (now (effects .entry)))) piece)) k (now (trues .entry)) (now (falses .entry)) r (now (trues .exit)) (now (falses .exit)) ⌝ }
 {
-    if size <= at {
-        return leaf(effects, size, piece, trues, falses, k);
-    }
     let e = effect_at(effects, at);
     let condition = e.condition;
+    let missing = lacking(condition, piece);
     let next = at + 1;
-    if stays(condition, piece) {
-        return split(effects, size, next, piece, trues, falses, k);
-    }
-    let Grown::To(first) = split(
-        effects,
-        size,
-        next,
-        masks::join(piece, condition),
-        trues,
-        falses,
-        k,
-    ) else {
-        return Grown::Full;
-    };
-    let mut sum = first;
-    let mut l = masks::next(condition, 0);
-    while l < 64 {
-        if !masks::contains(piece, l) {
-            let Grown::To(m) = split(effects, size, next, without(piece, l), trues, falses, sum)
-            else {
+    let mut sum = k;
+    let mut t: usize = 0;
+    while t < 65 {
+        let p = part(piece, condition, t);
+        let s = settle(effects, size, next, p, carried(results, e.result, t));
+        if s.at < size {
+            let Grown::To(m) = split(effects, size, s.at, p, s.results, trues, falses, sum) else {
+                return Grown::Full;
+            };
+            sum = m;
+        } else {
+            let Grown::To(m) = slots::offer(trues, falses, sum, masks::replace(p, s.results)) else {
                 return Grown::Full;
             };
             sum = m;
         }
-        l = masks::next(condition, l + 1);
+        t = masks::next(missing, t) + 1;
     }
     Grown::To(sum)
+}
+
+// The pieces of an entry, each put in its turn.
+pub(crate) fn branch<'a, 'b>(
+    effects: &'a [u32],
+    size: usize,
+    entry: Literals,
+    trues: &'b mut [u32],
+    falses: &'b mut [u32],
+    k: usize,
+) -> Grown
+    requires { ⌜ 4 * size ≤ length (now effects) ⌝ }
+    requires { ⌜ Steady (M.effectsAt size (now effects)) × (L.consistent entry ≡ true) ⌝ }
+    requires { ⌜ Held (length (now trues)) k (now trues) (now falses) ⌝ }
+    ensures { λ r. ⌜ Puts (map (S.image (M.effectsAt size (now (effects .entry)))) (S.pieces (M.effectsAt size (now (effects .entry))) entry)) k (now (trues .entry)) (now (falses .entry)) r (now (trues .exit)) (now (falses .exit)) ⌝ }
+{
+    let none = Literals {
+        trues: 0,
+        falses: 0,
+    };
+    let s = settle(effects, size, 0, entry, none);
+    if s.at < size {
+        return split(effects, size, s.at, entry, s.results, trues, falses, k);
+    }
+    slots::offer(trues, falses, k, masks::replace(entry, s.results))
 }
 
 // The pieces of the first m entries of ts and fs, each put in its turn.
@@ -236,13 +278,14 @@ pub(crate) fn spread<'a, 'b, 'c>(
 ) -> Grown
     requires { ⌜ 4 * size ≤ length (now effects) ⌝ }
     requires { ⌜ (m ≤ length (now ts)) × (m ≤ length (now fs)) ⌝ }
+    requires { ⌜ Steady (M.effectsAt size (now effects)) × All (λ d. L.consistent d ≡ true) (entriesOf m (now ts) (now fs)) ⌝ }
     requires { ⌜ Held (length (now trues)) k (now trues) (now falses) ⌝ }
     ensures { λ r. ⌜ Puts (map (S.image (M.effectsAt size (now (effects .entry)))) (collect (S.pieces (M.effectsAt size (now (effects .entry)))) (entriesOf m (now (ts .entry)) (now (fs .entry))))) k (now (trues .entry)) (now (falses .entry)) r (now (trues .exit)) (now (falses .exit)) ⌝ }
 {
     let mut sum = k;
     let mut i: usize = 0;
     while i < m {
-        let Grown::To(j) = split(effects, size, 0, entry_at(ts, fs, i), trues, falses, sum) else {
+        let Grown::To(j) = branch(effects, size, entry_at(ts, fs, i), trues, falses, sum) else {
             return Grown::Full;
         };
         sum = j;
@@ -267,31 +310,30 @@ pub enum Stepped {
     Refused(u8),
 }
 
-// The step of a lent table by a move, into arrays of zeros.
-pub fn step_into<'a, 'b>(
-    mv: Move,
-    ts: &'a [u32],
-    fs: &'a [u32],
+// The step of a lent table, its effects laid out, into arrays of zeros.
+pub fn step_into<'a, 'b, 'c>(
+    precondition: Literals,
+    effects: &'a [u32],
+    size: usize,
+    ts: &'b [u32],
+    fs: &'b [u32],
     n: usize,
-    us: &'b mut [u32],
-    gs: &'b mut [u32],
+    us: &'c mut [u32],
+    gs: &'c mut [u32],
 ) -> Stepped
-    requires { ⌜ M.Steps mv (M.lent n (now ts) (now fs)) ⌝ }
+    requires { ⌜ 4 * size ≤ length (now effects) ⌝ }
+    requires { ⌜ M.Fits (M.actionBy precondition size (now effects)) (M.lent n (now ts) (now fs)) ⌝ }
     requires { ⌜ (n ≤ length (now ts)) × (n ≤ length (now fs)) ⌝ }
     requires { ⌜ (now us ≡ replicate 128 0) × (now gs ≡ replicate 128 0) ⌝ }
-    ensures { λ r. ⌜ M.tabled (M.lent n (now (ts .entry)) (now (fs .entry))) r (now (us .exit)) (now (gs .exit)) ≡ orGiven (M.lent n (now (ts .entry)) (now (fs .entry))) (S.stepTable 128 (actionIn mv) (entriesOf n (now (ts .entry)) (now (fs .entry)))) ⌝ }
+    ensures { λ r. ⌜ M.tabled (M.lent n (now (ts .entry)) (now (fs .entry))) r (now (us .exit)) (now (gs .exit)) ≡ orGiven (M.lent n (now (ts .entry)) (now (fs .entry))) (S.stepTable 128 (M.actionBy precondition size (now (effects .entry))) (entriesOf n (now (ts .entry)) (now (fs .entry)))) ⌝ }
 {
-    let precondition = mv.precondition;
     if !sure(precondition, ts, fs, n) {
         return Stepped::Refused(24);
     }
-    let size = mv.count;
-    let mut row = [0u32; 32];
-    effects::lay(mv, &mut row);
-    if unclear(&row, size, ts, fs, n) {
+    if unclear(effects, size, ts, fs, n) {
         return Stepped::Refused(25);
     }
-    match spread(&row, size, ts, fs, n, us, gs, 0) {
+    match spread(effects, size, ts, fs, n, us, gs, 0) {
         Grown::To(k) => Stepped::To(k),
         Grown::Full => Stepped::Refused(21),
     }
@@ -302,11 +344,17 @@ pub fn advance(mv: Move, table: Table) -> Tabled
     requires { ⌜ M.Steps mv table ⌝ }
     ensures { λ r. ⌜ r ≡ orGiven table (S.stepTable 128 (actionIn mv) (entries table)) ⌝ }
 {
+    let precondition = mv.precondition;
+    let size = mv.count;
+    let mut row = [0u32; 32];
+    lay(mv, &mut row);
     let count = table.count;
     let mut trues = [0u32; 128];
     let mut falses = [0u32; 128];
     match step_into(
-        mv,
+        precondition,
+        &row,
+        size,
         &table.trues,
         &table.falses,
         count,

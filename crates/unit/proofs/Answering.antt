@@ -1,5 +1,5 @@
 -- What the functions answer, by cases: a slice is too short, or the call's own answer in numbers. Assumes nothing.
-use mathlib.Core.Path.{_≡_, sym, ap, ap₂, _∙_}
+use mathlib.Core.Path.{_≡_, ap, ap₂, _∙_}
 use mathlib.Core.Bool.{Bool, true, false, cond, _||_}
 use mathlib.Core.List.{List, _++_}
 use Prim.Native.Nat.{ℕ, _/_, _≤_, _<_}
@@ -12,6 +12,7 @@ use Rattle.sheet.specs.Calls.{judgeOf}
 use Rattle.table.specs.declared.Table.{Table}
 use Rattle.table.specs.declared.Tabled.{Tabled}
 use Rattle.table.specs.declared.Pictured.{Pictured}
+use Rattle.sheet.proofs.Bools.{cond-false}
 use Rattle.table.specs.Calls.{startOf, stepOf}
 use Rattle.table.specs.PictureCalls.{pictureOf}
 use Rattle.plan.specs.declared.Searched.{Searched}
@@ -22,12 +23,9 @@ use Rattle.unit.specs.declared.Told.{Told}
 use Rattle.unit.specs.Numbers.{answerTold, verdictTold, kindTold, infoOf, lacks, tableIn, tableOut}
 use Rattle.unit.specs.Calls.{judgeTold, startTold, stepTold, pictureTold, searchTold, runTold, lastTable}
 
--- ---- the first of two by a test that holds, the second by one that does not
-pub first : {A : Type 0} {b : Bool} (x y : A) → b ≡ true → x ≡ cond b x y
-first x y e = ap (λ (t : Bool). cond t x y) (sym e)
-
+-- ---- the second of two by a test that does not hold
 pub second : {A : Type 0} {b : Bool} (x y z : A) → b ≡ false → z ≡ y → z ≡ cond b x y
-second x y z e q = q ∙ ap (λ (t : Bool). cond t x y) (sym e)
+second x y z e q = q ∙ cond-false x y e
 
 -- ---- slices that are too short, or long enough
 module _ (n : ℕ) (xs info : List ℕ) where

@@ -1,8 +1,6 @@
 -- `plan_lines::digest_rows` is safe and ends. Assumes nothing.
-use Prim.Native.Nat.{_≤_, _<_, _-_}
-use mathlib.Core.Path.{_≡_}
+use Prim.Native.Nat.{_≤_, _-_}
 use native.Mathlib.Omega.{arith}
-use lib.ListN.{length}
 use borrow.Author.Needs.{needs}
 use Rattle.plan_lines.proofs.digest_rows.Statement.{statement}
 use Rattle.plan_lines.proofs.digest_rows.Tie as tie

@@ -1,9 +1,6 @@
 -- `table_lines::covered` is safe and ends. Assumes nothing.
-use Prim.Native.Nat.{_≤_, _<_, _-_}
-use mathlib.Core.Path.{_≡_}
+use Prim.Native.Nat.{_≤_, _-_}
 use native.Mathlib.Omega.{arith}
-use lib.ListN.{length}
-use borrow.Author.Needs.{needs}
 use Rattle.table_lines.proofs.covered.Statement.{statement}
 use Rattle.table_lines.proofs.covered.Tie as tie
 

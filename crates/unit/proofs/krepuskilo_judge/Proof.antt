@@ -1,12 +1,13 @@
 -- `krepuskilo_judge` meets its contract: the answer of `judge` in numbers, or 255. Assumes nothing.
 use borrow.Author.Needs.{needs}
 use borrow.Author.Tests.{lt-ltb, le-ltb}
-use Rattle.unit.proofs.Answering.{first, byte, numbers, judge-told}
+use Rattle.sheet.proofs.Bools.{cond-true}
+use Rattle.unit.proofs.Answering.{byte, numbers, judge-told}
 use Rattle.unit.proofs.krepuskilo_judge.Statement.{statement}
 use Rattle.unit.proofs.krepuskilo_judge.Tie as tie
 
 returns : tie.Need-returns
-returns c = let e = lt-ltb _ _ (c .if1 .taken) in (first _ _ e, first _ _ e)
+returns c = let e = lt-ltb _ _ (c .if1 .taken) in (cond-true _ _ e, cond-true _ _ e)
 
 judge-requires : tie.Need-judge-requires
 judge-requires c κs = search needs

@@ -4,7 +4,8 @@ use borrow.Author.Needs.{needs}
 use Rattle.sheet.specs.Format.{sheetOf}
 use Rattle.table.specs.declared.Table.{Table}
 use Rattle.table.specs.PictureCalls.{bufferOf}
-use Rattle.unit.proofs.Answering.{first, second, lacks-first, lacks-info, lacks-none, byte, numbers, picture-told}
+use Rattle.sheet.proofs.Bools.{cond-true}
+use Rattle.unit.proofs.Answering.{second, lacks-first, lacks-info, lacks-none, byte, numbers, picture-told}
 use Rattle.unit.proofs.krepuskilo_picture.Statement.{statement}
 use Rattle.unit.proofs.krepuskilo_picture.Tie as tie
 
@@ -12,13 +13,13 @@ returns : tie.Need-returns
 returns c =
     let a = c .before .before .before .before .before .args in
     let e = lacks-first 257 (a .table .now) (a .info .now) (c .if1 .taken) in
-    (first _ _ e, (first _ _ e, first _ _ e))
+    (cond-true _ _ e, (cond-true _ _ e, cond-true _ _ e))
 
 returns-2 : tie.Need-returns-2
 returns-2 c =
     let a = c .before .before .before .before .before .before .args in
     let e = lacks-info 257 (a .table .now) (a .info .now) (c .before .if1 .left) (c .if2 .taken) in
-    (first _ _ e, (first _ _ e, first _ _ e))
+    (cond-true _ _ e, (cond-true _ _ e, cond-true _ _ e))
 
 table-in-requires : tie.Need-table-in-requires
 table-in-requires c κs = search needs

@@ -1,6 +1,7 @@
 -- `krepuskilo_run` meets its contract: the answer of the run in numbers, its rows and its last table, or 255. Assumes nothing.
 use borrow.Author.Needs.{needs}
-use Rattle.unit.proofs.Answering.{first, second, lacks-first, lacks-info, lacks-none, byte, tables, numbers, run-told, run-table}
+use Rattle.sheet.proofs.Bools.{cond-true}
+use Rattle.unit.proofs.Answering.{second, lacks-first, lacks-info, lacks-none, byte, tables, numbers, run-told, run-table}
 use Rattle.unit.proofs.Sizes.{run-fits}
 use Rattle.unit.proofs.RowNumbers.{rows-room, rows-out}
 use Rattle.unit.proofs.krepuskilo_run.Statement.{statement}
@@ -10,13 +11,13 @@ returns : tie.Need-returns
 returns c =
     let a = c .before .before .before .before .before .args in
     let e = lacks-first 257 (a .table .now) (a .info .now) (c .if1 .taken) in
-    (first _ _ e, (first _ _ e, (first _ _ e, first _ _ e)))
+    (cond-true _ _ e, (cond-true _ _ e, (cond-true _ _ e, cond-true _ _ e)))
 
 returns-2 : tie.Need-returns-2
 returns-2 c =
     let a = c .before .before .before .before .before .before .args in
     let e = lacks-info 257 (a .table .now) (a .info .now) (c .before .if1 .left) (c .if2 .taken) in
-    (first _ _ e, (first _ _ e, (first _ _ e, first _ _ e)))
+    (cond-true _ _ e, (cond-true _ _ e, (cond-true _ _ e, cond-true _ _ e)))
 
 course-requires : tie.Need-course-requires
 course-requires c κs = search needs

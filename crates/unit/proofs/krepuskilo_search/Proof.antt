@@ -2,7 +2,8 @@
 use mathlib.Core.Path.{_≡_}
 use lib.ListN.{length}
 use borrow.Author.Needs.{needs}
-use Rattle.unit.proofs.Answering.{first, second, lacks-first, lacks-info, lacks-none, byte, numbers, search-told, search-plan}
+use Rattle.sheet.proofs.Bools.{cond-true}
+use Rattle.unit.proofs.Answering.{second, lacks-first, lacks-info, lacks-none, byte, numbers, search-told, search-plan}
 use Rattle.unit.proofs.krepuskilo_search.Statement.{statement}
 use Rattle.unit.proofs.krepuskilo_search.Tie as tie
 
@@ -10,13 +11,13 @@ returns : tie.Need-returns
 returns c =
     let a = c .before .before .before .before .args in
     let e = lacks-first 8 (a .plan .now) (a .info .now) (c .if1 .taken) in
-    (first _ _ e, (first _ _ e, first _ _ e))
+    (cond-true _ _ e, (cond-true _ _ e, cond-true _ _ e))
 
 returns-2 : tie.Need-returns-2
 returns-2 c =
     let a = c .before .before .before .before .before .args in
     let e = lacks-info 8 (a .plan .now) (a .info .now) (c .before .if1 .left) (c .if2 .taken) in
-    (first _ _ e, (first _ _ e, first _ _ e))
+    (cond-true _ _ e, (cond-true _ _ e, cond-true _ _ e))
 
 search-requires : tie.Need-search-requires
 search-requires c κs = search needs

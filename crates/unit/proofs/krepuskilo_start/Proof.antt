@@ -2,7 +2,8 @@
 use mathlib.Core.Path.{ap}
 use borrow.Author.Needs.{needs}
 use Rattle.table.specs.declared.Tabled.{Tabled}
-use Rattle.unit.proofs.Answering.{first, lacks-first, lacks-info, lacks-none, byte, tables, numbers, start-told}
+use Rattle.sheet.proofs.Bools.{cond-true}
+use Rattle.unit.proofs.Answering.{lacks-first, lacks-info, lacks-none, byte, tables, numbers, start-told}
 use Rattle.unit.proofs.Sizes.{start-fits}
 use Rattle.unit.proofs.krepuskilo_start.Statement.{statement}
 use Rattle.unit.proofs.krepuskilo_start.Tie as tie
@@ -11,13 +12,13 @@ returns : tie.Need-returns
 returns c =
     let a = c .before .before .before .before .args in
     let e = lacks-first 257 (a .table .now) (a .info .now) (c .if1 .taken) in
-    (first _ _ e, (first _ _ e, first _ _ e))
+    (cond-true _ _ e, (cond-true _ _ e, cond-true _ _ e))
 
 returns-2 : tie.Need-returns-2
 returns-2 c =
     let a = c .before .before .before .before .before .args in
     let e = lacks-info 257 (a .table .now) (a .info .now) (c .before .if1 .left) (c .if2 .taken) in
-    (first _ _ e, (first _ _ e, first _ _ e))
+    (cond-true _ _ e, (cond-true _ _ e, cond-true _ _ e))
 
 start-requires : tie.Need-start-requires
 start-requires c κs = search needs

@@ -1,6 +1,7 @@
 -- `krepuskilo_step` meets its contract: the answer of `step` in numbers and its table, or 255. Assumes nothing.
 use borrow.Author.Needs.{needs}
-use Rattle.unit.proofs.Answering.{first, lacks-first, lacks-info, lacks-none, byte, tables, numbers, step-told, step-table}
+use Rattle.sheet.proofs.Bools.{cond-true}
+use Rattle.unit.proofs.Answering.{lacks-first, lacks-info, lacks-none, byte, tables, numbers, step-told, step-table}
 use Rattle.unit.proofs.Sizes.{step-fits}
 use Rattle.unit.proofs.krepuskilo_step.Statement.{statement}
 use Rattle.unit.proofs.krepuskilo_step.Tie as tie
@@ -9,13 +10,13 @@ returns : tie.Need-returns
 returns c =
     let a = c .before .before .before .before .args in
     let e = lacks-first 257 (a .table .now) (a .info .now) (c .if1 .taken) in
-    (first _ _ e, (first _ _ e, first _ _ e))
+    (cond-true _ _ e, (cond-true _ _ e, cond-true _ _ e))
 
 returns-2 : tie.Need-returns-2
 returns-2 c =
     let a = c .before .before .before .before .before .args in
     let e = lacks-info 257 (a .table .now) (a .info .now) (c .before .if1 .left) (c .if2 .taken) in
-    (first _ _ e, (first _ _ e, first _ _ e))
+    (cond-true _ _ e, (cond-true _ _ e, cond-true _ _ e))
 
 table-in-requires : tie.Need-table-in-requires
 table-in-requires c κs = search needs

@@ -8,7 +8,8 @@ use denote.Ref.{now}
 use Rattle.sheet.specs.Decoded.{setsIn}
 use Rattle.table.specs.Slots.{entriesOf, entries}
 use Rattle.plan.specs.Search.{nothing}
-use Rattle.plan.specs.Walks.{firstBy, actionOf}
+use Rattle.plan.specs.Packed.{actionOf}
+use Rattle.plan.specs.Walks.{firstBy}
 use Rattle.plan.proofs.FirstAnswers.{firstBelow}
 use Rattle.plan.proofs.Walking.{at-goal, at-short, not-yet, found-now, none-at-all}
 use Rattle.plan.proofs.Beginning.{slots-room, can-step, ready-after, unmet-after, begun-same, begun-ended, begun-not, begun-full, begun-stopped}
@@ -22,12 +23,11 @@ use Rattle.plan.proofs.searches.walk.Reads as walk
 use Rattle.plan.proofs.searches.walk.Kinds as walk-kinds
 use Rattle.plan.proofs.searches.+begin+walk.Lts-walk as walk-lts
 use Rattle.plan.proofs.goals.all_in_goal.Reads as all-in-goal-reads
-use Rattle.plan.proofs.packed.move_at.Reads as move-at-reads
+use Rattle.plan.proofs.packed.step_at.Reads as step-at-reads
 use Rattle.plan.proofs.searches.ended.Reads as ended-reads
 use Rattle.plan.proofs.searches.full.Reads as full-reads
 use Rattle.plan.proofs.searches.none.Reads as none-reads
 use Rattle.plan.proofs.searches.same.Reads as same-reads
-use Rattle.table.proofs.steps.step_into.Reads as step-into-reads
 use Rattle.plan.proofs.searches.+begin+walk.{statement}
 use Rattle.plan.proofs.searches.+begin+walk.Tie.{close}
 
@@ -51,10 +51,8 @@ walk-below t = and 2 walk-kinds.ps (falls 2 walk-kinds.ps _<_ μ-walk t) walk.Pr
 
 abbrev begin-claims : ℕ → begin-lts.Claims
 begin-claims t = (
-  move-at-reads.Asked,
-  move-at-reads.Learnt,
-  step-into-reads.Asked,
-  step-into-reads.Learnt,
+  step-at-reads.Asked,
+  step-at-reads.Learnt,
   same-reads.Asked,
   same-reads.Learnt,
   none-reads.Asked,
@@ -79,20 +77,18 @@ walk-claims t = (
   ended-reads.Learnt,
 )
 
-begin-move-at-requires : (t : ℕ) → begin-lts.Need-move-at-requires (begin-claims t) (begin-at t) begin.Post
-begin-move-at-requires t c κs = search needs
+begin-slice-aggregate-step-at : (t : ℕ) → begin-lts.Need-slice-aggregate-step-at (begin-claims t) (begin-at t) begin.Post
+begin-slice-aggregate-step-at t c = search needs
 
-begin-slice-aggregate-step-into : (t : ℕ) → begin-lts.Need-slice-aggregate-step-into (begin-claims t) (begin-at t) begin.Post
-begin-slice-aggregate-step-into t c = search needs
+begin-slice-aggregate-step-at-2 : (t : ℕ) → begin-lts.Need-slice-aggregate-step-at-2 (begin-claims t) (begin-at t) begin.Post
+begin-slice-aggregate-step-at-2 t c = search needs
 
-begin-slice-aggregate-step-into-2 : (t : ℕ) → begin-lts.Need-slice-aggregate-step-into-2 (begin-claims t) (begin-at t) begin.Post
-begin-slice-aggregate-step-into-2 t c = search needs
-
-begin-step-into-requires : (t : ℕ) → begin-lts.Need-step-into-requires (begin-claims t) (begin-at t) begin.Post
-begin-step-into-requires t c κs =
-    let z = c .before .before .before .before .before .before in
-    let s = z .args in
-    (can-step (z .pre .1 .0) (z .pre .1 .1 .0 .1) (c .before .before .move-at .ensures), (slots-room (z .pre .1 .0), (refl, refl)))
+begin-step-at-requires : (t : ℕ) → begin-lts.Need-step-at-requires (begin-claims t) (begin-at t) begin.Post
+begin-step-at-requires t c κs =
+    let z = c .before .before .before .before .before in
+    let h = z .pre .1 .0 in
+    let l = z .pre .1 .1 .0 .1 in
+    ((omega (arith, h .room), h .effects-most _ l), (can-step h l, (slots-room h, (refl, refl))))
 
 begin-add-next : (t : ℕ) → begin-lts.Need-add-next (begin-claims t) (begin-at t) begin.Post
 begin-add-next t c = search needs
@@ -108,18 +104,18 @@ begin-slice-aggregate-same-2 t c = search needs
 
 begin-same-requires : (t : ℕ) → begin-lts.Need-same-requires (begin-claims t) (begin-at t) begin.Post
 begin-same-requires t c κs =
-    let z = c .before .before .before .before .before .before .before .before .before .before .before .before .before .before in
+    let z = c .before .before .before .before .before .before .before .before .before .before .before .before .before in
     let s = z .args in
-    (slots-room (ready-after (z .pre .1 .0) (z .pre .1 .1 .0 .1) (c .before .before .before .before .before .before .before .before .before .before .move-at .ensures) _ _ _ (c .before .before .before .before .before .before .before .step-into .ensures) (c .before .before .before .stepped .given .1)), slots-room (z .pre .1 .0))
+    (slots-room (ready-after (z .pre .1 .0) (z .pre .1 .1 .0 .1) _ _ _ (c .before .before .before .before .before .before .before .step-at .ensures) (c .before .before .before .stepped .given .1)), slots-room (z .pre .1 .0))
 
 begin-none-requires : (t : ℕ) → begin-lts.Need-none-requires (begin-claims t) (begin-at t) begin.Post
 begin-none-requires t c κs = search needs
 
 begin-returns : (t : ℕ) → begin-lts.Need-returns (begin-claims t) (begin-at t) begin.Post
 begin-returns t c =
-    let z = c .before .before .before .before .before .before .before .before .before .before .before .before .before .before .before .before .before in
+    let z = c .before .before .before .before .before .before .before .before .before .before .before .before .before .before .before .before in
     let s = z .args in
-    begun-same (z .pre .1 .0) (z .pre .1 .1 .0 .1) (c .before .before .before .before .before .before .before .before .before .before .before .before .before .move-at .ensures) _ _ _ (c .before .before .before .before .before .before .before .before .before .before .step-into .ensures) (c .before .before .before .before .before .before .stepped .given .1) (s .at) (s .left) (z .pre .1 .1 .1) (c .before .before .same .ensures (c .before .if1 .taken)) (c .none .ensures)
+    begun-same (z .pre .1 .0) (z .pre .1 .1 .0 .1) _ _ _ (c .before .before .before .before .before .before .before .before .before .before .step-at .ensures) (c .before .before .before .before .before .before .stepped .given .1) (s .at) (s .left) (z .pre .1 .1 .1) (c .before .before .same .ensures (c .before .if1 .taken)) (c .none .ensures)
 
 begin-slice-aggregate-walk : (t : ℕ) → begin-lts.Need-slice-aggregate-walk (begin-claims t) (begin-at t) begin.Post
 begin-slice-aggregate-walk t c = search needs
@@ -129,55 +125,55 @@ begin-slice-aggregate-walk-2 t c = search needs
 
 begin-walk-requires : (t : ℕ) → begin-lts.Need-walk-requires (begin-claims t) (begin-at t) begin.Post
 begin-walk-requires t c κs =
-    let z = c .before .before .before .before .before .before .before .before .before .before .before .before .before .before .before .before .before .before in
+    let z = c .before .before .before .before .before .before .before .before .before .before .before .before .before .before .before .before .before in
     let s = z .args in
-    (omega arith, (ready-after (z .pre .1 .0) (z .pre .1 .1 .0 .1) (c .before .before .before .before .before .before .before .before .before .before .before .before .before .before .move-at .ensures) _ _ _ (c .before .before .before .before .before .before .before .before .before .before .before .step-into .ensures) (c .before .before .before .before .before .before .before .stepped .given .1), (omega (arith, z .pre .1 .1 .0 .0), unmet-after (z .pre .1 .0) (z .pre .1 .1 .0 .1) (c .before .before .before .before .before .before .before .before .before .before .before .before .before .before .move-at .ensures) _ _ _ (c .before .before .before .before .before .before .before .before .before .before .before .step-into .ensures) (c .before .before .before .before .before .before .before .stepped .given .1) (s .at) (s .left) (z .pre .1 .1 .1))))
+    (omega arith, (ready-after (z .pre .1 .0) (z .pre .1 .1 .0 .1) _ _ _ (c .before .before .before .before .before .before .before .before .before .before .before .step-at .ensures) (c .before .before .before .before .before .before .before .stepped .given .1), (omega (arith, z .pre .1 .1 .0 .0), unmet-after (z .pre .1 .0) (z .pre .1 .1 .0 .1) _ _ _ (c .before .before .before .before .before .before .before .before .before .before .before .step-at .ensures) (c .before .before .before .before .before .before .before .stepped .given .1) (s .at) (s .left) (z .pre .1 .1 .1))))
 
 begin-ended-requires : (t : ℕ) → begin-lts.Need-ended-requires (begin-claims t) (begin-at t) begin.Post
 begin-ended-requires t c κs = search needs
 
 begin-cast-r : (t : ℕ) → begin-lts.Need-cast-r (begin-claims t) (begin-at t) begin.Post
 begin-cast-r t c =
-    let z = c .before .before .before .before .before .before .before .before .before .before .before .before .before .before .before .before .before .before .before .before .before in
+    let z = c .before .before .before .before .before .before .before .before .before .before .before .before .before .before .before .before .before .before .before .before in
     omega (arith, z .pre .1 .1 .0 .1, z .pre .1 .0 .most)
 
 begin-element-write-r : (t : ℕ) → begin-lts.Need-element-write-r (begin-claims t) (begin-at t) begin.Post
 begin-element-write-r t c =
-    let z = c .before .before .before .before .before .before .before .before .before .before .before .before .before .before .before .before .before .before .before .before .before in
+    let z = c .before .before .before .before .before .before .before .before .before .before .before .before .before .before .before .before .before .before .before .before in
     omega (arith, z .pre .1 .1 .0 .0)
 
 begin-enum-known-stepped-2 : (t : ℕ) → begin-lts.Need-enum-known-stepped-2 (begin-claims t) (begin-at t) begin.Post
 begin-enum-known-stepped-2 t c = search needs
 
 begin-full-requires : (t : ℕ) → begin-lts.Need-full-requires (begin-claims t) (begin-at t) begin.Post
-begin-full-requires t c κs = let z = c .before .before .before .before .before .before .before .before .before .before .before .before .before in (z .pre .1 .1 .0 .0, omega (arith, z .pre .1 .1 .0 .1, z .pre .1 .0 .most))
+begin-full-requires t c κs = let z = c .before .before .before .before .before .before .before .before .before .before .before .before in (z .pre .1 .1 .0 .0, omega (arith, z .pre .1 .1 .0 .1, z .pre .1 .0 .most))
 
 begin-returns-2 : (t : ℕ) → begin-lts.Need-returns-2 (begin-claims t) (begin-at t) begin.Post
 begin-returns-2 t c =
-    let z = c .before .before .before .before .before .before .before .before .before .before .before .before .before .before in
+    let z = c .before .before .before .before .before .before .before .before .before .before .before .before .before in
     let s = z .args in
-    begun-full (z .pre .1 .0) (z .pre .1 .1 .0 .1) (c .before .before .before .before .before .before .before .before .before .before .move-at .ensures) _ _ _ (c .before .before .before .before .before .before .before .step-into .ensures) (c .before .before .before .stepped2 .given .1) (s .at) (s .left) (c .before .if3 .taken) (c .full .ensures)
+    begun-full (z .pre .1 .0) (z .pre .1 .1 .0 .1) _ _ _ (c .before .before .before .before .before .before .before .step-at .ensures) (c .before .before .before .stepped2 .given .1) (s .at) (s .left) (c .before .if3 .taken) (c .full .ensures)
 
 begin-none-requires-2 : (t : ℕ) → begin-lts.Need-none-requires-2 (begin-claims t) (begin-at t) begin.Post
 begin-none-requires-2 t c κs = search needs
 
 begin-returns-3 : (t : ℕ) → begin-lts.Need-returns-3 (begin-claims t) (begin-at t) begin.Post
 begin-returns-3 t c =
-    let z = c .before .before .before .before .before .before .before .before .before .before .before .before .before .before .before .before .before .before .before .before .before in
+    let z = c .before .before .before .before .before .before .before .before .before .before .before .before .before .before .before .before .before .before .before .before in
     let s = z .args in
-    begun-ended (z .pre .1 .0) (z .pre .1 .1 .0 .1) (c .before .before .before .before .before .before .before .before .before .before .before .before .before .before .before .before .before .move-at .ensures) _ _ _ (c .before .before .before .before .before .before .before .before .before .before .before .before .before .before .step-into .ensures) (c .before .before .before .before .before .before .before .before .before .before .stepped .given .1) (s .at) (s .left) (c .before .before .walk .ensures) (sym (c .before .ended .ensures) ∙ c .if2 .taken)
+    begun-ended (z .pre .1 .0) (z .pre .1 .1 .0 .1) _ _ _ (c .before .before .before .before .before .before .before .before .before .before .before .before .before .before .step-at .ensures) (c .before .before .before .before .before .before .before .before .before .before .stepped .given .1) (s .at) (s .left) (c .before .before .walk .ensures) (sym (c .before .ended .ensures) ∙ c .if2 .taken)
 
 begin-returns-4 : (t : ℕ) → begin-lts.Need-returns-4 (begin-claims t) (begin-at t) begin.Post
 begin-returns-4 t c =
-    let z = c .before .before .before .before .before .before .before .before .before .before .before .before .before .before .before .before .before .before .before .before .before in
+    let z = c .before .before .before .before .before .before .before .before .before .before .before .before .before .before .before .before .before .before .before .before in
     let s = z .args in
-    begun-not (z .pre .1 .0) (z .pre .1 .1 .0 .1) (c .before .before .before .before .before .before .before .before .before .before .before .before .before .before .before .before .before .move-at .ensures) _ _ _ (c .before .before .before .before .before .before .before .before .before .before .before .before .before .before .step-into .ensures) (c .before .before .before .before .before .before .before .before .before .before .stepped .given .1) (s .at) (s .left) (c .before .before .walk .ensures) (sym (c .before .ended .ensures) ∙ c .if2 .left)
+    begun-not (z .pre .1 .0) (z .pre .1 .1 .0 .1) _ _ _ (c .before .before .before .before .before .before .before .before .before .before .before .before .before .before .step-at .ensures) (c .before .before .before .before .before .before .before .before .before .before .stepped .given .1) (s .at) (s .left) (c .before .before .walk .ensures) (sym (c .before .ended .ensures) ∙ c .if2 .left)
 
 begin-returns-5 : (t : ℕ) → begin-lts.Need-returns-5 (begin-claims t) (begin-at t) begin.Post
 begin-returns-5 t c =
-    let z = c .before .before .before .before .before .before .before .before .before .before .before .before .before .before in
+    let z = c .before .before .before .before .before .before .before .before .before .before .before .before .before in
     let s = z .args in
-    begun-stopped (z .pre .1 .0) (z .pre .1 .1 .0 .1) (c .before .before .before .before .before .before .before .before .before .before .move-at .ensures) _ _ _ (c .before .before .before .before .before .before .before .step-into .ensures) (c .before .before .before .stepped2 .given .1) (s .at) (s .left) (c .before .if3 .left) (c .none2 .ensures)
+    begun-stopped (z .pre .1 .0) (z .pre .1 .1 .0 .1) _ _ _ (c .before .before .before .before .before .before .before .step-at .ensures) (c .before .before .before .stepped2 .given .1) (s .at) (s .left) (c .before .if3 .left) (c .none2 .ensures)
 
 abbrev walk-Inv-loop : walk-lts.InvT-loop
 walk-Inv-loop packed moves goal ts fs n at left fewer m₀ m =
@@ -252,10 +248,9 @@ pub +begin+walk-spec : {M : Type 1} → statement M
 +begin+walk-spec = close μ-begin μ-walk (λ t. begin-lts.spec (begin-claims t)
     (begin-at t)
     begin.Post
-    (begin-move-at-requires t)
-    (begin-slice-aggregate-step-into t)
-    (begin-slice-aggregate-step-into-2 t)
-    (begin-step-into-requires t)
+    (begin-slice-aggregate-step-at t)
+    (begin-slice-aggregate-step-at-2 t)
+    (begin-step-at-requires t)
     (begin-add-next t)
     (begin-enum-known-stepped t)
     (begin-slice-aggregate-same t)

@@ -7,7 +7,8 @@ use denote.Ref.{now}
 use Rattle.sheet.specs.Decoded.{setsIn}
 use Rattle.table.specs.Slots.{entriesOf, entries}
 use Rattle.plan.specs.Search.{nothing}
-use Rattle.plan.specs.Walks.{firstFrom, actionOf}
+use Rattle.plan.specs.Packed.{actionOf}
+use Rattle.plan.specs.Walks.{firstFrom}
 use Rattle.plan.proofs.FirstAnswers.{firstBelow}
 use Rattle.plan.proofs.Pruning.{quiet-lengths}
 use Rattle.plan.proofs.Walking.{length-found, length-next, length-none}

@@ -1,17 +1,18 @@
 -- `sheet::masks::below` meets its contract: the union of the masks has no bit from n on. Assumes nothing.
-use mathlib.Core.Path.{_≡_, refl, sym, ap, _∙_}
-use mathlib.Core.Bool.{Bool, true, false, _&&_, and-eq-true-iff}
-use Prim.Native.Nat.{ℕ, _*_, _/_, _^_, _<_, _≤_}
-use native.Mathlib.Nat.{div-eq-of-lt, div-lt-iff-lt-mul, one-mul, lt-of-lt-of-le}
+use mathlib.Core.Path.{_≡_, sym}
+use mathlib.Core.Bool.{true, and-eq-true-iff}
+use Prim.Native.Nat.{ℕ, _/_, _^_, _<_, _≤_}
+use native.Mathlib.Nat.{div-eq-of-lt, div-lt-iff-lt-mul, lt-of-lt-of-le}
 use native.Mathlib.Omega.{arith}
-use lib.Bits.{bitOr, bitAnd, or-lt, or-add-and, and-le-l, and-le-r}
+use lib.Bits.{bitOr, or-lt, or-add-and, and-le-l, and-le-r}
 use lib.Pow.{pow-pos, pow-mono}
 use lib.Dec.{eqb, ltb}
 use borrow.Author.Needs.{needs}
 use borrow.Author.Tests.{eq-eqb, eqb-true, lt-ltb, ltb-true}
 use Rattle.sheet.specs.declared.Literals.{Literals}
 use Rattle.sheet.specs.Literals.{below}
-use Rattle.sheet.proofs.LiteralSets.{iff-eq, both}
+use Rattle.sheet.proofs.Bools.{iff-eq}
+use Rattle.sheet.proofs.LiteralSets.{both}
 use Rattle.sheet.proofs.masks.below.Statement.{statement}
 use Rattle.sheet.proofs.masks.below.Tie as tie
 

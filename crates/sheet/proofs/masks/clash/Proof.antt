@@ -1,5 +1,5 @@
 -- `sheet::masks::clash` meets its contract: it tests both masks at once. Assumes nothing.
-use mathlib.Core.Path.{_≡_, refl, ap}
+use mathlib.Core.Path.{_≡_, ap}
 use mathlib.Core.Bool.{not}
 use lib.Bits.{bitAnd, bitOr}
 use lib.Dec.{eqb}

@@ -1,6 +1,6 @@
 -- `sheet::masks::replace` meets its contract: the machine's `a & !k` takes from a what it shares with k. Assumes nothing.
-use mathlib.Core.Path.{_≡_, refl}
-use Prim.Native.Nat.{ℕ, _-_, _^_, _<_}
+use mathlib.Core.Path.{_≡_}
+use Prim.Native.Nat.{_-_, _^_, _<_}
 use native.Mathlib.Omega.{arith}
 use lib.Bits.{bitAnd, bitOr}
 use Rattle.sheet.specs.declared.Literals.{Literals}

@@ -1,11 +1,9 @@
 -- `sheet::reader::clauses_from` meets its contract. Assumes nothing.
-use mathlib.Core.Path.{refl}
 use native.Mathlib.Omega.{arith}
 use borrow.Author.Needs.{needs}
 use Prim.Native.Nat.{_-_}
 use mathlib.Core.List.{[]}
 use Rattle.sheet.specs.Lists.{pad}
-use Rattle.sheet.specs.Literals.{noLiteral}
 use Rattle.sheet.specs.Format.{clause, listOf}
 use Rattle.sheet.specs.Decoded.{setsOf, clausesOf}
 use Rattle.sheet.proofs.Reading.{Taken, taken-none, taken-more, taken-fault, taken-all}

@@ -1,7 +1,6 @@
-use mathlib.Core.Path.{_≡_, refl, sym, ap, _∙_}
+use mathlib.Core.Path.{refl, sym, _∙_}
 use native.Mathlib.Omega.{arith}
 use borrow.Author.Needs.{needs}
-use Prim.Native.Nat.{ℕ, _<_}
 use Rattle.sheet.specs.Marks.{same}
 use Rattle.sheet.proofs.Reading.{gave-fault, gave-item, byte-early, byte-wrong-by, byte-fine}
 use Rattle.sheet.proofs.reader.literal_at.Statement.{statement}

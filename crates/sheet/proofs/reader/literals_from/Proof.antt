@@ -1,11 +1,7 @@
-use mathlib.Core.Path.{_≡_, refl, sym, ap, _∙_}
 use native.Mathlib.Omega.{arith}
 use borrow.Author.Needs.{needs}
-use Prim.Native.Nat.{ℕ, _-_, _<_}
-use mathlib.Core.List.{List}
+use Prim.Native.Nat.{_-_}
 use Rattle.sheet.specs.Literals.{noLiteral}
-use Rattle.sheet.specs.Form.{judged}
-use Rattle.sheet.specs.Format.{literalFault}
 use Rattle.sheet.proofs.Parts.{Ahead, ahead-none, ahead-more, ahead-fault, ahead-all, read-passed, literal-below}
 use Rattle.sheet.proofs.reader.literals_from.Statement.{statement}
 use Rattle.sheet.proofs.reader.literals_from.Tie as tie

@@ -1,7 +1,6 @@
 -- `sheet::reader::move_at` meets its contract. Assumes nothing.
 use borrow.Author.Needs.{needs}
 use Rattle.sheet.specs.Marks.{same, withEffects}
-use Rattle.sheet.specs.Form.{read}
 use Rattle.sheet.specs.Format.{action, listOf}
 use Rattle.sheet.specs.Decoded.{moveOf}
 use Rattle.sheet.proofs.Reading.{gave-stop, gave-on, gave-as, got-same}

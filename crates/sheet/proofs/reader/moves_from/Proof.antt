@@ -1,12 +1,10 @@
 -- `sheet::reader::moves_from` meets its contract. Assumes nothing.
-use mathlib.Core.Path.{refl}
 use native.Mathlib.Omega.{arith}
 use borrow.Author.Needs.{needs}
 use Prim.Native.Nat.{_-_}
 use Rattle.sheet.specs.Lists.{pad}
-use Rattle.sheet.specs.Literals.{noLiteral}
 use Rattle.sheet.specs.Format.{action}
-use Rattle.sheet.specs.Decoded.{noEffect, noMove, moveOf, movesOf}
+use Rattle.sheet.specs.Decoded.{noMove, moveOf, movesOf}
 use Rattle.sheet.proofs.Reading.{Taken, taken-none, taken-more, taken-fault, taken-all}
 use Rattle.sheet.proofs.reader.moves_from.Statement.{statement}
 use Rattle.sheet.proofs.reader.moves_from.Tie as tie

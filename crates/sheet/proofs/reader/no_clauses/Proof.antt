@@ -1,11 +1,11 @@
 -- `sheet::reader::no_clauses` meets its contract. Assumes nothing.
-use mathlib.Core.Path.{_≡_, ap}
+use mathlib.Core.Path.{ap}
 use borrow.Author.Needs.{needs}
 use lib.ListN.{replicate}
 use Rattle.sheet.specs.declared.Clauses.{Clauses}
 use Rattle.sheet.specs.declared.Sets.{Sets}
 use Rattle.sheet.specs.Lists.{pad}
-use Rattle.sheet.specs.Decoded.{setsOf, clausesOf}
+use Rattle.sheet.specs.Decoded.{clausesOf}
 use Rattle.sheet.proofs.reader.no_clauses.Statement.{statement}
 use Rattle.sheet.proofs.reader.no_clauses.Tie as tie
 

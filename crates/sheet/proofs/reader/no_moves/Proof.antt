@@ -1,11 +1,11 @@
 -- `sheet::reader::no_moves` meets its contract. Assumes nothing.
-use mathlib.Core.Path.{_≡_, ap}
+use mathlib.Core.Path.{ap}
 use borrow.Author.Needs.{needs}
 use lib.ListN.{replicate}
 use Rattle.sheet.specs.declared.Moves.{Moves}
 use Rattle.sheet.specs.declared.Move.{Move}
 use Rattle.sheet.specs.Lists.{pad}
-use Rattle.sheet.specs.Decoded.{noMove, movesOf}
+use Rattle.sheet.specs.Decoded.{movesOf}
 use Rattle.sheet.proofs.reader.no_moves.Statement.{statement}
 use Rattle.sheet.proofs.reader.no_moves.Tie as tie
 

@@ -1,5 +1,4 @@
 -- `sheet::reader::refused` meets its contract. Assumes nothing.
-use mathlib.Core.Path.{refl}
 use borrow.Author.Needs.{needs}
 use Rattle.sheet.specs.Literals.{noLiteral}
 use Rattle.sheet.specs.Decoded.{slots, noSheet}

@@ -5,7 +5,7 @@ use native.Mathlib.Omega.{arith}
 use lib.ListN.{replicate}
 use Rattle.table.specs.Picture.{primes}
 use Rattle.table.specs.Slots.{entriesOf}
-use Rattle.table.proofs.Joining.{fresh}
+use Rattle.table.proofs.Pads.{fresh}
 use Rattle.table.proofs.Folding.{Folds, folds-start, folds-on, folds-full, folds-end}
 use borrow.Author.Needs.{needs}
 use Rattle.table.proofs.clauses.clauses_of.Statement.{statement}

@@ -1,7 +1,6 @@
 -- `clauses::fold` meets its contract. Assumes nothing.
 use native.Mathlib.Omega.{arith}
-use Rattle.table.proofs.Pads.{holds-trues-long, holds-falses-long}
-use Rattle.table.proofs.Joining.{fresh}
+use Rattle.table.proofs.Pads.{holds-trues-long, holds-falses-long, fresh}
 use Rattle.table.proofs.Folding.{folded}
 use borrow.Author.Needs.{needs}
 use Rattle.table.proofs.clauses.fold.Statement.{statement}

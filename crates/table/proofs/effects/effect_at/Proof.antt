@@ -5,61 +5,24 @@ use Rattle.table.proofs.effects.effect_at.Statement.{statement}
 use Rattle.table.proofs.effects.effect_at.Tie as tie
 use Rattle.table.proofs.effects.effect_at.Reads as reads
 use Rattle.table.proofs.effects.effect_at.Lts as lts
+use Rattle.table.proofs.effects.set_from.Reads as set-from-reads
 
 mul-at : tie.Need-mul-at
 mul-at c = search needs
 
-mul-t4 : tie.Need-mul-t4
-mul-t4 c = search needs
+set-from-requires : tie.Need-set-from-requires
+set-from-requires c κs = search needs
 
-shared-slice-read-t6 : tie.Need-shared-slice-read-t6
-shared-slice-read-t6 c = search needs
+add-set-from : tie.Need-add-set-from
+add-set-from c = search needs
 
-add-t7 : tie.Need-add-t7
-add-t7 c = search needs
-
-mul-t8 : tie.Need-mul-t8
-mul-t8 c = search needs
-
-shared-slice-read-t10 : tie.Need-shared-slice-read-t10
-shared-slice-read-t10 c = search needs
-
-add-t12 : tie.Need-add-t12
-add-t12 c = search needs
-
-mul-t13 : tie.Need-mul-t13
-mul-t13 c = search needs
-
-shared-slice-read-t15 : tie.Need-shared-slice-read-t15
-shared-slice-read-t15 c = search needs
-
-add-t16 : tie.Need-add-t16
-add-t16 c = search needs
-
-mul-t17 : tie.Need-mul-t17
-mul-t17 c = search needs
-
-shared-slice-read-t19 : tie.Need-shared-slice-read-t19
-shared-slice-read-t19 c = search needs
+set-from-requires-2 : tie.Need-set-from-requires-2
+set-from-requires-2 c κs = search needs
 
 returns : tie.Need-returns
 unfolding effectAt
-returns c = search needs
+returns c = let a = c .before .set-from .ensures in let b = c .set-from2 .ensures in (λ k. record { condition = a k; result = b k })
 
 pub effect-at-spec : {M : Type 1} → statement M
 effect-at-spec =
-    tie.close
-    (tie.spec
-    mul-at
-    mul-t4
-    shared-slice-read-t6
-    add-t7
-    mul-t8
-    shared-slice-read-t10
-    add-t12
-    mul-t13
-    shared-slice-read-t15
-    add-t16
-    mul-t17
-    shared-slice-read-t19
-    returns)
+    tie.close (tie.spec mul-at set-from-requires add-set-from set-from-requires-2 returns)

@@ -3,7 +3,8 @@ use mathlib.Core.Path.{_≡_}
 use native.Mathlib.Omega.{arith}
 use lib.ListN.{length}
 use borrow.Author.Needs.{needs}
-use Rattle.table.proofs.Started.{no-entries, grown-full, grown-empty, grown-table}
+use Rattle.table.proofs.Pads.{fresh}
+use Rattle.table.proofs.Started.{grown-full, grown-empty, grown-table}
 use Rattle.table.proofs.first.grow.Statement.{statement}
 use Rattle.table.proofs.first.grow.Tie as tie
 
@@ -17,7 +18,7 @@ spread-requires : tie.Need-spread-requires
 spread-requires c κs =
     let t : length (c .before .before .before .before .before .before .before .args .t3 .trues) ≡ 128 = search needs in
     let f : length (c .before .before .before .before .before .before .before .args .t3 .falses) ≡ 128 = search needs in
-    (c .before .before .before .before .before .before .before .pre .0, ((omega arith, omega arith), no-entries))
+    (c .before .before .before .before .before .before .before .pre .0, ((omega arith, omega arith), fresh 128))
 
 enum-known-k : tie.Need-enum-known-k
 enum-known-k c = search needs

@@ -3,9 +3,8 @@ use mathlib.Core.Path.{_≡_, sym, _∙_}
 use Prim.Native.Nat.{_≤_, _-_}
 use native.Mathlib.Omega.{arith}
 use lib.ListN.{length}
-use lib.Seq.{getD-take, length-take-le}
+use lib.Seq.{length-take-le}
 use borrow.Author.Needs.{needs}
-use Rattle.sheet.specs.Literals.{noLiteral}
 use Rattle.sheet.proofs.Prefixes.{part-end, length-mapped}
 use Rattle.sheet.specs.Literals as L
 use Rattle.sheet.specs.Lists.{keep}
@@ -18,27 +17,18 @@ use Rattle.table.proofs.first.widen_oneof.Statement.{statement}
 use Rattle.table.proofs.first.widen_oneof.Tie as tie
 
 abbrev Inv-loop : tie.InvT-loop
-Inv-loop entry trues₀ falses₀ k alts count sum₀ i₀ trues falses sum i =
+Inv-loop alts entry trues₀ falses₀ k count sum₀ i₀ trues falses sum i =
     (i ≤ count)
     × Going (keep L.consistent (candidates (oneOf (setsIn alts)) entry)) k trues₀ falses₀ (keep L.consistent (waysFrom (setsIn alts) entry i)) sum trues falses
 
 abbrev μ-loop : tie.MeasureT-loop
-μ-loop entry trues₀ falses₀ k alts count sum₀ i₀ trues falses sum i = count - i
+μ-loop alts entry trues₀ falses₀ k count sum₀ i₀ trues falses sum i = count - i
 
 loop-holds : tie.Need-loop-holds Inv-loop μ-loop
 loop-holds c = (omega arith, going-start _ _ _ _ _ (ways-start _ _) (c .before .before .pre .1))
 
-mul-a : tie.Need-mul-a Inv-loop μ-loop
-mul-a c = search needs
-
-element-copy-out-a : tie.Need-element-copy-out-a Inv-loop μ-loop
-element-copy-out-a c = search needs
-
-join-requires : tie.Need-join-requires Inv-loop μ-loop
-join-requires c κs = search needs
-
-choose-requires : tie.Need-choose-requires Inv-loop μ-loop
-choose-requires c κs = (c .before .before .before .before .before .before .before .before .pre .0, held-own _ _ _ _ (c .before .before .before .before .before .loop .inv .1 .held))
+widen-one-requires : tie.Need-widen-one-requires Inv-loop μ-loop
+widen-one-requires c κs = ((c .before .before .before .before .before .before .pre .0, c .before .before .loop-test .taken), held-own _ _ _ _ (c .before .before .before .loop .inv .1 .held))
 
 enum-known-m : tie.Need-enum-known-m Inv-loop μ-loop
 enum-known-m c = search needs
@@ -47,20 +37,17 @@ enum-told : tie.Need-enum-told Inv-loop μ-loop
 enum-told c = search needs
 
 same-length : tie.Need-same-length Inv-loop μ-loop
-same-length c = c .before .before .before .before .before .before .choose .kept .1 .1 .1 .1 .0 ∙ holds-trues-long _ _ _ _ _ (c .before .before .before .before .before .before .before .before .before .before .before .before .loop .inv .1 .held)
+same-length c = c .before .before .before .before .before .before .widen-one .kept .1 .1 .1 .0 ∙ holds-trues-long _ _ _ _ _ (c .before .before .before .before .before .before .before .before .before .before .loop .inv .1 .held)
 
 same-length-2 : tie.Need-same-length-2 Inv-loop μ-loop
-same-length-2 c = c .before .before .before .before .before .before .choose .kept .1 .1 .1 .1 .1 .0 ∙ holds-falses-long _ _ _ _ _ (c .before .before .before .before .before .before .before .before .before .before .before .before .loop .inv .1 .held) ∙ sym (holds-falses-long _ _ _ _ _ (c .before .before .before .before .before .before .before .before .before .before .before .before .before .before .before .pre .1))
+same-length-2 c = c .before .before .before .before .before .before .widen-one .kept .1 .1 .1 .1 .0 ∙ holds-falses-long _ _ _ _ _ (c .before .before .before .before .before .before .before .before .before .before .loop .inv .1 .held) ∙ sym (holds-falses-long _ _ _ _ _ (c .before .before .before .before .before .before .before .before .before .before .before .before .before .pre .1))
 
 returns : tie.Need-returns Inv-loop μ-loop
-unfolding setsIn noLiteral
+unfolding setsIn
 returns c =
-    let s = c .before .before .before .before .before .before .before .before .before .before .before .before .before .before .before in
-    let n : length (s .args .t1 .items) ≡ 8 = search (needs, length-mapped) in
-    going-full _ _ _ _ _ _ _ _ _ _ _ _ _ (c .before .before .before .before .before .before .before .before .before .before .before .before .loop .inv .1)
-    (ways-step _ _ _ _ _ (omega (arith, length-take-le (s .args .t1 .count) (s .args .t1 .items) (omega arith)))
-    (getD-take (s .args .t1 .count) (s .args .t1 .items) (c .before .before .before .before .before .before .before .before .before .before .before .before .loop .i) noLiteral (omega arith)) (c .before .before .before .before .before .before .before .before .before .join .ensures))
-    (c .before .before .before .before .before .before .choose .ensures) (c .enum-told .given .1)
+    let s = c .before .before .before .before .before .before .before .before .before .before .before .before .before in
+    let n : length (s .args .alts .items) ≡ 8 = search (needs, length-mapped) in
+    going-full _ _ _ _ _ _ _ _ _ _ _ _ _ (c .before .before .before .before .before .before .before .before .before .before .loop .inv .1) (ways-step _ _ _ (omega (arith, length-take-le (s .args .alts .count) (s .args .alts .items) (omega arith)))) (c .before .before .before .before .before .before .widen-one .ensures) (c .enum-told .given .1)
 
 add-i : tie.Need-add-i Inv-loop μ-loop
 add-i c = search needs
@@ -69,16 +56,11 @@ loop-less : tie.Need-loop-less Inv-loop μ-loop
 loop-less c = search needs
 
 loop-again : tie.Need-loop-again Inv-loop μ-loop
-unfolding setsIn noLiteral
+unfolding setsIn
 loop-again c =
-    let s = c .before .before .before .before .before .before .before .before .before .before .before .before .before .before .before .before in
-    let n : length (s .args .t1 .items) ≡ 8 = search (needs, length-mapped) in (
-      omega arith,
-      going-on _ _ _ _ _ _ _ _ _ _ _ _ _ (c .before .before .before .before .before .before .before .before .before .before .before .before .before .loop .inv .1)
-          (ways-step _ _ _ _ _ (omega (arith, length-take-le (s .args .t1 .count) (s .args .t1 .items) (omega arith)))
-          (getD-take (s .args .t1 .count) (s .args .t1 .items) (c .before .before .before .before .before .before .before .before .before .before .before .before .before .loop .i) noLiteral (omega arith)) (c .before .before .before .before .before .before .before .before .before .before .join .ensures))
-          (c .before .before .before .before .before .before .before .choose .ensures) _ (c .before .m .given .1),
-    )
+    let s = c .before .before .before .before .before .before .before .before .before .before .before .before .before .before in
+    let n : length (s .args .alts .items) ≡ 8 = search (needs, length-mapped) in
+    (omega arith, going-on _ _ _ _ _ _ _ _ _ _ _ _ _ (c .before .before .before .before .before .before .before .before .before .before .before .loop .inv .1) (ways-step _ _ _ (omega (arith, length-take-le (s .args .alts .count) (s .args .alts .items) (omega arith)))) (c .before .before .before .before .before .before .before .widen-one .ensures) _ (c .before .m .given .1))
 
 same-length-3 : tie.Need-same-length-3 Inv-loop μ-loop
 same-length-3 c = holds-trues-long _ _ _ _ _ (c .before .loop .inv .1 .held)
@@ -90,8 +72,8 @@ returns-2 : tie.Need-returns-2 Inv-loop μ-loop
 unfolding setsIn
 returns-2 c =
     let s = c .before .before .before .before in
-    let n : length (s .args .t1 .items) ≡ 8 = search (needs, length-mapped) in
-    going-end _ _ _ _ _ _ _ _ (c .before .loop .inv .1) (ways-end _ _ _ (part-end (s .args .t1 .count) (s .args .t1 .items) (c .before .loop .i) (omega arith) (omega arith)))
+    let n : length (s .args .alts .items) ≡ 8 = search (needs, length-mapped) in
+    going-end _ _ _ _ _ _ _ _ (c .before .loop .inv .1) (ways-end _ _ _ (part-end (s .args .alts .count) (s .args .alts .items) (c .before .loop .i) (omega arith) (omega arith)))
 
 pub widen-oneof-spec : {M : Type 1} → statement M
 widen-oneof-spec =
@@ -100,10 +82,7 @@ widen-oneof-spec =
     Inv-loop
     μ-loop
     loop-holds
-    mul-a
-    element-copy-out-a
-    join-requires
-    choose-requires
+    widen-one-requires
     enum-known-m
     enum-told
     same-length

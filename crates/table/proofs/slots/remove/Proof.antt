@@ -1,14 +1,18 @@
 -- `slots::remove` meets its contract. The invariant: the slots below i are done. Assumes nothing.
-use mathlib.Core.Path.{_≡_, sym, ap, _∙_}
+use mathlib.Core.Path.{sym, ap, subst, _∙_}
 use mathlib.Core.Bool.{not}
+use mathlib.Core.List.{List}
 use mathlib.Core.Logic.{⊎-elim}
 use Prim.Native.Nat.{_-_}
 use native.Mathlib.Omega.{arith}
 use lib.ListN.{length, length-set}
 use borrow.Author.Needs.{needs}
+use borrow.Author.Tests.{not-true}
+use Rattle.sheet.specs.declared.Literals.{Literals}
 use Rattle.sheet.specs.Literals.{within}
+use Rattle.table.specs.Slots.{Holds}
 use Rattle.table.proofs.Pads.{holds-falses-long}
-use Rattle.table.proofs.Compact.{Moved, moved-is, moved-from, moved-gone, moved-kept, moved-end}
+use Rattle.table.proofs.Compact.{none-goes, Moved, moved-is, moved-start, moved-gone, moved-kept, moved-end}
 use Rattle.table.proofs.slots.remove.Statement.{statement}
 use Rattle.table.proofs.slots.remove.Tie as tie
 
@@ -18,25 +22,39 @@ Inv-loop trues₀ falses₀ n l i₀ k₀ trues falses i k = Moved (λ e. not (w
 abbrev μ-loop : tie.MeasureT-loop
 μ-loop trues₀ falses₀ n l i₀ k₀ trues falses i k = n - i
 
-first-above-requires : tie.Need-first-above-requires Inv-loop μ-loop
-first-above-requires c κs =
-    let q : length (c .before .before .before .before .args .falses .now) ≡ length (c .before .before .before .before .args .trues .now) = holds-falses-long _ _ _ _ _ (c .before .before .before .before .pre) in
-    (c .before .before .before .before .pre .room, omega (arith, c .before .before .before .before .pre .room))
+some-above-requires : tie.Need-some-above-requires Inv-loop μ-loop
+some-above-requires c κs =
+    let h = c .before .before .before .before .pre in
+    let q = holds-falses-long _ _ _ _ _ h in
+    (h .room, omega (arith, h .room))
+
+same-length : tie.Need-same-length Inv-loop μ-loop
+same-length c = search needs
+
+same-length-2 : tie.Need-same-length-2 Inv-loop μ-loop
+same-length-2 c = search needs
+
+returns : tie.Need-returns Inv-loop μ-loop
+returns c =
+    let o = c .before .before .before .before .before .before in
+    let a = o .args in
+    subst (λ (x : List Literals). Holds (length (a .trues .now)) x (a .n) (a .trues .now) (a .falses .now))
+    (sym (none-goes (λ e. within (a .l) e) _ (sym (c .before .some-above .ensures) ∙ not-true _ (c .if1 .taken)))) (o .pre)
 
 loop-holds : tie.Need-loop-holds Inv-loop μ-loop
-loop-holds c = moved-from _ _ _ _ (c .before .before .before .before .before .pre) _ (c .first-above .ensures .0) (c .first-above .ensures .1)
+loop-holds c = moved-start _ _ _ _ (c .before .before .before .before .before .before .pre)
 
-mul-t13 : tie.Need-mul-t13 Inv-loop μ-loop
-mul-t13 c = omega arith
+mul-t15 : tie.Need-mul-t15 Inv-loop μ-loop
+mul-t15 c = omega arith
 
-slice-read-t15 : tie.Need-slice-read-t15 Inv-loop μ-loop
-slice-read-t15 c = omega arith
+slice-read-t17 : tie.Need-slice-read-t17 Inv-loop μ-loop
+slice-read-t17 c = omega arith
 
-mul-t16 : tie.Need-mul-t16 Inv-loop μ-loop
-mul-t16 c = omega arith
+mul-t18 : tie.Need-mul-t18 Inv-loop μ-loop
+mul-t18 c = omega arith
 
-slice-read-t18 : tie.Need-slice-read-t18 Inv-loop μ-loop
-slice-read-t18 c = omega arith
+slice-read-t20 : tie.Need-slice-read-t20 Inv-loop μ-loop
+slice-read-t20 c = omega arith
 
 mul-trues : tie.Need-mul-trues Inv-loop μ-loop
 mul-trues c = omega arith
@@ -76,20 +94,22 @@ loop-less c = omega arith
 
 loop-again : tie.Need-loop-again Inv-loop μ-loop
 loop-again c =
+    let h = c .before .before .before .before .before .before .before .before .before .before .before .before .pre in
+    let g = c .before .before .before .before .before .loop .inv in
     let w = c .before .within .ensures in
     ⊎-elim
-    (λ v. moved-is _ _ _ _ _ _ _ _ _ _ _ (v .1) (v .2) (v .3) (moved-kept _ _ _ _ (c .before .before .before .before .before .before .before .before .before .before .before .pre) _ _ _ _ (c .before .before .before .before .before .loop .inv) (omega arith) (ap not (sym w) ∙ v .0 .taken)))
-    (λ v. moved-is _ _ _ _ _ _ _ _ _ _ _ (v .1) (v .2) (v .3) (moved-gone _ _ _ _ (c .before .before .before .before .before .before .before .before .before .before .before .pre) _ _ _ _ (c .before .before .before .before .before .loop .inv) (omega arith) (ap not (sym w) ∙ v .0 .left)))
-    (c .if1 .came)
+    (λ v. moved-is _ _ _ _ _ _ _ _ _ _ _ (v .1) (v .2) (v .3) (moved-kept _ _ _ _ h _ _ _ _ g (omega arith) (ap not (sym w) ∙ v .0 .taken)))
+    (λ v. moved-is _ _ _ _ _ _ _ _ _ _ _ (v .1) (v .2) (v .3) (moved-gone _ _ _ _ h _ _ _ _ g (omega arith) (ap not (sym w) ∙ v .0 .left)))
+    (c .if2 .came)
 
-same-length : tie.Need-same-length Inv-loop μ-loop
-same-length c = c .before .loop .inv .trues-long
+same-length-3 : tie.Need-same-length-3 Inv-loop μ-loop
+same-length-3 c = c .before .loop .inv .trues-long
 
-same-length-2 : tie.Need-same-length-2 Inv-loop μ-loop
-same-length-2 c = c .before .loop .inv .falses-long ∙ sym (holds-falses-long _ _ _ _ _ (c .before .before .before .before .before .before .before .pre))
+same-length-4 : tie.Need-same-length-4 Inv-loop μ-loop
+same-length-4 c = c .before .loop .inv .falses-long ∙ sym (holds-falses-long _ _ _ _ _ (c .before .before .before .before .before .before .before .before .pre))
 
-returns : tie.Need-returns Inv-loop μ-loop
-returns c = moved-end _ _ _ _ (c .before .before .before .before .before .before .before .pre) _ _ _ _ (c .before .loop .inv) (c .loop-test .left)
+returns-2 : tie.Need-returns-2 Inv-loop μ-loop
+returns-2 c = moved-end _ _ _ _ (c .before .before .before .before .before .before .before .before .pre) _ _ _ _ (c .before .loop .inv) (c .loop-test .left)
 
 pub remove-spec : {M : Type 1} → statement M
 remove-spec =
@@ -97,12 +117,15 @@ remove-spec =
     (tie.spec
     Inv-loop
     μ-loop
-    first-above-requires
+    some-above-requires
+    same-length
+    same-length-2
+    returns
     loop-holds
-    mul-t13
-    slice-read-t15
-    mul-t16
-    slice-read-t18
+    mul-t15
+    slice-read-t17
+    mul-t18
+    slice-read-t20
     mul-trues
     slice-write-trues
     mul-falses
@@ -116,6 +139,6 @@ remove-spec =
     add-i
     loop-less
     loop-again
-    same-length
-    same-length-2
-    returns)
+    same-length-3
+    same-length-4
+    returns-2)

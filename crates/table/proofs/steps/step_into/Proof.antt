@@ -1,46 +1,31 @@
 -- `table::steps::step_into` meets its contract. Assumes nothing.
-use mathlib.Core.Path.{_≡_, sym, _∙_}
-use native.Mathlib.Omega.{arith}
+use mathlib.Core.Path.{sym, _∙_}
 use borrow.Author.Needs.{needs}
 use borrow.Author.Tests.{not-true, not-false}
-use lib.ListN.{length}
-use Rattle.table.proofs.Advancing.{fresh-held, lent-unsure, lent-unclear, lent-full, lent-to}
+use Rattle.table.specs.Moves.{actionBy}
+use Rattle.table.proofs.Advancing.{fresh-held, lent-steady, lent-unsure, lent-unclear, lent-full, lent-to}
 use Rattle.table.proofs.steps.step_into.Statement.{statement}
 use Rattle.table.proofs.steps.step_into.Tie as tie
+use Rattle.table.proofs.steps.step_into.Reads as reads
+use Rattle.table.proofs.steps.step_into.Lts as lts
+use Rattle.table.proofs.steps.spread.Reads as spread-reads
+use Rattle.table.proofs.steps.sure.Reads as sure-reads
+use Rattle.table.proofs.steps.unclear.Reads as unclear-reads
 
 sure-requires : tie.Need-sure-requires
 sure-requires c κs = search needs
 
 returns : tie.Need-returns
-returns c =
-    let o = c .before .before .before .before .before .before .before in
-    lent-unsure (o .args .mv) (o .args .n) (o .args .ts .now) (o .args .fs .now) (o .pre .0) (sym (c .before .sure .ensures) ∙ not-true _ (c .if1 .taken))
-
-slice-aggregate-lay : tie.Need-slice-aggregate-lay
-slice-aggregate-lay c = search needs
-
-lay-requires : tie.Need-lay-requires
-lay-requires c κs = search needs
-
-slice-aggregate-unclear : tie.Need-slice-aggregate-unclear
-slice-aggregate-unclear c = search needs
+returns c = let o = c .before .before .before .before .before .before .before in lent-unsure (actionBy (o .args .precondition) (o .args .size) (o .args .effects .now)) (o .args .n) (o .args .ts .now) (o .args .fs .now) (o .pre .1 .0) (sym (c .before .sure .ensures) ∙ not-true _ (c .if1 .taken))
 
 unclear-requires : tie.Need-unclear-requires
 unclear-requires c κs = search needs
 
 returns-2 : tie.Need-returns-2
-returns-2 c =
-    let o = c .before .before .before .before .before .before .before .before .before .before .before .before .before in
-    lent-unclear (o .args .mv) (o .args .n) (o .args .ts .now) (o .args .fs .now) (o .pre .0) (sym (c .before .before .before .before .before .before .before .sure .ensures) ∙ not-false _ (c .before .before .before .before .before .before .if1 .left)) _ (c .before .before .before .before .lay .ensures) (sym (c .before .unclear .ensures) ∙ c .if2 .taken)
-
-slice-aggregate-spread : tie.Need-slice-aggregate-spread
-slice-aggregate-spread c = search needs
+returns-2 c = let o = c .before .before .before .before .before .before .before .before .before in lent-unclear (actionBy (o .args .precondition) (o .args .size) (o .args .effects .now)) (o .args .n) (o .args .ts .now) (o .args .fs .now) (o .pre .1 .0) (sym (c .before .before .before .sure .ensures) ∙ not-false _ (c .before .before .if1 .left)) (sym (c .before .unclear .ensures) ∙ c .if2 .taken)
 
 spread-requires : tie.Need-spread-requires
-spread-requires c κs =
-    let o = c .before .before .before .before .before .before .before .before .before .before .before .before .before .before .before .before in
-    let w : length (c .before .before .before .before .before .before .before .lay .last .1 .0) ≡ 32 = c .before .before .before .before .before .before .before .lay .kept .1 .0 in
-    (omega (arith, o .pre .0 .effects-most), (o .pre .1 .0, fresh-held _ _ (o .pre .1 .1 .0) (o .pre .1 .1 .1)))
+spread-requires c κs = let o = c .before .before .before .before .before .before .before .before .before .before .before in (o .pre .0, (o .pre .1 .1 .0, (lent-steady _ _ _ _ (o .pre .1 .0), fresh-held _ _ (o .pre .1 .1 .1 .0) (o .pre .1 .1 .1 .1))))
 
 enum-known-k : tie.Need-enum-known-k
 enum-known-k c = search needs
@@ -56,9 +41,8 @@ same-length-2 c = search needs
 
 returns-3 : tie.Need-returns-3
 returns-3 c =
-    let o = c .before .before .before .before .before .before .before .before .before .before .before .before .before .before .before .before .before .before .before .before .before .before .before .before in
-    lent-to (o .args .mv) (o .args .n) (o .args .ts .now) (o .args .fs .now) (o .pre .0) (sym (c .before .before .before .before .before .before .before .before .before .before .before .before .before .before .before .before .before .before .sure .ensures) ∙ not-false _ (c .before .before .before .before .before .before .before .before .before .before .before .before .before .before .before .before .before .if1 .left)) _ (c .before .before .before .before .before .before .before .before .before .before .before .before .before .before .before .lay .ensures) (sym (c .before .before .before .before .before .before .before .before .before .before .before .before .unclear .ensures) ∙ c .before .before .before .before .before .before .before .before .before .before .before .if2 .left)
-    _ _ (o .pre .1 .1 .0) (o .pre .1 .1 .1) _ _ _ (c .before .before .before .before .before .before .before .spread .ensures) _ (c .before .k .given .1)
+    let o = c .before .before .before .before .before .before .before .before .before .before .before .before .before .before .before .before .before .before .before in
+    lent-to (actionBy (o .args .precondition) (o .args .size) (o .args .effects .now)) (o .args .n) (o .args .ts .now) (o .args .fs .now) (o .pre .1 .0) (sym (c .before .before .before .before .before .before .before .before .before .before .before .before .before .sure .ensures) ∙ not-false _ (c .before .before .before .before .before .before .before .before .before .before .before .before .if1 .left)) (sym (c .before .before .before .before .before .before .before .before .before .before .before .unclear .ensures) ∙ c .before .before .before .before .before .before .before .before .before .before .if2 .left) _ _ (o .pre .1 .1 .1 .0) (o .pre .1 .1 .1 .1) _ _ _ (c .before .before .before .before .before .before .before .spread .ensures) _ (c .before .k .given .1)
 
 same-length-3 : tie.Need-same-length-3
 same-length-3 c = search needs
@@ -68,9 +52,8 @@ same-length-4 c = search needs
 
 returns-4 : tie.Need-returns-4
 returns-4 c =
-    let o = c .before .before .before .before .before .before .before .before .before .before .before .before .before .before .before .before .before .before .before .before .before .before .before in
-    lent-full (o .args .mv) (o .args .n) (o .args .ts .now) (o .args .fs .now) (o .pre .0) (sym (c .before .before .before .before .before .before .before .before .before .before .before .before .before .before .before .before .before .sure .ensures) ∙ not-false _ (c .before .before .before .before .before .before .before .before .before .before .before .before .before .before .before .before .if1 .left)) _ (c .before .before .before .before .before .before .before .before .before .before .before .before .before .before .lay .ensures) (sym (c .before .before .before .before .before .before .before .before .before .before .before .unclear .ensures) ∙ c .before .before .before .before .before .before .before .before .before .before .if2 .left)
-    _ _ (o .pre .1 .1 .0) (o .pre .1 .1 .1) _ _ _ (c .before .before .before .before .before .before .spread .ensures) (c .enum-told .given .1)
+    let o = c .before .before .before .before .before .before .before .before .before .before .before .before .before .before .before .before .before .before in
+    lent-full (actionBy (o .args .precondition) (o .args .size) (o .args .effects .now)) (o .args .n) (o .args .ts .now) (o .args .fs .now) (o .pre .1 .0) (sym (c .before .before .before .before .before .before .before .before .before .before .before .before .sure .ensures) ∙ not-false _ (c .before .before .before .before .before .before .before .before .before .before .before .if1 .left)) (sym (c .before .before .before .before .before .before .before .before .before .before .unclear .ensures) ∙ c .before .before .before .before .before .before .before .before .before .if2 .left) _ _ (o .pre .1 .1 .1 .0) (o .pre .1 .1 .1 .1) _ _ _ (c .before .before .before .before .before .before .spread .ensures) (c .enum-told .given .1)
 
 pub step-into-spec : {M : Type 1} → statement M
 step-into-spec =
@@ -78,12 +61,8 @@ step-into-spec =
     (tie.spec
     sure-requires
     returns
-    slice-aggregate-lay
-    lay-requires
-    slice-aggregate-unclear
     unclear-requires
     returns-2
-    slice-aggregate-spread
     spread-requires
     enum-known-k
     enum-told

@@ -1,22 +1,19 @@
 -- `table::tables::described` meets its contract: the tests in their order. Assumes nothing.
 use Prim.Native.Nat.{ℕ, _≤_, _<_}
-use mathlib.Core.Path.{_≡_, sym, ap, _∙_}
-use mathlib.Core.Bool.{Bool, true, false, _&&_}
+use mathlib.Core.Path.{_≡_, sym, _∙_}
+use mathlib.Core.Bool.{true, false}
 use mathlib.Core.List.{List}
 use borrow.Author.Needs.{needs}
 use borrow.Author.Tests.{le-leb, lt-leb, not-true, not-false}
 use lib.Dec.{leb}
 use lib.ListN.{length}
 use Rattle.sheet.specs.Lists.{allOf}
-use Rattle.sheet.proofs.Bools.{kept}
+use Rattle.sheet.proofs.Bools.{kept, and-no}
 use Rattle.table.specs.Minimal.{described, proper, antichain}
 use Rattle.table.specs.Slots.{entriesOf}
 use Rattle.table.proofs.Pads.{length-entriesOf}
 use Rattle.table.proofs.tables.described.Statement.{statement}
 use Rattle.table.proofs.tables.described.Tie as tie
-
-no : {p : Bool} (q : Bool) → p ≡ false → false ≡ (p && q)
-no q e = sym (ap (λ (b : Bool). b && q) e)
 
 module _ (n count : ℕ) (ts fs : List ℕ) where
   some-entry : 1 ≤ count → leb 1 (length (entriesOf count ts fs)) ≡ true
@@ -27,15 +24,15 @@ module _ (n count : ℕ) (ts fs : List ℕ) where
 
   empty : count < 1 → false ≡ described 128 n (entriesOf count ts fs)
   unfolding described
-  empty h = no _ (lt-leb 1 (length (entriesOf count ts fs)) (rw length-entriesOf h))
+  empty h = and-no _ (lt-leb 1 (length (entriesOf count ts fs)) (rw length-entriesOf h))
 
   long : 1 ≤ count → 128 < count → false ≡ described 128 n (entriesOf count ts fs)
   unfolding described
-  long l h = no _ (lt-leb (length (entriesOf count ts fs)) 128 (rw length-entriesOf h)) ∙ kept _ (some-entry l)
+  long l h = and-no _ (lt-leb (length (entriesOf count ts fs)) 128 (rw length-entriesOf h)) ∙ kept _ (some-entry l)
 
   improper : 1 ≤ count → count ≤ 128 → allOf (proper n) (entriesOf count ts fs) ≡ false → false ≡ described 128 n (entriesOf count ts fs)
   unfolding described
-  improper l h e = no _ e ∙ kept _ (few-entries h) ∙ kept _ (some-entry l)
+  improper l h e = and-no _ e ∙ kept _ (few-entries h) ∙ kept _ (some-entry l)
 
   last-test : 1 ≤ count → count ≤ 128 → allOf (proper n) (entriesOf count ts fs) ≡ true
       → antichain (entriesOf count ts fs) ≡ described 128 n (entriesOf count ts fs)

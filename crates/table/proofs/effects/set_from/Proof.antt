@@ -1,9 +1,10 @@
--- `plan::packed::set_at` meets its contract. Assumes nothing.
-use mathlib.Core.Path.{refl}
-use Rattle.plan.specs.Packed.{setAt}
+-- `table::effects::set_from` meets its contract. Assumes nothing.
+use Rattle.table.specs.Moves.{setFrom}
 use borrow.Author.Needs.{needs}
-use Rattle.plan.proofs.packed.set_at.Statement.{statement}
-use Rattle.plan.proofs.packed.set_at.Tie as tie
+use Rattle.table.proofs.effects.set_from.Statement.{statement}
+use Rattle.table.proofs.effects.set_from.Tie as tie
+use Rattle.table.proofs.effects.set_from.Reads as reads
+use Rattle.table.proofs.effects.set_from.Lts as lts
 
 mul-t3 : tie.Need-mul-t3
 mul-t3 c = search needs
@@ -21,9 +22,9 @@ shared-slice-read-t9 : tie.Need-shared-slice-read-t9
 shared-slice-read-t9 c = search needs
 
 returns : tie.Need-returns
-unfolding setAt
-returns c = refl
+unfolding setFrom
+returns c = search needs
 
-pub set-at-spec : {M : Type 1} → statement M
-set-at-spec =
+pub set-from-spec : {M : Type 1} → statement M
+set-from-spec =
     tie.close (tie.spec mul-t3 shared-slice-read-t5 add-t6 mul-t7 shared-slice-read-t9 returns)
