@@ -27,8 +27,8 @@
  * What the caller sees to, since C has no types for it: each pointer is to at least as many elements as the length after it says, is not
  * null and is aligned, even where that length is 0; and no slice that is written overlaps another one.
  *
- * The functions keep nothing and allocate nothing: they work on the stack alone (measured, not proved: less than 48 KiB on the sheets of
- * the tests), and call only memcpy and memset. */
+ * The functions keep nothing and allocate nothing: they work on the stack alone (KREPUSKILO_STACK_* below), and call only memcpy and
+ * memset. */
 #ifndef KREPUSKILO_H
 #define KREPUSKILO_H
 
@@ -56,6 +56,15 @@ extern "C" {
 
 /* The clauses in a row whose picture is full. */
 #define KREPUSKILO_FULL_PICTURE 257
+
+/* The stack that each call takes, in bytes, the frames of all that it calls among it. Measured, not proved, and rounded up to a kibibyte:
+ * tests/stack.c runs the calls on sheets that take them as deep as they go, built for x86-64 as `rt staticlib unit` does. */
+#define KREPUSKILO_STACK_JUDGE 24576
+#define KREPUSKILO_STACK_START 28672
+#define KREPUSKILO_STACK_STEP 32768
+#define KREPUSKILO_STACK_PICTURE 31744
+#define KREPUSKILO_STACK_RUN 37888
+#define KREPUSKILO_STACK_SEARCH 47104
 
 /* Judges a sheet. Answers 0, or 1 to 7 with the position of the first fault. */
 uint8_t krepuskilo_judge(const uint8_t *sheet, size_t sheet_len, uint64_t *info, size_t info_len);

@@ -8,7 +8,7 @@ other line is bytes in hexadecimal, the first of them says what to do:
               of all slots), and the rows written (how many, and a digest of their entries and clauses)
   03          the run with 65 rows: the verdict, the table, and a digest of all 65 rows, zeros in those that are not written
   04 LIMIT    the search with this limit (8 bytes): how it ends, the length of the plan and a digest of its eight bytes
-  05 TIMES, 06 LIMIT TIMES   as 03 and 04, made so many times over (4 bytes): for the benchmark
+  05 TIMES, 06 LIMIT TIMES   as 03 and 04, made so many times over (4 bytes): to time them
 Beside it, for n up to 10, every world is stepped alone.
 """
 
@@ -17,7 +17,7 @@ from pathlib import Path
 import random
 
 import planner as p
-from tables import PAPER, digest, no, random_sheet, sheet, yes
+from tables import PAPER, Lines, digest, no, random_sheet, sheet, yes
 
 OUTSIDE = Path(__file__).resolve().parent / "outside"
 
@@ -104,16 +104,10 @@ def search_worlds(sheet, limit):
     return plan if answer else None
 
 
-class Bench:
+class Bench(Lines):
     def __init__(self, crate):
-        self.crate, self.data, self.lines_in, self.lines_out, self.calls = crate, b"", [], [], 0
-
-    def heading(self, text):
-        self.lines_in.append("# " + text)
-        self.lines_out.append("# " + text)
-
-    def line(self, data):
-        self.lines_in.append(" ".join("%02x" % b for b in data))
+        super().__init__()
+        self.crate, self.data, self.calls = crate, b"", 0
 
     def sheet(self, data):
         self.data = data
@@ -178,9 +172,7 @@ class Bench:
         self.lines_in[-1] = " ".join("%02x" % b for b in line + (3).to_bytes(4, "big"))
 
     def write(self):
-        folder = Path(__file__).resolve().parents[2] / "crates" / self.crate
-        (folder / "stdin").write_text("\n".join(self.lines_in) + "\n")
-        (folder / "stdout").write_text("\n".join(self.lines_out) + "\n")
+        self.save(self.crate)
         print(self.crate + ":", self.calls, "calls")
 
 

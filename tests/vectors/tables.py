@@ -7,7 +7,7 @@ hexadecimal, the first of them says what to do:
   02 NUMBER         step the current table by the move of this number (8 bytes, high byte first), and go on with what comes back
   03 COUNT MASKS    the current table: its count (8 bytes), then pairs of masks (4 bytes each) for the first slots, zeros in the others
   04 LENGTH         the picture of the current table in a buffer of LENGTH bytes (2 bytes), each 170 before the call
-  05 NUMBER TIMES, 06 TIMES, 07 LENGTH TIMES   as 02, 01 and 04, made so many times over (4 bytes): for the benchmark
+  05 NUMBER TIMES, 06 TIMES, 07 LENGTH TIMES   as 02, 01 and 04, made so many times over (4 bytes): to time them
 What is due: the answer; for 01 and 02 the count and a digest of all slots of the table that comes back, and, for n up to 10, the number
 of worlds that it stands for; for 04 the number of clauses and a digest of the buffer.
 """
@@ -26,11 +26,10 @@ def digest(numbers):
     return value
 
 
-class Bench:
-    """The cases in order, with the state that a program has, and the worlds stepped one by one beside it."""
+class Lines:
+    """The input of a program line by line, and what is due."""
 
     def __init__(self):
-        self.data, self.slots, self.count, self.worlds = b"", [0] * 256, 0, None
         self.lines_in, self.lines_out = [], []
 
     def heading(self, text):
@@ -39,6 +38,20 @@ class Bench:
 
     def line(self, data):
         self.lines_in.append(" ".join("%02x" % b for b in data))
+
+    def save(self, crate):
+        """The crate's stdin and stdout."""
+        folder = Path(__file__).resolve().parents[2] / "crates" / crate
+        (folder / "stdin").write_text("\n".join(self.lines_in) + "\n")
+        (folder / "stdout").write_text("\n".join(self.lines_out) + "\n")
+
+
+class Bench(Lines):
+    """The cases in order, with the state that a program has, and the worlds stepped one by one beside it."""
+
+    def __init__(self):
+        super().__init__()
+        self.data, self.slots, self.count, self.worlds = b"", [0] * 256, 0, None
 
     def out(self, text):
         self.lines_out.append(text)
@@ -141,9 +154,7 @@ class Bench:
 
     def write(self, crate):
         """The crate's stdin and stdout, and a line on what is in them."""
-        folder = Path(__file__).resolve().parents[2] / "crates" / crate
-        (folder / "stdin").write_text("\n".join(self.lines_in) + "\n")
-        (folder / "stdout").write_text("\n".join(self.lines_out) + "\n")
+        self.save(crate)
         answers = [line for line in self.lines_out if line == "accepted" or line.startswith("refused")]
         kinds = ["accepted"] + ["refused %d " % k for k in (1, 7, 20, 21, 22, 23, 24, 25)]
         print(crate + ":", len(answers), "calls,", {kind: sum(a.startswith(kind) for a in answers) for kind in kinds})
