@@ -1,0 +1,63 @@
+//! The step of a table by a move.
+
+use super::lists::{Full, Table, View};
+use super::masks::{clash, consistent, contains, flip, join, literal, next, replace, within, Literals, NONE};
+use super::sheet::{Effect, Fault, Move};
+
+/// The results of e and f clash, and d admits both conditions.
+fn opposed(e: &Effect, d: Literals, f: &Effect) -> bool {
+    clash(e.result, f.result) && consistent(join(d, join(e.condition, f.condition)))
+}
+
+/// Two effects are opposed in d (25).
+fn contradicts(effects: &[Effect], d: Literals) -> bool {
+    for (i, e) in effects.iter().enumerate() {
+        if effects[i + 1..].iter().any(|f| opposed(e, d, f)) {
+            return true;
+        }
+    }
+    false
+}
+
+/// The pieces of `piece` by the conditions from `at` on, depth first, the image of each put in its turn; `results` are those of the effects
+/// before `at`.
+fn branch(effects: &[Effect], at: usize, piece: Literals, results: Literals, to: &mut Table) -> Result<(), Full> {
+    let mut sum = results;
+    for (i, e) in effects.iter().enumerate().skip(at) {
+        if within(e.condition, piece) {
+            sum = join(e.result, sum);
+        } else if !clash(e.condition, piece) {
+            return split(effects, i, piece, sum, to);
+        }
+    }
+    to.put(replace(piece, sum))
+}
+
+/// The same where the condition at `at` splits the piece.
+fn split(effects: &[Effect], at: usize, piece: Literals, results: Literals, to: &mut Table) -> Result<(), Full> {
+    let Effect { condition, result } = effects[at];
+    branch(effects, at + 1, join(piece, condition), join(result, results), to)?;
+    let mut l = next(condition, 0);
+    while l < 64 {
+        if !contains(piece, l) {
+            branch(effects, at + 1, join(piece, flip(literal(l))), results, to)?;
+        }
+        l = next(condition, l + 1);
+    }
+    Ok(())
+}
+
+/// The step, into an empty table: 24, 25, then 21.
+pub fn step(m: &Move, from: View, to: &mut Table) -> Result<(), Fault> {
+    if !from.iter().all(|e| within(m.precondition, e)) {
+        return Err(Fault(24, 0));
+    }
+    let effects = m.effects();
+    if from.iter().any(|e| contradicts(effects, e)) {
+        return Err(Fault(25, 0));
+    }
+    for e in from.iter() {
+        branch(effects, 0, e, NONE, to).map_err(|_| Fault(21, 0))?;
+    }
+    Ok(())
+}
