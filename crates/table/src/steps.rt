@@ -198,7 +198,8 @@ pub(crate) fn lacking(a: Literals, b: Literals) -> Literals
     }
 }
 
-// The pieces of `piece` by the conditions from `at` on, the first of which splits it, each put in its turn: part 0, then a part for each literal that is missing.
+// The pieces of `piece` by the conditions from `at` on, the first of which splits it, each put in its turn: part 0, then a part for each
+// literal that is missing.
 pub(crate) fn split<'a, 'b>(
     effects: &'a [u32],
     size: usize,

@@ -6,6 +6,7 @@ use lib.Dec.{ltb}
 use lib.ListN.{length, getD, take, drop}
 use Rattle.sheet.specs.declared.Answer.{Answer}
 use Rattle.sheet.specs.declared.Answer.the-variants as answer
+use Rattle.sheet.specs.Calls.{numberOf, positionOf}
 use Rattle.table.specs.declared.Table.{Table}
 use Rattle.plan.specs.declared.Row.{Row}
 use Rattle.plan.specs.declared.Verdict.{Verdict}
@@ -15,10 +16,14 @@ use Rattle.plan.specs.declared.Kind.the-variants as kind
 use Rattle.unit.specs.declared.Told.{Told}
 
 -- ---- answers
+-- a number that an accepted call has, 0 for a refused one
+unfoldable pub ifAccepted : Answer → ℕ → ℕ
+ifAccepted answer.Accepted n = n
+ifAccepted (answer.Refused number position) n = 0
+
 -- an answer by its number and position; `extra` is the second number of info if it is accepted
 abbrev pub answerTold : Answer → ℕ → Told
-answerTold answer.Accepted extra = record { answer = 0; position = 0; kind = extra; place = 0; detail = 0 }
-answerTold (answer.Refused number position) extra = record { answer = number; position = position; kind = 0; place = 0; detail = 0 }
+answerTold a extra = record { answer = numberOf a; position = positionOf a; kind = ifAccepted a extra; place = 0; detail = 0 }
 
 -- a verdict: reached 0, short 1, stopped 2 with its place and number, full 3 with its place
 abbrev pub verdictTold : Verdict → Told

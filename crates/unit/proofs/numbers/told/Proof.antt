@@ -2,7 +2,8 @@
 use mathlib.Core.Path.{ap, sym}
 use borrow.Author.Needs.{needs}
 use Rattle.sheet.specs.declared.Answer.{Answer}
-use Rattle.unit.specs.Numbers.{answerTold}
+use Rattle.sheet.specs.Calls.{numberOf, positionOf}
+use Rattle.unit.specs.Numbers.{ifAccepted, answerTold}
 use Rattle.unit.proofs.numbers.told.Statement.{statement}
 use Rattle.unit.proofs.numbers.told.Tie as tie
 
@@ -13,9 +14,11 @@ enum-known-answer : tie.Need-enum-known-answer
 enum-known-answer c = search needs
 
 returns : tie.Need-returns
+unfolding numberOf positionOf ifAccepted
 returns c = ap (λ (a : Answer). answerTold a (c .before .before .args .extra)) (sym (c .enum-told .given .1))
 
 returns-2 : tie.Need-returns-2
+unfolding numberOf positionOf ifAccepted
 returns-2 c = ap (λ (a : Answer). answerTold a (c .before .before .before .args .extra)) (sym (c .before .answer .given .1))
 
 pub told-spec : {M : Type 1} → statement M
