@@ -2,6 +2,7 @@
 
 mod cases;
 mod measure;
+#[path = "../include/krepuskilo.rs"]
 mod proved;
 mod sheets;
 mod tables;

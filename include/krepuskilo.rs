@@ -1,4 +1,5 @@
-//! The six calls of the proved library (target/staticlib/libunit.a) through its C interface, over slices like those of the twin.
+//! Krepuskilo for Rust: the six calls of target/staticlib/libunit.a over slices. krepuskilo.h says what each takes, answers and writes. A
+//! program takes this file as a module and is compiled with `-L target/staticlib`.
 
 #[link(name = "unit", kind = "static")]
 extern "C" {
