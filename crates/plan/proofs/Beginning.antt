@@ -5,10 +5,8 @@ use mathlib.Core.List.{List, _∷_}
 use Prim.Native.Nat.{ℕ, _+_, _≤_, _<_}
 use native.Mathlib.Omega.{arith}
 use lib.ListN.{length, replicate}
-use Rattle.sheet.specs.declared.Answer.the-variants.{Refused}
 use Rattle.sheet.specs.declared.Literals.{Literals}
-use Rattle.sheet.specs.declared.Sets.{Sets}
-use Rattle.sheet.specs.Decoded.{setsIn}
+use Rattle.sheet.specs.Rows.{setsRow}
 use Rattle.table.specs.declared.Table.{Table}
 use Rattle.table.specs.Minimal.{Outcome, refused, table, Described}
 use Rattle.table.specs.Step.{stepTable}
@@ -22,7 +20,7 @@ use Rattle.table.specs.declared.steps.Stepped.the-variants as moved
 use Rattle.table.specs.Moves.{Fits, lent, tabled}
 use Rattle.plan.specs.Search.{fullAt, nothing}
 use Rattle.plan.specs.Calls.{answered}
-use Rattle.plan.specs.Packed.{actionOf}
+use Rattle.sheet.specs.Rows.{actionOf}
 use Rattle.plan.specs.Walks.{answeredAt, endedBy, Searchable, Unmet, walked, begun}
 use Rattle.plan.specs.Course.{Ready}
 use Rattle.plan.proofs.TableRuns.{entries-table}
@@ -31,7 +29,7 @@ use Rattle.plan.proofs.Pruning.{quiet-after, unchanged}
 use Rattle.plan.proofs.Walking.{written, onward-ended, onward-not, at-stop, at-full}
 
 -- the slots hold the entries
-pub slots-room : {packed : List ℕ} {k : ℕ} {goal : Sets} {n : ℕ} {ts fs : List ℕ} → Searchable packed k goal (lent n ts fs) → (n ≤ length ts) × (n ≤ length fs)
+pub slots-room : {packed : List ℕ} {k : ℕ} {goal : List ℕ} {n : ℕ} {ts fs : List ℕ} → Searchable packed k goal (lent n ts fs) → (n ≤ length ts) × (n ≤ length fs)
 unfolding tableOf
 slots-room {packed} {k} {goal} {n} {ts} {fs} h =
     let z = h .ready .zeros in
@@ -39,7 +37,7 @@ slots-room {packed} {k} {goal} {n} {ts} {fs} h =
     let b : length fs ≡ 128 = ap (λ (t : Table). length (t .falses)) z ∙ length-pad 128 0 _ in
     (omega (arith, h .entries-most), omega (arith, h .entries-most))
 
-module _ {packed : List ℕ} {k : ℕ} {goal : Sets} {n : ℕ} {ts fs : List ℕ} (h : Searchable packed k goal (lent n ts fs)) {m : ℕ} (lt : m < k) where
+module _ {packed : List ℕ} {k : ℕ} {goal : List ℕ} {n : ℕ} {ts fs : List ℕ} (h : Searchable packed k goal (lent n ts fs)) {m : ℕ} (lt : m < k) where
   abbrev t : Table
   t = lent n ts fs
 
@@ -71,7 +69,7 @@ module _ {packed : List ℕ} {k : ℕ} {goal : Sets} {n : ℕ} {ts fs : List ℕ
       d : Described 128 (h .n) (s .0)
       d = step-table (h .n) (h .n-most) (actionOf packed m) (h .actions m lt) (entries t) (h .ready .described) 128 (s .0) (s .1) .0
 
-      came : outcome ≡ table (entries u)
+      pub came : outcome ≡ table (entries u)
       came = s .1 ∙ ap table (sym (ap entries (s .2) ∙ entries-table (s .0) (d .most)))
 
       pub ready-after : Searchable packed k goal u
@@ -83,7 +81,7 @@ module _ {packed : List ℕ} {k : ℕ} {goal : Sets} {n : ℕ} {ts fs : List ℕ
         room = h .room;
         effects-most = h .effects-most;
         actions = h .actions;
-        goal-most = h .goal-most;
+        goal-fits = h .goal-fits;
         entries-most = ready-count (h .n) u r .1;
         ready = r;
       }
@@ -91,26 +89,26 @@ module _ {packed : List ℕ} {k : ℕ} {goal : Sets} {n : ℕ} {ts fs : List ℕ
       module _ (at left : ℕ) where
         module _ (q : Unmet packed k goal t at (left + 1)) where
           pub unmet-after : Unmet packed k goal u (at + 1) left
-          unmet-after = quiet-after (setsIn goal) (actionOf packed) k at (entries t) m left (entries u) came q lt
+          unmet-after = quiet-after (setsRow goal) (actionOf packed) k at (entries t) m left (entries u) came q lt
 
           pub begun-same : entriesOf j us gs ≡ entriesOf n ts fs → {a : Searched} → a ≡ answered nothing → a ≡ begun packed k goal t at left m
           unfolding answeredAt entries
-          begun-same z {a} w = w ∙ sym (ap (answeredAt at) (unchanged (setsIn goal) (actionOf packed) k at (entries t) m left (entries u) came q z))
+          begun-same z {a} w = w ∙ sym (ap (answeredAt at) (unchanged (setsRow goal) (actionOf packed) k at (entries t) m left (entries u) came q z))
 
         module _ {a : Searched} (w : a ≡ walked packed k goal u (at + 1) left) where
           pub begun-ended : endedBy (a .kind) ≡ true → written a at m ≡ begun packed k goal t at left m
-          begun-ended b = onward-ended (setsIn goal) (actionOf packed) k at (entries t) left m (entries u) a came w b
+          begun-ended b = onward-ended (setsRow goal) (actionOf packed) k at (entries t) left m (entries u) a came w b
 
           pub begun-not : endedBy (a .kind) ≡ false → a ≡ begun packed k goal t at left m
-          begun-not b = onward-not (setsIn goal) (actionOf packed) k at (entries t) left m (entries u) a came w b
+          begun-not b = onward-not (setsRow goal) (actionOf packed) k at (entries t) left m (entries u) a came w b
 
     -- ---- the step was refused
     module _ {code : ℕ} (e : r ≡ moved.Refused code) (at left : ℕ) where
-      refused-by : outcome ≡ refused code
+      pub refused-by : outcome ≡ refused code
       refused-by = stopped t outcome (tabled t (moved.Refused code) us gs) code 0 (step-is (moved.Refused code) e) refl
 
       pub begun-full : code ≡ 21 → {a : Searched} → a ≡ answeredAt at (fullAt (m ∷ replicate left 0) (at + 1)) → a ≡ begun packed k goal t at left m
-      begun-full z {a} w = at-full (setsIn goal) (actionOf packed) k at (entries t) left m a (h .least) (refused-by ∙ ap refused z) w
+      begun-full z {a} w = at-full (setsRow goal) (actionOf packed) k at (entries t) left m a (h .least) (refused-by ∙ ap refused z) w
 
       pub begun-stopped : (code ≡ 21 → ⊥) → {a : Searched} → a ≡ answered nothing → a ≡ begun packed k goal t at left m
-      begun-stopped z {a} w = at-stop (setsIn goal) (actionOf packed) k at (entries t) left m code a refused-by z w
+      begun-stopped z {a} w = at-stop (setsRow goal) (actionOf packed) k at (entries t) left m code a refused-by z w

@@ -12,12 +12,13 @@ pub mod Courses
 pub mod FinalPictures
 pub mod Searching
 pub mod SearchRuns
-pub mod Packing
 pub mod FirstAnswers
 pub mod Pruning
 pub mod Walking
 pub mod Beginning
+pub mod PlanRuns
 pub mod SearchCalls
+pub mod SheetStarts
 pub mod Demands
 pub mod PaperRuns
 pub mod Relending

@@ -1,123 +1,130 @@
--- The search on a sheet that was read: its moves laid out, its start, and the call on bytes. Assumes nothing.
+-- The search and the run by a problem's moves and goal in rows, its start, and the call on bytes. Assumes nothing.
 use mathlib.Core.Path.{_≡_, refl, sym, ap, ap₂, subst, _∙_}
 use mathlib.Core.Bool.{Bool, true, false, cond}
 use mathlib.Core.List.{List, [], _∷_, map}
 use Prim.Native.Nat.{ℕ, _≤_, _<_}
 use native.Mathlib.Omega.{arith}
 use lib.Dec.{ltb}
-use lib.ListN.{length}
+use lib.ListN.{length, getD, take, drop}
 use borrow.Author.Tests.{lt-ltb, le-ltb}
 use Rattle.sheet.specs.declared.Answer.the-variants.{Accepted, Refused}
-use Rattle.sheet.specs.declared.Sheet.{Sheet}
-use Rattle.sheet.specs.declared.Decoded.{Decoded}
+use Rattle.sheet.specs.declared.Literals.{Literals}
+use Rattle.sheet.specs.declared.Plan.{Plan}
+use Rattle.sheet.specs.Literals.{noLiteral}
 use Rattle.sheet.specs.Lists.{All}
-use Rattle.sheet.specs.Problem.{Action, Problem}
+use Rattle.sheet.specs.Problem.{Action, Problem, Statement}
 use Rattle.sheet.specs.Format.{Judgement, accepted, refused as faulty, sheetOf}
-use Rattle.sheet.specs.Encoding.{ProperAction}
-use Rattle.sheet.specs.Decoded.{noMove, setsIn, problemIn}
-use Rattle.sheet.specs.Calls.{decodedOf}
-use Rattle.sheet.proofs.SlotLaws.{problem-slots, not-both, Said}
+use Rattle.sheet.specs.Encoding.{ProperAction, ProperProblem}
+use Rattle.sheet.specs.Decoded.{planIn}
+use Rattle.sheet.specs.Rows.{rowOf, itemsAt, setsRow, countIn, actionFrom, actionOf}
 use Rattle.sheet.proofs.ListFacts.{all-map}
+use Rattle.table.specs.declared.Table.{Table}
 use Rattle.table.specs.declared.Tabled.{Tabled}
-use Rattle.table.specs.Minimal.{table}
 use Rattle.table.specs.Start.{startTable}
 use Rattle.table.specs.Slots.{entries, tableOf}
 use Rattle.table.specs.Calls.{orGiven, actionAt}
-use Rattle.table.specs.Moves.{Filled}
-use Rattle.table.proofs.Demands.{described-iff}
-use Rattle.table.proofs.Advancing.{moves-most, actions-are, steps-of, move-is}
-use Rattle.plan.specs.Run.{actionsOf, Verdict, runFrom}
-use Rattle.plan.specs.Search.{plansUpTo, firstOf}
+use Rattle.plan.specs.Run.{actionsOf, runFrom}
+use Rattle.plan.specs.Search.{plansUpTo}
 use Rattle.plan.specs.Order.{PlanOf}
 use Rattle.plan.specs.Calls.{refusedSearch, answered, searchedFrom, searched, searchOf}
-use Rattle.plan.specs.Course.{Ready}
-use Rattle.plan.specs.Packed.{actionOf, Small, Packs}
-use Rattle.plan.specs.Walks.{ranFrom, Searchable, searchedBy}
-use Rattle.plan.proofs.TableRuns.{entries-table, at-proper}
+use Rattle.plan.specs.Course.{courseFrom, Ready}
+use Rattle.plan.specs.Walks.{ranFrom, Searchable, Runnable, searchedBy}
+use Rattle.sheet.proofs.RowLaws.{sets-long, effects-long, item-at}
+use Rattle.plan.proofs.TableRuns.{at-proper}
 use Rattle.plan.proofs.Searching.{out-plans}
-use Rattle.plan.proofs.Courses.{stepped, stopped, ready-count, goal-most, proper, start-ready}
+use Rattle.plan.proofs.Courses.{stopped, ready-count, started}
 use Rattle.plan.proofs.FirstAnswers.{same-first}
 
 map-below : (f g : ℕ → Action) (k : ℕ) → ((i : ℕ) → i < k → f i ≡ g i) → (q : List ℕ) → All (λ i. i < k) q → map f q ≡ map g q
 map-below f g k h [] l = refl
 map-below f g k h (i ∷ q) l = ap₂ {C = List Action} (λ (a : Action) (b : List Action). a ∷ b) (h i (l .0)) (map-below f g k h q (l .1))
 
-module _ (x : Sheet) (g : Filled x) (s : Tabled) (is : s ≡ orGiven (tableOf []) (startTable 128 (problemIn x))) where
-  -- the start was refused
-  pub sought-refused : (limit k p : ℕ) → s .answer ≡ Refused k p → refusedSearch k 0 ≡ searched (problemIn x) limit (startTable 128 (problemIn x))
-  unfolding searched
-  sought-refused limit k p a = sym (ap (searched (problemIn x) limit) (stopped (tableOf []) _ s k p is a))
+-- a row says how many sets or effects it has
+sets-count : (row : List ℕ) → length (setsRow row) ≡ getD row 0 0
+unfolding setsRow
+sets-count row = sets-long (getD row 0 0) (drop 1 row)
 
+effects-count : (row : List ℕ) → length (actionFrom row .effects) ≡ countIn row
+unfolding actionFrom
+effects-count row = effects-long (countIn row) (take 32 (drop 3 row))
+
+-- ---- the moves and the goal of a problem in rows
+module _ (p : Problem) (g : ProperProblem p) (moves goal : List ℕ) (long : length moves ≡ 1120) (are : itemsAt 35 actionFrom (length (p .actions)) moves ≡ p .actions)
+    (goal-long : length goal ≡ 17) (is : setsRow goal ≡ p .goal) where
+  abbrev count : ℕ
+  count = length (p .actions)
+
+  laid : (i : ℕ) → i < count → actionOf moves i ≡ actionAt p i
+  unfolding actionAt
+  laid i lt =
+      let d : Action = record { precondition = noLiteral; effects = [] } in
+      sym (item-at 35 actionFrom count moves i d lt) ∙ ap (λ (q : List Action). getD q i d) are
+
+  -- the moves of a plan
+  pub plan-laid : (q : List ℕ) → All (λ i. i < count) q → map (actionOf moves) q ≡ actionsOf p q
+  unfolding actionsOf
+  plan-laid q h = map-below (actionOf moves) (actionAt p) count laid q h
+
+  module _ (t : Table) (ready : Ready (p .n) t) where
+    pub searchable : Searchable moves count goal t
+    searchable = record {
+      n = p .n;
+      n-most = g .n-most;
+      least = g .actions .least;
+      most = g .actions .most;
+      room = omega (arith, g .actions .most);
+      effects-most = λ i lt. omega (arith, effects-count (rowOf 35 moves i), move i lt .effects .most);
+      actions = move;
+      goal-fits = (goal-long, omega (arith, sets-count goal, ap length is, g .goal .most));
+      entries-most = ready-count (p .n) t ready .1;
+      ready = ready;
+    }
+      where
+        move : (i : ℕ) → i < count → ProperAction (p .n) (actionOf moves i)
+        move i lt = subst (ProperAction (p .n)) (sym (laid i lt)) (at-proper p g i lt)
+
+    pub runnable : (plan : Plan) → plan .count ≤ 64 → All (λ i. i < count) (planIn plan) → Runnable plan moves goal t
+    runnable plan most numbers = record { count = count; fits = searchable; most = most; numbers = numbers }
+
+  -- by the rows as by the problem
+  module _ (t : Table) where
+    pub sought : (limit : ℕ) → searchedBy moves count goal t limit ≡ answered (searchedFrom p limit (entries t))
+    unfolding searchedFrom
+    sought limit =
+        ap answered (same-first _ _ (plansUpTo count limit)
+        (all-map (PlanOf count limit) (λ q. ranFrom (setsRow goal) (actionOf moves) 0 (entries t) q ≡ runFrom 128 (p .goal) 0 (actionsOf p q) (entries t))
+        (λ q h. ap₂ (λ (x : List Literals) (q : List Action). runFrom 128 x 0 q (entries t)) is (plan-laid q (h .0)))
+        (plansUpTo count limit) (out-plans count limit)))
+
+    pub coursed : (q : List ℕ) → All (λ i. i < count) q → courseFrom (setsRow goal) [] 0 (map (actionOf moves) q) (entries t) ≡ courseFrom (p .goal) [] 0 (actionsOf p q) (entries t)
+    coursed q h = ap₂ (λ (x : List Literals) (q : List Action). courseFrom x [] 0 q (entries t)) is (plan-laid q h)
+
+-- ---- the search of a problem from its start
+module _ (p : Problem) (s : Tabled) (is : s ≡ orGiven (tableOf []) (startTable 128 p)) (limit : ℕ) where
   -- the start gave a table
-  module _ (a : s .answer ≡ Accepted) where
-    first : Ready (x .n) (s .table)
-    first = start-ready x g s is a
+  pub sought-from : ProperProblem p → s .answer ≡ Accepted → answered (searchedFrom p limit (entries (s .table))) ≡ searched p limit (startTable 128 p)
+  unfolding searched
+  sought-from g a = sym (ap (searched p limit) (started p g s is a))
 
-    started : startTable 128 (problemIn x) ≡ table (entries (s .table))
-    unfolding tableOf
-    started =
-        let k = stepped (tableOf []) _ s is a in
-        let n : s .table .count ≡ length (k .0) = ap (λ t. t .count) (k .2) in
-        k .1 ∙ ap table (sym (ap entries (k .2) ∙ entries-table (k .0) (omega (arith, n, ready-count (x .n) (s .table) first .1))))
-
-    pub small : Small (x .moves)
-    small i e lt = steps-of x g (s .table) i lt (described-iff 128 (x .n) (entries (s .table)) .1 (first .described)) e .effects-most
-
-    module _ (packed : List ℕ) (w : Packs (x .moves) (x .moves .count) packed) where
-      laid : (i : ℕ) → i < x .moves .count → actionOf packed i ≡ actionAt (problemIn x) i
-      laid i lt = w .each i lt noMove .is ∙ move-is x g (s .table) i lt noMove
-
-      count-is : x .moves .count ≡ length (problemIn x .actions)
-      count-is = actions-are x g (s .table) 0
-
-      pub searchable : Searchable packed (x .moves .count) (x .goal) (s .table)
-      unfolding problemIn
-      searchable = record {
-        n = x .n;
-        n-most = proper x g .n-most;
-        least = rw count-is (proper x g .actions .least);
-        most = moves-most x g (s .table) 0;
-        room = omega (arith, w .long, moves-most x g (s .table) 0);
-        effects-most = λ i lt. w .each i lt noMove .most;
-        actions = λ i lt. subst (ProperAction (x .n)) (sym (laid i lt)) (at-proper (problemIn x) (proper x g) i (rw (← count-is) lt));
-        goal-most = goal-most x g;
-        entries-most = ready-count (x .n) (s .table) first .1;
-        ready = first;
-      }
-
-      -- by the moves laid out as by those of the problem
-      pub sought : (limit : ℕ) → searchedBy packed (x .moves .count) (x .goal) (s .table) limit ≡ searched (problemIn x) limit (startTable 128 (problemIn x))
-      unfolding searched searchedFrom actionsOf
-      sought limit =
-          ap answered (same ∙ ap (λ (k : ℕ). firstOf there (plansUpTo k limit)) count-is)
-          ∙ sym (ap (searched (problemIn x) limit) started)
-        where
-          there : List ℕ → Verdict
-          there q = runFrom 128 (problemIn x .goal) 0 (map (actionAt (problemIn x)) q) (entries (s .table))
-
-          same : firstOf (ranFrom (setsIn (x .goal)) (actionOf packed) 0 (entries (s .table))) (plansUpTo (x .moves .count) limit)
-              ≡ firstOf there (plansUpTo (x .moves .count) limit)
-          same = unfold problemIn in same-first _ there (plansUpTo (x .moves .count) limit)
-              (all-map (PlanOf (x .moves .count) limit) (λ q. ranFrom (setsIn (x .goal)) (actionOf packed) 0 (entries (s .table)) q ≡ there q)
-              (λ q h. ap (λ (p : List Action). runFrom 128 (setsIn (x .goal)) 0 p (entries (s .table))) (map-below (actionOf packed) (actionAt (problemIn x)) (x .moves .count) laid q (h .0)))
-              (plansUpTo (x .moves .count) limit) (out-plans (x .moves .count) limit))
+  -- the start was refused
+  pub sought-refused : (k i : ℕ) → s .answer ≡ Refused k i → refusedSearch k 0 ≡ searched p limit (startTable 128 p)
+  unfolding searched
+  sought-refused k i a = sym (ap (searched p limit) (stopped (tableOf []) _ s k i is a))
 
 -- ---- the call on bytes
-module _ (s : List ℕ) (d : Decoded) (limit : ℕ) (h : Said s d) where
-  by-limit : (b : Bool) → ltb 8 limit ≡ b
-      → cond b (refusedSearch 8 0) (searched (problemIn (d .sheet)) limit (startTable 128 (problemIn (d .sheet)))) ≡ searchOf (sheetOf s) limit
+module _ (s : List ℕ) (x : Statement) (e : sheetOf s ≡ accepted x) (limit : ℕ) where
+  by-limit : (b : Bool) → ltb 8 limit ≡ b → cond b (refusedSearch 8 0) (searched (x .problem) limit (startTable 128 (x .problem))) ≡ searchOf (sheetOf s) limit
   unfolding searchOf
-  by-limit b e =
-      ap₂ (λ (c : Bool) (p : Problem). cond c (refusedSearch 8 0) (searched p limit (startTable 128 p))) (sym e) (ap problemIn (h .is) ∙ problem-slots (h .statement) (h .proper))
-      ∙ sym (ap (λ (j : Judgement). searchOf j limit) (h .judged))
+  by-limit b l =
+      ap (λ (c : Bool). cond c (refusedSearch 8 0) (searched (x .problem) limit (startTable 128 (x .problem)))) (sym l)
+      ∙ sym (ap (λ (j : Judgement). searchOf j limit) e)
 
   pub search-most : 8 < limit → refusedSearch 8 0 ≡ searchOf (sheetOf s) limit
   search-most lt = by-limit true (lt-ltb 8 limit lt)
 
-  pub search-sheet : limit ≤ 8 → searched (problemIn (d .sheet)) limit (startTable 128 (problemIn (d .sheet))) ≡ searchOf (sheetOf s) limit
+  pub search-sheet : limit ≤ 8 → searched (x .problem) limit (startTable 128 (x .problem)) ≡ searchOf (sheetOf s) limit
   search-sheet le = by-limit false (le-ltb 8 limit le)
 
-pub search-fault : (j : Judgement) (d : Decoded) (k p limit : ℕ) → d ≡ decodedOf j → d .answer ≡ Refused k p → refusedSearch k p ≡ searchOf j limit
-unfolding searchOf decodedOf
-search-fault (accepted x) d k p limit e a = not-both (d .answer) k p (ap (λ (y : Decoded). y .answer) e) a
-search-fault (faulty m q) d k p limit e a = let z : Refused k p ≡ Refused m q = sym a ∙ ap (λ (y : Decoded). y .answer) e in cc z
+pub search-fault : (s : List ℕ) (k p limit : ℕ) → sheetOf s ≡ faulty k p → refusedSearch k p ≡ searchOf (sheetOf s) limit
+unfolding searchOf
+search-fault s k p limit e = sym (ap (λ (j : Judgement). searchOf j limit) e)

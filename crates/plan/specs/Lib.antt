@@ -11,5 +11,4 @@ pub mod Order
 pub mod Course
 pub mod Rows
 pub mod Text
-pub mod Packed
 pub mod Walks

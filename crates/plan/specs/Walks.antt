@@ -4,11 +4,12 @@ use mathlib.Core.List.{List, _∷_, _++_, map}
 use Prim.Native.Nat.{ℕ, _+_, _*_, _≤_, _<_}
 use lib.ListN.{length, replicate}
 use Rattle.sheet.specs.declared.Literals.{Literals}
-use Rattle.sheet.specs.declared.Sets.{Sets}
 use Rattle.sheet.specs.Lists.{All, pad}
 use Rattle.sheet.specs.Problem.{Action}
 use Rattle.sheet.specs.Encoding.{ProperAction}
-use Rattle.sheet.specs.Decoded.{setsIn}
+use Rattle.sheet.specs.declared.Plan.{Plan}
+use Rattle.sheet.specs.Decoded.{planIn}
+use Rattle.sheet.specs.Rows.{setsRow, SetsFit}
 use Rattle.table.specs.declared.Table.{Table}
 use Rattle.table.specs.Slots.{entries}
 use Rattle.plan.specs.declared.Searched.{Searched}
@@ -19,7 +20,7 @@ use Rattle.plan.specs.Search.{plansOf, plansUpTo, Answer, found, fullAt,
 use Rattle.plan.specs.Order.{Fails}
 use Rattle.plan.specs.Calls.{answered}
 use Rattle.plan.specs.Course.{Ready}
-use Rattle.plan.specs.Packed.{countOf, actionOf}
+use Rattle.sheet.specs.Rows.{countOf, actionOf}
 
 -- ---- the first answer from the table t, `place` moves already taken, by the numbers of the moves f
 -- the verdict of a plan
@@ -52,7 +53,7 @@ endedBy kind.Nothing = false
 endedBy (kind.Refused number position) = true
 
 -- ---- moves laid out, goal and table over the same n propositions, within their slots
-pub record Searchable (packed : List ℕ) (count : ℕ) (goal : Sets) (t : Table) : Type 0 where
+pub record Searchable (packed : List ℕ) (count : ℕ) (goal : List ℕ) (t : Table) : Type 0 where
   pub n : ℕ
   pub n-most : n ≤ 32
   pub least : 1 ≤ count
@@ -60,20 +61,27 @@ pub record Searchable (packed : List ℕ) (count : ℕ) (goal : Sets) (t : Table
   pub room : count * 35 ≤ length packed
   pub effects-most : (i : ℕ) → i < count → countOf packed i ≤ 8
   pub actions : (i : ℕ) → i < count → ProperAction n (actionOf packed i)
-  pub goal-most : goal .count ≤ 8
+  pub goal-fits : SetsFit goal
   pub entries-most : t .count ≤ 128
   pub ready : Ready n t
 
+-- the same with a plan of these moves
+pub record Runnable (plan : Plan) (packed : List ℕ) (goal : List ℕ) (t : Table) : Type 0 where
+  pub count : ℕ
+  pub fits : Searchable packed count goal t
+  pub most : plan .count ≤ 64
+  pub numbers : All (λ i. i < count) (planIn plan)
+
 -- no shorter plan from here has an answer
-abbrev pub Unmet : List ℕ → ℕ → Sets → Table → ℕ → ℕ → Type 0
-Unmet packed count goal t at left = Quiet (setsIn goal) (actionOf packed) count at (entries t) left
+abbrev pub Unmet : List ℕ → ℕ → List ℕ → Table → ℕ → ℕ → Type 0
+Unmet packed count goal t at left = Quiet (setsRow goal) (actionOf packed) count at (entries t) left
 
 -- ---- what the inner calls answer
-abbrev pub walked : List ℕ → ℕ → Sets → Table → ℕ → ℕ → Searched
-walked packed count goal t at left = answeredAt at (firstFrom (setsIn goal) (actionOf packed) count at (entries t) left)
+abbrev pub walked : List ℕ → ℕ → List ℕ → Table → ℕ → ℕ → Searched
+walked packed count goal t at left = answeredAt at (firstFrom (setsRow goal) (actionOf packed) count at (entries t) left)
 
-abbrev pub begun : List ℕ → ℕ → Sets → Table → ℕ → ℕ → ℕ → Searched
-begun packed count goal t at left m = answeredAt at (firstBy (setsIn goal) (actionOf packed) count at (entries t) left m)
+abbrev pub begun : List ℕ → ℕ → List ℕ → Table → ℕ → ℕ → ℕ → Searched
+begun packed count goal t at left m = answeredAt at (firstBy (setsRow goal) (actionOf packed) count at (entries t) left m)
 
-abbrev pub searchedBy : List ℕ → ℕ → Sets → Table → ℕ → Searched
-searchedBy packed count goal t limit = answered (firstOf (ranFrom (setsIn goal) (actionOf packed) 0 (entries t)) (plansUpTo count limit))
+abbrev pub searchedBy : List ℕ → ℕ → List ℕ → Table → ℕ → Searched
+searchedBy packed count goal t limit = answered (firstOf (ranFrom (setsRow goal) (actionOf packed) 0 (entries t)) (plansUpTo count limit))

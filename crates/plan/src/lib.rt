@@ -9,7 +9,6 @@ ghost use Rattle.plan.specs.Rows.{noRow};
 ghost use Rattle.plan.specs.Text.{reportOf, reportIn};
 
 pub mod goals;
-pub mod packed;
 pub mod rows;
 pub mod runs;
 pub mod searches;
@@ -113,7 +112,11 @@ pub fn report(bytes: &[u8], out: &mut [u8]) -> usize
 pub fn search(bytes: &[u8], limit: usize) -> Searched
     ensures { λ r. ⌜ r ≡ searchOf (sheetOf (now (bytes .entry))) limit ⌝ }
 {
-    let decoded = sheet::decode(bytes);
+    let mut ors = [0u32; 136];
+    let mut oneofs = [0u32; 136];
+    let mut goal = [0u32; 17];
+    let mut moves = [0u32; 1120];
+    let decoded = sheet::decode(bytes, &mut ors, &mut oneofs, &mut goal, &mut moves);
     let answer = decoded.answer;
     match answer {
         Answer::Refused(number, position) => searches::refused(number, position),
@@ -122,7 +125,7 @@ pub fn search(bytes: &[u8], limit: usize) -> Searched
                 return searches::refused(8, 0);
             }
             let sheet = decoded.sheet;
-            searches::search_sheet(sheet, limit)
+            searches::search_sheet(sheet, &ors, &oneofs, &goal, &moves, limit)
         }
     }
 }

@@ -5,19 +5,21 @@ use crate::Ran;
 use crate::Verdict;
 use crate::goals::all_in_goal;
 use sheet::Answer;
-use sheet::Sets;
+use sheet::Plan;
 use sheet::Sheet;
 use table::Table;
 use table::clauses::clause_count;
-use table::first::first_table;
-use table::steps::advance;
+use table::first::first_into;
+use table::steps::Stepped;
+use table::steps::step_at;
 ghost use mathlib.Core.Path.{_≡_};
-ghost use mathlib.Core.List.{[]};
+ghost use mathlib.Core.List.{[], map};
 ghost use Prim.Native.Nat.{_≤_, _<_};
 ghost use lib.Dec.{eqb};
 ghost use lib.ListN.{drop};
 ghost use Rattle.sheet.specs.Lists.{allOf};
-ghost use Rattle.sheet.specs.Decoded.{setsIn, planIn, problemIn};
+ghost use Rattle.sheet.specs.Decoded.{planIn, problemIn};
+ghost use Rattle.sheet.specs.Rows.{setsRow, SetsFit, actionOf};
 ghost use Rattle.sheet.specs.Format.{sheetOf};
 ghost use Rattle.table.specs.Slots.{entries};
 ghost use Rattle.table.specs.Start.{startTable};
@@ -25,6 +27,7 @@ ghost use Rattle.table.specs.Moves.{Filled};
 ghost use Rattle.plan.specs.Run as R;
 ghost use Rattle.plan.specs.Calls.{verdictOf};
 ghost use Rattle.plan.specs.Course as C;
+ghost use Rattle.plan.specs.Walks as W;
 
 // The counts of no row.
 pub(crate) fn no_rows() -> Counts
@@ -67,10 +70,10 @@ pub(crate) fn halt(place: usize, number: u8) -> Verdict
 }
 
 // The verdict after the last move: reached if every entry is in the goal, otherwise short.
-pub(crate) fn end(goal: Sets, table: Table) -> Verdict
-    requires { ⌜ goal .count ≤ 8 ⌝ }
+pub(crate) fn end(goal: &[u32], table: Table) -> Verdict
+    requires { ⌜ SetsFit (now goal) ⌝ }
     requires { ⌜ table .count ≤ 128 ⌝ }
-    ensures { λ r. ⌜ r ≡ verdictOf (R.ended (allOf (R.inGoal (setsIn goal)) (entries table))) ⌝ }
+    ensures { λ r. ⌜ r ≡ verdictOf (R.ended (allOf (R.inGoal (setsRow (now (goal .entry)))) (entries table))) ⌝ }
 {
     let n = table.count;
     if all_in_goal(goal, &table.trues, &table.falses, n) {
@@ -79,14 +82,17 @@ pub(crate) fn end(goal: Sets, table: Table) -> Verdict
     Verdict::Short
 }
 
-// The rest of a sheet's plan from a table, `place` moves already taken.
-pub(crate) fn run_from(sheet: Sheet, table: Table, place: usize) -> Course
-    requires { ⌜ Filled sheet ⌝ }
-    requires { ⌜ C.Ready (sheet .n) table ⌝ }
-    ensures { λ r. ⌜ r ≡ C.courseFrom (problemIn sheet .goal) [] place (R.actionsOf (problemIn sheet) (drop place (planIn (sheet .plan)))) (entries table) ⌝ }
+// The rest of a plan from a table, `place` moves already taken.
+pub(crate) fn run_from<'a>(
+    plan: Plan,
+    goal: &'a [u32],
+    moves: &'a [u32],
+    table: Table,
+    place: usize,
+) -> Course
+    requires { ⌜ W.Runnable plan (now moves) (now goal) table ⌝ }
+    ensures { λ r. ⌜ r ≡ C.courseFrom (setsRow (now (goal .entry))) [] place (map (actionOf (now (moves .entry))) (drop place (planIn plan))) (entries table) ⌝ }
 {
-    let plan = sheet.plan;
-    let moves = sheet.moves;
     let count = plan.count;
     let mut last = table;
     let mut counts = no_rows();
@@ -94,15 +100,26 @@ pub(crate) fn run_from(sheet: Sheet, table: Table, place: usize) -> Course
     while i < count {
         counts = note(counts, last);
         let number = plan.numbers[i] as usize;
-        let mv = moves.items[number];
-        let stepped = advance(mv, last);
-        let answer = stepped.answer;
-        match answer {
-            Answer::Accepted => {
-                let next = stepped.table;
-                last = next;
+        let size = last.count;
+        let mut trues = [0u32; 128];
+        let mut falses = [0u32; 128];
+        match step_at(
+            moves,
+            number,
+            &last.trues,
+            &last.falses,
+            size,
+            &mut trues,
+            &mut falses,
+        ) {
+            Stepped::To(k) => {
+                last = Table {
+                    count: k,
+                    trues,
+                    falses,
+                };
             }
-            Answer::Refused(fault, _) => {
+            Stepped::Refused(fault) => {
                 return Course {
                     ran: Ran {
                         verdict: halt(i + 1, fault),
@@ -114,7 +131,6 @@ pub(crate) fn run_from(sheet: Sheet, table: Table, place: usize) -> Course
         }
         i += 1;
     }
-    let goal = sheet.goal;
     Course {
         ran: Ran {
             verdict: end(goal, last),
@@ -142,18 +158,38 @@ pub(crate) fn refused(number: u8, position: usize) -> Course
 }
 
 // The run of a sheet that was read: 20 or 21 of its start, otherwise its plan from the first table.
-pub(crate) fn run_sheet(sheet: Sheet) -> Course
-    requires { ⌜ Filled sheet ⌝ }
-    ensures { λ r. ⌜ r ≡ C.plannedCourse (problemIn sheet) (planIn (sheet .plan)) (startTable 128 (problemIn sheet)) ⌝ }
+pub(crate) fn run_sheet<'a>(
+    sheet: Sheet,
+    ors: &'a [u32],
+    oneofs: &'a [u32],
+    goal: &'a [u32],
+    moves: &'a [u32],
+) -> Course
+    requires { ⌜ Filled sheet (now ors) (now oneofs) (now goal) (now moves) ⌝ }
+    ensures { λ r. ⌜ r ≡ C.plannedCourse (problemIn sheet (now (ors .entry)) (now (oneofs .entry)) (now (goal .entry)) (now (moves .entry))) (planIn (sheet .plan)) (startTable 128 (problemIn sheet (now (ors .entry)) (now (oneofs .entry)) (now (goal .entry)) (now (moves .entry)))) ⌝ }
 {
-    let start = first_table(sheet);
-    let answer = start.answer;
-    match answer {
-        Answer::Accepted => {
-            let table = start.table;
-            run_from(sheet, table, 0)
+    let known = sheet.known;
+    let plan = sheet.plan;
+    let mut trues = [0u32; 128];
+    let mut falses = [0u32; 128];
+    match first_into(
+        known,
+        ors,
+        sheet.ors,
+        oneofs,
+        sheet.oneofs,
+        &mut trues,
+        &mut falses,
+    ) {
+        Stepped::To(count) => {
+            let table = Table {
+                count,
+                trues,
+                falses,
+            };
+            run_from(plan, goal, moves, table, 0)
         }
-        Answer::Refused(number, _) => refused(number, 0),
+        Stepped::Refused(number) => refused(number, 0),
     }
 }
 
@@ -161,7 +197,11 @@ pub(crate) fn run_sheet(sheet: Sheet) -> Course
 pub fn course(bytes: &[u8], lent: usize) -> Course
     ensures { λ r. ⌜ r ≡ C.courseOf (sheetOf (now (bytes .entry))) lent ⌝ }
 {
-    let decoded = sheet::decode(bytes);
+    let mut ors = [0u32; 136];
+    let mut oneofs = [0u32; 136];
+    let mut goal = [0u32; 17];
+    let mut moves = [0u32; 1120];
+    let decoded = sheet::decode(bytes, &mut ors, &mut oneofs, &mut goal, &mut moves);
     let answer = decoded.answer;
     match answer {
         Answer::Refused(number, position) => refused(number, position),
@@ -170,7 +210,7 @@ pub fn course(bytes: &[u8], lent: usize) -> Course
                 return refused(23, 0);
             }
             let sheet = decoded.sheet;
-            run_sheet(sheet)
+            run_sheet(sheet, &ors, &oneofs, &goal, &moves)
         }
     }
 }

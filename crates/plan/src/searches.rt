@@ -2,21 +2,18 @@
 use crate::Kind;
 use crate::Searched;
 use crate::goals::all_in_goal;
-use crate::packed::pack;
-use crate::packed::step_at;
-use sheet::Answer;
-use sheet::Sets;
 use sheet::Sheet;
-use table::first::first_table;
+use table::first::first_into;
 use table::steps::Stepped;
+use table::steps::step_at;
 ghost use mathlib.Core.Path.{_≡_};
 ghost use mathlib.Core.Bool.{true};
 ghost use mathlib.Core.List.{_∷_};
 ghost use Prim.Native.Nat.{_+_, _≤_, _<_};
 ghost use lib.ListN.{length, replicate};
+ghost use Rattle.table.specs.Slots.{entriesOf};
 ghost use Rattle.sheet.specs.Decoded.{problemIn};
 ghost use Rattle.table.specs.Start.{startTable};
-ghost use Rattle.table.specs.Slots.{entriesOf};
 ghost use Rattle.table.specs.Moves as M;
 ghost use Rattle.table.specs.Moves.{Filled};
 ghost use Rattle.plan.specs.Search.{fullAt, nothing};
@@ -107,7 +104,7 @@ pub(crate) fn same<'a, 'b>(
 fn begin<'a, 'b>(
     packed: &'a [u32],
     moves: usize,
-    goal: Sets,
+    goal: &'a [u32],
     ts: &'b [u32],
     fs: &'b [u32],
     n: usize,
@@ -115,10 +112,10 @@ fn begin<'a, 'b>(
     left: usize,
     m: usize,
 ) -> Searched
-    requires { ⌜ W.Searchable (now packed) moves goal (M.lent n (now ts) (now fs)) ⌝ }
+    requires { ⌜ W.Searchable (now packed) moves (now goal) (M.lent n (now ts) (now fs)) ⌝ }
     requires { ⌜ (at + left < 8) × (m < moves) ⌝ }
-    requires { ⌜ W.Unmet (now packed) moves goal (M.lent n (now ts) (now fs)) at (left + 1) ⌝ }
-    ensures { λ r. ⌜ r ≡ W.begun (now (packed .entry)) moves goal (M.lent n (now (ts .entry)) (now (fs .entry))) at left m ⌝ }
+    requires { ⌜ W.Unmet (now packed) moves (now goal) (M.lent n (now ts) (now fs)) at (left + 1) ⌝ }
+    ensures { λ r. ⌜ r ≡ W.begun (now (packed .entry)) moves (now (goal .entry)) (M.lent n (now (ts .entry)) (now (fs .entry))) at left m ⌝ }
 {
     let mut us = [0u32; 128];
     let mut gs = [0u32; 128];
@@ -148,17 +145,17 @@ fn begin<'a, 'b>(
 fn walk<'a, 'b>(
     packed: &'a [u32],
     moves: usize,
-    goal: Sets,
+    goal: &'a [u32],
     ts: &'b [u32],
     fs: &'b [u32],
     n: usize,
     at: usize,
     left: usize,
 ) -> Searched
-    requires { ⌜ W.Searchable (now packed) moves goal (M.lent n (now ts) (now fs)) ⌝ }
+    requires { ⌜ W.Searchable (now packed) moves (now goal) (M.lent n (now ts) (now fs)) ⌝ }
     requires { ⌜ at + left ≤ 8 ⌝ }
-    requires { ⌜ W.Unmet (now packed) moves goal (M.lent n (now ts) (now fs)) at left ⌝ }
-    ensures { λ r. ⌜ r ≡ W.walked (now (packed .entry)) moves goal (M.lent n (now (ts .entry)) (now (fs .entry))) at left ⌝ }
+    requires { ⌜ W.Unmet (now packed) moves (now goal) (M.lent n (now ts) (now fs)) at left ⌝ }
+    ensures { λ r. ⌜ r ≡ W.walked (now (packed .entry)) moves (now (goal .entry)) (M.lent n (now (ts .entry)) (now (fs .entry))) at left ⌝ }
 {
     if left == 0 {
         if all_in_goal(goal, ts, fs, n) {
@@ -186,15 +183,15 @@ fn walk<'a, 'b>(
 pub(crate) fn lengths<'a, 'b>(
     packed: &'a [u32],
     moves: usize,
-    goal: Sets,
+    goal: &'a [u32],
     ts: &'b [u32],
     fs: &'b [u32],
     n: usize,
     limit: usize,
 ) -> Searched
-    requires { ⌜ W.Searchable (now packed) moves goal (M.lent n (now ts) (now fs)) ⌝ }
+    requires { ⌜ W.Searchable (now packed) moves (now goal) (M.lent n (now ts) (now fs)) ⌝ }
     requires { ⌜ limit ≤ 8 ⌝ }
-    ensures { λ r. ⌜ r ≡ W.searchedBy (now (packed .entry)) moves goal (M.lent n (now (ts .entry)) (now (fs .entry))) limit ⌝ }
+    ensures { λ r. ⌜ r ≡ W.searchedBy (now (packed .entry)) moves (now (goal .entry)) (M.lent n (now (ts .entry)) (now (fs .entry))) limit ⌝ }
 {
     let mut length: usize = 0;
     while length <= limit {
@@ -208,27 +205,31 @@ pub(crate) fn lengths<'a, 'b>(
 }
 
 // The search on a sheet that was read: 20 or 21 of the start, then the plans.
-pub(crate) fn search_sheet(sheet: Sheet, limit: usize) -> Searched
-    requires { ⌜ Filled sheet ⌝ }
+pub(crate) fn search_sheet<'a>(
+    sheet: Sheet,
+    ors: &'a [u32],
+    oneofs: &'a [u32],
+    goal: &'a [u32],
+    moves: &'a [u32],
+    limit: usize,
+) -> Searched
+    requires { ⌜ Filled sheet (now ors) (now oneofs) (now goal) (now moves) ⌝ }
     requires { ⌜ limit ≤ 8 ⌝ }
-    ensures { λ r. ⌜ r ≡ searched (problemIn sheet) limit (startTable 128 (problemIn sheet)) ⌝ }
+    ensures { λ r. ⌜ r ≡ searched (problemIn sheet (now (ors .entry)) (now (oneofs .entry)) (now (goal .entry)) (now (moves .entry))) limit (startTable 128 (problemIn sheet (now (ors .entry)) (now (oneofs .entry)) (now (goal .entry)) (now (moves .entry)))) ⌝ }
 {
-    let start = first_table(sheet);
-    let answer = start.answer;
-    match answer {
-        Answer::Accepted => {
-            let packed = pack(sheet.moves);
-            let table = start.table;
-            lengths(
-                &packed,
-                sheet.moves.count,
-                sheet.goal,
-                &table.trues,
-                &table.falses,
-                table.count,
-                limit,
-            )
-        }
-        Answer::Refused(number, _) => refused(number, 0),
+    let known = sheet.known;
+    let mut trues = [0u32; 128];
+    let mut falses = [0u32; 128];
+    match first_into(
+        known,
+        ors,
+        sheet.ors,
+        oneofs,
+        sheet.oneofs,
+        &mut trues,
+        &mut falses,
+    ) {
+        Stepped::To(count) => lengths(moves, sheet.moves, goal, &trues, &falses, count, limit),
+        Stepped::Refused(number) => refused(number, 0),
     }
 }

@@ -15,8 +15,9 @@ pub mod Encoded
 pub mod Judging
 pub mod Reading
 pub mod Parts
+pub mod RowLaws
+pub mod SlotLaws
 pub mod Sections
 pub mod Rules
-pub mod SlotLaws
 pub mod Members
 pub mod Demands

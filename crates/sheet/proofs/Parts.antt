@@ -4,7 +4,7 @@ use mathlib.Core.Path.{_≡_, refl, sym, ap, _∙_}
 use mathlib.Core.Bool.{Bool, true, false, cond}
 use mathlib.Core.List.{List, [], _∷_}
 use mathlib.Core.Option.{Option, none, some}
-use Prim.Native.Nat.{ℕ, zero, suc, _+_, _*_, _-_, _/_, _≤_, _<_}
+use Prim.Native.Nat.{ℕ, zero, suc, _+_, _*_, _-_, _/_, _%_, _≤_, _<_}
 use native.Mathlib.Omega.{arith}
 use native.Mathlib.Nat.{sub-zero}
 use native.Mathlib.Numerals.{add-one}
@@ -89,30 +89,22 @@ module _ (n floor b : ℕ) where
         go zero j = absurd (omega arith)
         go (suc l) j = rw (lt-leb (2 * n) b h, le-leb b l (omega arith))
 
-    pub fault-complement : (floor ≡ 0 → ⊥) → floor ≤ b → b / 2 ≡ (floor - 1) / 2 → 5 ≡ literalFault n (before floor) b
+    pub fault-complement : b ≡ floor → floor % 2 ≡ 1 → 5 ≡ literalFault n (before floor) b
     unfolding literalFault
-    fault-complement z i e = go floor z i e
+    fault-complement e o = go floor e o
       where
-        go : (f : ℕ) → (f ≡ 0 → ⊥) → f ≤ b → b / 2 ≡ (f - 1) / 2 → 5 ≡ literalFault n (before f) b
-        go zero y j d = absurd (y refl)
-        go (suc l) y j d =
-            let k : suc l - 1 ≡ l = omega arith in
-            rw (lt-leb (2 * n) b h, lt-leb b l (omega arith), eq-eqb (b / 2) (l / 2) (d ∙ ap (λ (x : ℕ). x / 2) k))
+        go : (f : ℕ) → b ≡ f → f % 2 ≡ 1 → 5 ≡ literalFault n (before f) b
+        go zero d y = absurd (let z : _≡_ {A = ℕ} 0 1 = y in omega arith)
+        go (suc l) d y = rw (lt-leb (2 * n) b h, lt-leb b l (omega arith), eq-eqb (b / 2) (l / 2) (omega arith))
 
-    pub fault-none : floor ≤ b → (b / 2 ≡ (floor - 1) / 2 → ⊥) → 0 ≡ literalFault n (before floor) b
+    pub fault-none : floor ≤ b → (b ≡ floor → floor % 2 ≡ 1 → ⊥) → 0 ≡ literalFault n (before floor) b
     unfolding literalFault
     fault-none i e = go floor i e
       where
-        go : (f : ℕ) → f ≤ b → (b / 2 ≡ (f - 1) / 2 → ⊥) → 0 ≡ literalFault n (before f) b
+        go : (f : ℕ) → f ≤ b → (b ≡ f → f % 2 ≡ 1 → ⊥) → 0 ≡ literalFault n (before f) b
         go zero j d = rw (lt-leb (2 * n) b h)
         go (suc l) j d =
-            let k : suc l - 1 ≡ l = omega arith in
-            rw
-            (lt-leb (2 * n) b h, lt-leb b l (omega arith), ne-eqb (b / 2) (l / 2) (λ c. d (c ∙ ap (λ (x : ℕ). x / 2) (sym k))))
-
-    pub fault-first : floor ≡ 0 → 0 ≡ literalFault n (before floor) b
-    unfolding literalFault
-    fault-first e = rw (e, lt-leb (2 * n) b h)
+            rw (lt-leb (2 * n) b h, lt-leb b l (omega arith), ne-eqb (b / 2) (l / 2) (λ (c : b / 2 ≡ l / 2). d (omega arith) (omega arith)))
 
 -- the literals that are left, joined to those before
 abbrev pub joined : Literals → Read (List ℕ) → Read Literals

@@ -174,6 +174,22 @@ module _ {A : Type 0} (s : List ℕ) (one : Form A) where
         let e : k - i ≡ 0 = omega arith in
         t .rest ∙ ap (λ (j : ℕ). onto xs (read s (times j one) next)) e ∙ ap (onto xs) (times-none next) ∙ ap (λ (l : List A). item l next) (append-nil xs)
 
+    -- a loop that lays items in a row: one more, a fault, and all of them
+    module _ {m : Mark} {v : A} (g : Gave same (read s one next) m v) where
+      pub turns-laid : {rest : ℕ} {more : List A} → i < k → m ≡ At rest → more ≡ xs ++ (v ∷ []) → Turns k first more (i + 1) rest
+      turns-laid {rest} h q e =
+          let r = got-item same (read s one next) m v g q in
+          subst (λ (l : List A). Turns k first l (i + 1) rest) (sym (e ∙ ap (λ (a : A). xs ++ (a ∷ [])) (r .2))) (turns-more h (r .1))
+
+      pub turns-stop : {w : List A} {f p : ℕ} → i < k → m ≡ Fault f p → Gave same (read s (times k one) first) m w
+      turns-stop h q = gave-fault same _ (turns-fault h (got-fault same (read s one next) m v g q)) q
+
+  -- `parts n` are the first n items of the row
+  pub turns-end : (k first : ℕ) (parts : ℕ → List A) (i next : ℕ) → Turns k first (parts i) i next → k ≤ i → Gave same (read s (times k one) first) (At next) (parts k)
+  turns-end k first parts i next t h =
+      let e : k ≡ i = omega (arith, t .within) in
+      gave-item same _ (turns-all k first (parts i) i next t h) refl (ap parts e)
+
 -- a loop that fills slots
 pub record Taken {A B : Type 0} (s : List ℕ) (one : Form A) (shape : A → B) (size : ℕ) (d : B) (k first : ℕ) (slots : List B) (i next : ℕ) : Type 0 where
   pub done : List A
@@ -236,6 +252,9 @@ gave-as {A} {B} s x make at shape whole {m} {w} h g = subst (λ (r : Read B). Ga
     go : (r : Read A) → Gave shape r m w → Gave whole (after r (λ a next. item (make a) next)) m w
     go (item a e) k = record { mark = k .mark; value = λ b next q. k .value a e refl ∙ h a ∙ ap whole (let z : make a ≡ b = cc in z) }
     go (fault f p) k = gave-fault whole _ refl (k .mark)
+
+pub gave-made : {A B : Type 0} {x : Read A} (make : A → B) {m : Mark} {v : A} → Gave same x m v → Gave make x m (make v)
+gave-made make g = record { mark = g .mark; value = λ a next e. ap make (g .value a next e) }
 
 -- what was read where it is its own value
 pub got-same : {A : Type 0} (x : Read A) (m : Mark) (v : A) → Gave same x m v → {next : ℕ} → m ≡ At next → x ≡ item v next

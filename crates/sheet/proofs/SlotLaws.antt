@@ -1,23 +1,29 @@
--- A proper statement is read back from its slots, and an accepted sheet has one in them. Assumes nothing.
+-- What was read of a sheet, in its slots and rows, by its answer: an accepted sheet has a proper statement there. Assumes nothing.
 use mathlib.Core.Path.{_≡_, refl, sym, ap, _∙_}
-use mathlib.Core.List.{List, [], _∷_, map}
-use Prim.Native.Nat.{ℕ, zero, suc, _≤_}
+use mathlib.Core.List.{List, [], _∷_}
+use Prim.Native.Nat.{ℕ, zero, suc, _≤_, _<_}
 use native.Mathlib.Nat.{le-of-suc-le-suc, not-suc-le-zero}
 use native.Mathlib.Omega.{arith}
-use lib.ListN.{length, take, length-map}
-use Rattle.sheet.specs.declared.Literals.{Literals}
+use lib.ListN.{length, take}
 use Rattle.sheet.specs.declared.Answer.{Answer}
 use Rattle.sheet.specs.declared.Answer.the-variants.{Accepted, Refused}
+use Rattle.sheet.specs.declared.Literals.{Literals}
+use Rattle.sheet.specs.declared.Sheet.{Sheet}
 use Rattle.sheet.specs.declared.Decoded.{Decoded}
+use Rattle.sheet.specs.declared.reader.Mark.{Mark}
+use Rattle.sheet.specs.declared.reader.Mark.the-variants.{At, Fault}
 use Rattle.sheet.specs.Lists.{All, pad}
-use Rattle.sheet.specs.Problem.{Action, Statement}
-use Rattle.sheet.specs.Decoded.{noEffect, moveOf, movesOf, setsOf, clausesOf, planOf, slots, actionIn, actionsIn, setsIn, clausesIn, planIn, problemIn, statementIn}
-use Rattle.sheet.specs.Format.{Judgement, accepted, refused, sheetOf}
-use Rattle.sheet.specs.Calls.{decodedOf}
+use Rattle.sheet.specs.Problem.{Statement}
+use Rattle.sheet.specs.Format.{accepted, refused, sheetOf}
+use Rattle.sheet.specs.Decoded.{planOf, planIn, problemIn, statementIn, judgedBy, judgementIn}
+use Rattle.sheet.specs.Rows.{setsRow, clausesAt, actionFrom, actionsAt}
+use Rattle.sheet.specs.Marks.{refusedBy}
+use Rattle.sheet.specs.Calls.{answerOf, judgeOf}
 use Rattle.sheet.specs.Encoding.{Counted, ProperClause, ProperAction, ProperStatement}
 use Rattle.sheet.proofs.ListFacts.{all-map}
 use Rattle.sheet.proofs.Encoded.{encoded-iff}
 use Rattle.sheet.proofs.Judging.{accepted-iff}
+use Rattle.sheet.proofs.RowLaws.{items-length}
 
 -- the first slots of a padded list are the list
 pub take-pad : {A : Type 0} (n : ℕ) (d : A) (xs : List A) → length xs ≤ n → take (length xs) (pad n d xs) ≡ xs
@@ -26,77 +32,79 @@ take-pad n d [] h = refl
 take-pad zero d (x ∷ xs) h = absurd (not-suc-le-zero h)
 take-pad {A} (suc n) d (x ∷ xs) h = ap (λ (r : List A). x ∷ r) (take-pad n d xs (le-of-suc-le-suc h))
 
--- items put into slots by f, and taken out by g
-module _ {A B : Type 0} (f : A → B) (g : B → A) where
-  map-back : (xs : List A) → All (λ x. g (f x) ≡ x) xs → map g (map f xs) ≡ xs
-  map-back [] h = refl
-  map-back (x ∷ xs) h = (λ j. h .0 j ∷ map-back xs (h .1) j)
-
-  pub slots-back : (n : ℕ) (d : B) (xs : List A) → length xs ≤ n → All (λ x. g (f x) ≡ x) xs
-      → map g (take (length xs) (pad n d (map f xs))) ≡ xs
-  slots-back n d xs h each =
-      ap (λ (k : ℕ). map g (take k (pad n d (map f xs)))) (sym (length-map xs f))
-      ∙ ap (map g) (take-pad n d (map f xs) (rw (length-map xs f) h))
-      ∙ map-back xs each
-
-pub sets-slots : (ls : List Literals) → length ls ≤ 8 → setsIn (setsOf ls) ≡ ls
-unfolding setsIn setsOf
-sets-slots ls h = take-pad 8 _ ls h
-
-pub action-slots : (a : Action) → length (a .effects) ≤ 8 → actionIn (moveOf a) ≡ a
-unfolding actionIn moveOf
-action-slots a h = let e = take-pad 8 noEffect (a .effects) h in (λ j. record { precondition = a .precondition; effects = e j })
-
-pub clauses-slots : (n : ℕ) (cs : List (List Literals)) → Counted 0 8 (ProperClause n) cs → clausesIn (clausesOf cs) ≡ cs
-unfolding clausesIn clausesOf
-clauses-slots n cs h =
-    slots-back setsOf setsIn 8 _ cs (h .most) (all-map (ProperClause n) (λ c. setsIn (setsOf c) ≡ c) (λ c k. sets-slots c (k .most)) cs (h .each))
-
-pub actions-slots : (n : ℕ) (ms : List Action) → Counted 1 32 (ProperAction n) ms → actionsIn (movesOf ms) ≡ ms
-unfolding actionsIn movesOf
-actions-slots n ms h =
-    slots-back moveOf actionIn 32 _ ms (h .most)
-    (all-map (ProperAction n) (λ a. actionIn (moveOf a) ≡ a) (λ a k. action-slots a (k .effects .most)) ms (h .each))
-
-module _ (x : Statement) (h : ProperStatement x) where
-  pub problem-slots : problemIn (slots x) ≡ x .problem
-  unfolding problemIn slots
-  problem-slots =
-      let os = clauses-slots (x .problem .n) (x .problem .ors) (h .problem .ors) in
-      let es = clauses-slots (x .problem .n) (x .problem .oneofs) (h .problem .oneofs) in
-      let ms = actions-slots (x .problem .n) (x .problem .actions) (h .problem .actions) in
-      let gs = sets-slots (x .problem .goal) (h .problem .goal .most) in
-      (λ j. record { n = x .problem .n; known = x .problem .known; ors = os j; oneofs = es j; actions = ms j; goal = gs j })
-
-  pub plan-slots : planIn (slots x .plan) ≡ x .plan
-  unfolding planIn slots planOf
-  plan-slots = take-pad 64 0 (x .plan) (h .plan .most)
-
-  pub statement-slots : statementIn (slots x) ≡ x
-  unfolding statementIn
-  statement-slots = (λ j. record { problem = problem-slots j; plan = plan-slots j })
-
--- ---- an accepted sheet
+pub plan-slots : (ks : List ℕ) → length ks ≤ 64 → planIn (planOf ks) ≡ ks
+unfolding planIn planOf
+plan-slots ks h = take-pad 64 0 ks h
 
 pub not-both : {X : Type 0} (a : Answer) (k p : ℕ) → a ≡ Accepted → a ≡ Refused k p → X
 not-both a k p e f = absurd (let z : _≡_ {A = ℕ} 0 1 = cc in omega arith)
 
--- what an accepted sheet says
-pub record Said (s : List ℕ) (d : Decoded) : Type 0 where
-  pub statement : Statement
-  pub judged : sheetOf s ≡ accepted statement
-  pub is : d .sheet ≡ slots statement
-  pub proper : ProperStatement statement
+answer-judged : (a : Answer) (x : Statement) → a ≡ answerOf (judgedBy a x)
+unfolding answerOf
+answer-judged Accepted x = refl
+answer-judged (Refused k p) x = refl
 
-pub said : (s : List ℕ) (d : Decoded) → d ≡ decodedOf (sheetOf s) → d .answer ≡ Accepted → Said s d
-unfolding decodedOf
-said s d e a = at (sheetOf s) refl e
-  where
-    at : (j : Judgement) → sheetOf s ≡ j → d ≡ decodedOf j → Said s d
-    at (accepted x) q p = record {
-      statement = x;
-      judged = q;
-      is = ap (λ (y : Decoded). y .sheet) p;
-      proper = encoded-iff s x .0 (accepted-iff s x .0 q) .0;
-    }
-    at (refused k i) q p = not-both (d .answer) k i a (ap (λ (y : Decoded). y .answer) p)
+module _ (d : Decoded) (ors oneofs goal moves : List ℕ) where
+  -- ---- a refusal, whatever stands in the slots and rows
+  pub refused-with : (k p : ℕ) → d .answer ≡ Refused k p → judgementIn d ors oneofs goal moves ≡ refused k p
+  unfolding judgementIn
+  refused-with k p a = rw a
+
+  pub refused-by : (m : Mark) → d .answer ≡ answerOf (refusedBy m) → judgementIn d ors oneofs goal moves ≡ refusedBy m
+  unfolding refusedBy answerOf
+  refused-by (Fault k p) a = refused-with k p a
+  refused-by (At p) a = refused-with 0 p a
+
+  -- ---- what a sheet that was read says
+  module _ (s : List ℕ) (e : judgementIn d ors oneofs goal moves ≡ sheetOf s) where
+    pub answer-says : d .answer ≡ judgeOf s
+    unfolding judgementIn judgeOf
+    answer-says = answer-judged (d .answer) _ ∙ ap answerOf e
+
+    pub refused-says : (k p : ℕ) → d .answer ≡ Refused k p → sheetOf s ≡ refused k p
+    refused-says k p a = sym e ∙ refused-with k p a
+
+    module _ (a : d .answer ≡ Accepted) where
+      pub accepted-says : sheetOf s ≡ accepted (statementIn (d .sheet) ors oneofs goal moves)
+      unfolding judgementIn
+      accepted-says = sym e ∙ rw a
+
+      pub accepted-proper : ProperStatement (statementIn (d .sheet) ors oneofs goal moves)
+      accepted-proper = encoded-iff s _ .0 (accepted-iff s _ .0 accepted-says) .0
+
+-- ---- what a proper statement keeps within its slots and rows
+-- clauses within eight rows, and the alternatives of each within theirs
+abbrev pub Few : ℕ → List ℕ → Type 0
+Few k rows = (k ≤ 8) × All (λ (c : List Literals). length c ≤ 8) (clausesAt k rows)
+
+few : (n k : ℕ) (rows : List ℕ) → Counted 0 8 (ProperClause n) (clausesAt k rows) → Few k rows
+few n k rows h =
+    (rw (items-length 17 setsRow k rows) at (h .most), all-map (ProperClause n) (λ c. length c ≤ 8) (λ c g. g .most) (clausesAt k rows) (h .each))
+
+module _ (x : Sheet) (ors oneofs goal moves : List ℕ) (h : ProperStatement (statementIn x ors oneofs goal moves)) where
+  pub n-few : (1 ≤ x .n) × (x .n ≤ 32)
+  unfolding statementIn problemIn
+  n-few = (h .problem .n-least, h .problem .n-most)
+
+  pub ors-few : Few (x .ors) ors
+  unfolding statementIn problemIn
+  ors-few = few (x .n) (x .ors) ors (h .problem .ors)
+
+  pub oneofs-few : Few (x .oneofs) oneofs
+  unfolding statementIn problemIn
+  oneofs-few = few (x .n) (x .oneofs) oneofs (h .problem .oneofs)
+
+  moves-are : length (actionsAt (x .moves) moves) ≡ x .moves
+  moves-are = items-length 35 actionFrom (x .moves) moves
+
+  pub moves-few : (1 ≤ x .moves) × (x .moves ≤ 32)
+  unfolding statementIn problemIn
+  moves-few = (rw moves-are at (h .problem .actions .least), rw moves-are at (h .problem .actions .most))
+
+  pub moves-proper : All (ProperAction (x .n)) (actionsAt (x .moves) moves)
+  unfolding statementIn problemIn
+  moves-proper = h .problem .actions .each
+
+  pub numbers-below : All (λ b. b < x .moves) (planIn (x .plan))
+  unfolding statementIn problemIn
+  numbers-below = rw moves-are at (h .plan .each)

@@ -1,11 +1,9 @@
--- The call `judge`, as a function of the bytes (document 01, "The calls are"), and the reading for the layers above.
+-- The call `judge`, as a function of the bytes (document 01, "The calls are").
 use mathlib.Core.List.{List}
 use Prim.Native.Nat.{ℕ}
 use Rattle.sheet.specs.declared.Answer.{Answer}
 use Rattle.sheet.specs.declared.Answer.the-variants.{Accepted, Refused}
-use Rattle.sheet.specs.declared.Decoded.{Decoded}
 use Rattle.sheet.specs.Format.{Judgement, accepted, refused, sheetOf}
-use Rattle.sheet.specs.Decoded.{slots, noSheet}
 
 -- each case of an answer with document 01's number and position; an accepted call has neither, and counts as 0 at 0
 unfoldable pub numberOf : Answer → ℕ
@@ -23,8 +21,3 @@ answerOf (refused number position) = Refused number position
 -- judge a sheet
 unfoldable pub judgeOf : List ℕ → Answer
 judgeOf s = answerOf (sheetOf s)
-
--- the answer with the sheet in its slots; nothing in them if refused
-unfoldable pub decodedOf : Judgement → Decoded
-decodedOf (accepted x) = record { answer = Accepted; sheet = slots x }
-decodedOf (refused number position) = record { answer = Refused number position; sheet = noSheet }

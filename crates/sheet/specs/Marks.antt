@@ -3,21 +3,13 @@ use mathlib.Core.Path.{_≡_}
 use mathlib.Core.List.{List}
 use mathlib.Core.Option.{Option, none, some}
 use Prim.Native.Nat.{ℕ, zero, suc}
-use Rattle.sheet.specs.declared.Literals.{Literals}
-use Rattle.sheet.specs.declared.Effect.{Effect}
-use Rattle.sheet.specs.declared.Move.{Move}
 use Rattle.sheet.specs.declared.reader.Mark.{Mark}
 use Rattle.sheet.specs.declared.reader.Mark.the-variants.{At, Fault}
 use Rattle.sheet.specs.Form.{Read, item, fault}
 use Rattle.sheet.specs.declared.reader.Facts as slots
-use Rattle.sheet.specs.declared.Moves.{Moves}
-use Rattle.sheet.specs.declared.Sets.{Sets}
-use Rattle.sheet.specs.declared.Plan.{Plan}
-use Rattle.sheet.specs.declared.Decoded.{Decoded}
-use Rattle.sheet.specs.declared.Answer.the-variants.{Accepted}
 use Rattle.sheet.specs.Problem.{Facts}
 use Rattle.sheet.specs.Format.{Judgement, refused}
-use Rattle.sheet.specs.Decoded.{moveOf, clausesOf}
+use Rattle.sheet.specs.Rows.{clausesAt}
 
 -- where reading stands after it
 unfoldable pub markOf : {A : Type 0} → Read A → Mark
@@ -37,30 +29,11 @@ abbrev pub before : ℕ → Option ℕ
 before zero = none
 before (suc l) = some l
 
-unfoldable pub withEffects : Literals → List Effect → Move
-withEffects p es = moveOf (record { precondition = p; effects = es })
-
-unfoldable pub factsOf : Facts → slots.Facts
-factsOf f = record { n = f .n; known = f .known; ors = clausesOf (f .ors); oneofs = clausesOf (f .oneofs) }
+-- sections 1 to 4, with the rows of the clauses
+unfoldable pub factsIn : slots.Facts → List ℕ → List ℕ → Facts
+factsIn f ors oneofs = record { n = f .n; known = f .known; ors = clausesAt (f .ors) ors; oneofs = clausesAt (f .oneofs) oneofs }
 
 -- the judgement by the fault of a mark; a mark without a fault is never asked
 unfoldable pub refusedBy : Mark → Judgement
 refusedBy (Fault k p) = refused k p
 refusedBy (At p) = refused 0 p
-
--- accepted, with these parts
-unfoldable pub filled : slots.Facts → Moves → Sets → Plan → Decoded
-filled f moves goal plan =
-    record {
-      answer = Accepted;
-      sheet =
-          record {
-            n = f .n;
-            known = f .known;
-            ors = f .ors;
-            oneofs = f .oneofs;
-            moves = moves;
-            goal = goal;
-            plan = plan;
-          };
-    }

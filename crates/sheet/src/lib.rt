@@ -1,10 +1,14 @@
 // The sheet: its bytes judged and read, one pass, into a planning problem and a plan.
 ghost use mathlib.Core.Path.{_≡_};
 ghost use Rattle.sheet.specs.Format.{sheetOf};
-ghost use Rattle.sheet.specs.Calls.{judgeOf, decodedOf};
+ghost use Prim.Native.Nat.{_≤_};
+ghost use lib.ListN.{length};
+ghost use Rattle.sheet.specs.Decoded.{judgementIn};
+ghost use Rattle.sheet.specs.Calls.{judgeOf};
 
 pub mod masks;
 mod reader;
+pub mod rows;
 
 // A set of literals: bit p of trues for "p is true", of falses for "p is false".
 pub struct Literals {
@@ -18,44 +22,20 @@ pub struct Effect {
     pub result: Literals,
 }
 
-// An action (document 01: a move).
-pub struct Move {
-    pub precondition: Literals,
-    pub count: usize,
-    pub effects: [Effect; 8],
-}
-
-pub struct Moves {
-    pub count: usize,
-    pub items: [Move; 32],
-}
-
-// The alternatives of a clause, or the clauses of the goal.
-pub struct Sets {
-    pub count: usize,
-    pub items: [Literals; 8],
-}
-
-// The or-clauses, or the oneof-clauses.
-pub struct Clauses {
-    pub count: usize,
-    pub items: [Sets; 8],
-}
-
 // Move numbers, counted from 0.
 pub struct Plan {
     pub count: usize,
     pub numbers: [u8; 64],
 }
 
-// A sheet that was read: a planning problem over the propositions below n, and a plan.
+// A sheet that was read: a planning problem over the propositions below n, and a plan. Its clauses, its goal and its moves lie in
+// rows that the caller lends (module rows); here are the counts of clauses and moves.
 pub struct Sheet {
     pub n: usize,
     pub known: Literals,
-    pub ors: Clauses,
-    pub oneofs: Clauses,
-    pub moves: Moves,
-    pub goal: Sets,
+    pub ors: usize,
+    pub oneofs: usize,
+    pub moves: usize,
     pub plan: Plan,
 }
 
@@ -75,13 +55,24 @@ pub struct Decoded {
 pub fn judge(s: &[u8]) -> Answer
     ensures { λ r. ⌜ r ≡ judgeOf (now (s .entry)) ⌝ }
 {
-    let d = decode(s);
+    let mut ors = [0u32; 136];
+    let mut oneofs = [0u32; 136];
+    let mut goal = [0u32; 17];
+    let mut moves = [0u32; 1120];
+    let d = decode(s, &mut ors, &mut oneofs, &mut goal, &mut moves);
     d.answer
 }
 
-// Judges a sheet and reads it: what the layers above start from.
-pub fn decode(s: &[u8]) -> Decoded
-    ensures { λ r. ⌜ r ≡ decodedOf (sheetOf (now (s .entry))) ⌝ }
+// Judges a sheet and reads it, its clauses, goal and moves into the lent rows: what the layers above start from.
+pub fn decode(
+    s: &[u8],
+    ors: &mut [u32],
+    oneofs: &mut [u32],
+    goal: &mut [u32],
+    moves: &mut [u32],
+) -> Decoded
+    requires { ⌜ (length (now ors) ≡ 136) × (length (now oneofs) ≡ 136) × (length (now goal) ≡ 17) × (length (now moves) ≡ 1120) ⌝ }
+    ensures { λ r. ⌜ (judgementIn r (now (ors .exit)) (now (oneofs .exit)) (now (goal .exit)) (now (moves .exit)) ≡ sheetOf (now (s .entry))) × (r .sheet .plan .count ≤ 64) ⌝ }
 {
-    reader::sheet_in(s)
+    reader::sheet_in(s, ors, oneofs, goal, moves)
 }

@@ -1,15 +1,12 @@
-// Bytes to the parts of a sheet, from a position on. Each answer has a mark and a value, which is empty where the mark is a fault.
+// Bytes to the parts of a sheet, from a position on. Each answer has a mark, and lists of sets, clauses and moves are laid in lent rows.
 use crate::Answer;
-use crate::Clauses;
 use crate::Decoded;
 use crate::Effect;
 use crate::Literals;
-use crate::Move;
-use crate::Moves;
 use crate::Plan;
-use crate::Sets;
 use crate::Sheet;
 use crate::masks;
+use crate::rows::write_effect;
 ghost use mathlib.Core.Path.{_≡_};
 ghost use mathlib.Core.List.{[]};
 ghost use mathlib.Core.Option.{none};
@@ -17,9 +14,11 @@ ghost use Prim.Native.Nat.{_≤_};
 ghost use lib.ListN.{length};
 ghost use Rattle.sheet.specs.Form.{judged, times, read};
 ghost use Rattle.sheet.specs.Format as F;
-ghost use Rattle.sheet.specs.Decoded.{noMove, moveOf, movesOf, setsOf, clausesOf, planOf};
-ghost use Rattle.sheet.specs.Marks.{Gave, same, before, withEffects, factsOf, refusedBy, filled};
-ghost use Rattle.sheet.specs.Calls.{decodedOf};
+ghost use Rattle.sheet.specs.Rows as R;
+ghost use Rattle.sheet.specs.Decoded.{planOf, judgementIn};
+ghost use Rattle.sheet.specs.Marks.{Gave, same, before, factsIn, refusedBy};
+ghost use Rattle.sheet.specs.Calls.{answerOf};
+ghost use Rattle.sheet.specs.declared.Answer.the-variants.{Refused};
 
 // Where reading stands: at the next position, or at a fault with its number and position.
 pub enum Mark {
@@ -42,37 +41,17 @@ pub struct EffectRead {
     pub value: Effect,
 }
 
-pub struct MoveRead {
-    pub mark: Mark,
-    pub value: Move,
-}
-
-pub struct MovesRead {
-    pub mark: Mark,
-    pub value: Moves,
-}
-
-pub struct SetsRead {
-    pub mark: Mark,
-    pub value: Sets,
-}
-
-pub struct ClausesRead {
-    pub mark: Mark,
-    pub value: Clauses,
-}
-
 pub struct PlanRead {
     pub mark: Mark,
     pub value: Plan,
 }
 
-// Sections 1 to 4.
+// Sections 1 to 4, the clauses by their counts.
 pub struct Facts {
     pub n: usize,
     pub known: Literals,
-    pub ors: Clauses,
-    pub oneofs: Clauses,
+    pub ors: usize,
+    pub oneofs: usize,
 }
 
 pub struct FactsRead {
@@ -90,72 +69,12 @@ const NO_EFFECT: Effect = Effect {
     result: NONE,
 };
 
-const NO_MOVE: Move = Move {
-    precondition: NONE,
-    count: 0,
-    effects: [NO_EFFECT; 8],
-};
-
-const NO_MOVES: Moves = Moves {
-    count: 0,
-    items: [NO_MOVE; 32],
-};
-
-const NO_SETS: Sets = Sets {
-    count: 0,
-    items: [NONE; 8],
-};
-
-const NO_CLAUSES: Clauses = Clauses {
-    count: 0,
-    items: [NO_SETS; 8],
-};
-
 const NO_PLAN: Plan = Plan {
     count: 0,
     numbers: [0; 64],
 };
 
 // An empty value of each kind.
-fn no_move() -> Move
-    ensures { λ r. ⌜ r ≡ noMove ⌝ }
-{
-    Move {
-        precondition: NONE,
-        count: 0,
-        effects: [NO_EFFECT; 8],
-    }
-}
-
-fn no_moves() -> Moves
-    ensures { λ r. ⌜ r ≡ movesOf [] ⌝ }
-{
-    let m = no_move();
-    Moves {
-        count: 0,
-        items: [m; 32],
-    }
-}
-
-fn no_sets() -> Sets
-    ensures { λ r. ⌜ r ≡ setsOf [] ⌝ }
-{
-    Sets {
-        count: 0,
-        items: [NONE; 8],
-    }
-}
-
-fn no_clauses() -> Clauses
-    ensures { λ r. ⌜ r ≡ clausesOf [] ⌝ }
-{
-    let s = no_sets();
-    Clauses {
-        count: 0,
-        items: [s; 8],
-    }
-}
-
 fn no_plan() -> Plan
     ensures { λ r. ⌜ r ≡ planOf [] ⌝ }
 {
@@ -213,8 +132,8 @@ fn literal_fault(n: usize, floor: usize, b: usize) -> u8
     if b < floor {
         return 4;
     }
-    if floor != 0 {
-        if b / 2 == (floor - 1) / 2 {
+    if b == floor {
+        if floor % 2 == 1 {
             return 5;
         }
     }
@@ -322,217 +241,157 @@ fn effect_at(s: &[u8], n: usize, at: usize) -> EffectRead
     }
 }
 
-// k effects from first, after the precondition.
-fn effects_from(s: &[u8], n: usize, precondition: Literals, k: usize, first: usize) -> MoveRead
-    requires { ⌜ (n ≤ 32) × (k ≤ 8) ⌝ }
-    ensures { λ r. ⌜ Gave (withEffects precondition) (read (now (s .entry)) (times k (F.effect n)) first) (r .mark) (r .value) ⌝ }
+// k effects from first, laid in the row.
+fn effects_from(s: &[u8], n: usize, k: usize, first: usize, effects: &mut [u32]) -> Mark
+    requires { ⌜ (n ≤ 32) × (k ≤ 8) × (length (now effects) ≡ 32) ⌝ }
+    ensures { λ r. ⌜ Gave same (read (now (s .entry)) (times k (F.effect n)) first) r (R.effectsAt k (now (effects .exit))) ⌝ }
 {
-    let mut effects = [NO_EFFECT; 8];
     let mut next = first;
     let mut i: usize = 0;
     while i < k {
         let r = effect_at(s, n, next);
         let mark = r.mark;
         let Mark::At(rest) = mark else {
-            return MoveRead {
-                mark: mark,
-                value: Move {
-                    precondition: precondition,
-                    count: 0,
-                    effects: effects,
-                },
-            };
+            return mark;
         };
         let e = r.value;
-        effects[i] = e;
+        write_effect(effects, 4 * i, e);
         next = rest;
         i += 1;
     }
-    MoveRead {
-        mark: Mark::At(next),
-        value: Move {
-            precondition: precondition,
-            count: k,
-            effects: effects,
-        },
-    }
+    Mark::At(next)
 }
 
-// A precondition and the effects.
-fn move_at(s: &[u8], n: usize, at: usize) -> MoveRead
-    requires { ⌜ n ≤ 32 ⌝ }
-    ensures { λ r. ⌜ Gave moveOf (read (now (s .entry)) (F.action n) at) (r .mark) (r .value) ⌝ }
+// A precondition and the effects, laid in the 35 numbers of a move.
+fn move_at(s: &[u8], n: usize, at: usize, row: &mut [u32]) -> Mark
+    requires { ⌜ (n ≤ 32) × (length (now row) ≡ 35) ⌝ }
+    ensures { λ r. ⌜ Gave same (read (now (s .entry)) (F.action n) at) r (R.actionFrom (now (row .exit))) ⌝ }
 {
     let p = literals_at(s, n, 0, 8, at);
     let mark = p.mark;
     let Mark::At(middle) = mark else {
-        return MoveRead {
-            mark: mark,
-            value: no_move(),
-        };
+        return mark;
     };
     let r = count_at(s, 0, 8, middle);
     let end = r.mark;
     let Mark::At(first) = end else {
-        return MoveRead {
-            mark: end,
-            value: no_move(),
-        };
+        return end;
     };
     let precondition = p.value;
-    effects_from(s, n, precondition, r.value, first)
+    let k = r.value;
+    row[0] = precondition.trues;
+    row[1] = precondition.falses;
+    row[2] = k as u32;
+    effects_from(s, n, k, first, &mut row[3..35])
 }
 
-// k moves from first.
-fn moves_from(s: &[u8], n: usize, k: usize, first: usize) -> MovesRead
-    requires { ⌜ (n ≤ 32) × (k ≤ 32) ⌝ }
-    ensures { λ r. ⌜ Gave movesOf (read (now (s .entry)) (times k (F.action n)) first) (r .mark) (r .value) ⌝ }
+// k moves from first, laid in the rows.
+fn moves_from(s: &[u8], n: usize, k: usize, first: usize, rows: &mut [u32]) -> Mark
+    requires { ⌜ (n ≤ 32) × (k ≤ 32) × (length (now rows) ≡ 1120) ⌝ }
+    ensures { λ r. ⌜ Gave same (read (now (s .entry)) (times k (F.action n)) first) r (R.actionsAt k (now (rows .exit))) ⌝ }
 {
-    let empty = no_move();
-    let mut items = [empty; 32];
     let mut next = first;
     let mut i: usize = 0;
     while i < k {
-        let r = move_at(s, n, next);
-        let mark = r.mark;
+        let at = i * 35;
+        let mark = move_at(s, n, next, &mut rows[at..at + 35]);
         let Mark::At(rest) = mark else {
-            return MovesRead {
-                mark: mark,
-                value: Moves {
-                    count: 0,
-                    items: items,
-                },
-            };
+            return mark;
         };
-        let m = r.value;
-        items[i] = m;
         next = rest;
         i += 1;
     }
-    MovesRead {
-        mark: Mark::At(next),
-        value: Moves {
-            count: k,
-            items: items,
-        },
-    }
+    Mark::At(next)
 }
 
-// Section 5.
-fn moves_at(s: &[u8], n: usize, at: usize) -> MovesRead
-    requires { ⌜ n ≤ 32 ⌝ }
-    ensures { λ r. ⌜ Gave movesOf (read (now (s .entry)) (F.actions n) at) (r .mark) (r .value) ⌝ }
+// Section 5, laid in the rows: how many moves.
+fn moves_at(s: &[u8], n: usize, at: usize, rows: &mut [u32]) -> ByteRead
+    requires { ⌜ (n ≤ 32) × (length (now rows) ≡ 1120) ⌝ }
+    ensures { λ r. ⌜ Gave same (read (now (s .entry)) (F.actions n) at) (r .mark) (R.actionsAt (r .value) (now (rows .exit))) ⌝ }
 {
     let r = count_at(s, 1, 32, at);
     let mark = r.mark;
     let Mark::At(first) = mark else {
-        return MovesRead {
-            mark: mark,
-            value: no_moves(),
-        };
+        return r;
     };
-    moves_from(s, n, r.value, first)
+    let k = r.value;
+    ByteRead {
+        mark: moves_from(s, n, k, first, rows),
+        value: k,
+    }
 }
 
-// k lists of 1 to widest literals from first.
-fn sets_from(s: &[u8], n: usize, widest: usize, k: usize, first: usize) -> SetsRead
-    requires { ⌜ (n ≤ 32) × (k ≤ 8) ⌝ }
-    ensures { λ r. ⌜ Gave setsOf (read (now (s .entry)) (times k (F.literals n 1 widest)) first) (r .mark) (r .value) ⌝ }
+// k lists of 1 to widest literals from first, laid out, two masks to each.
+fn sets_from(s: &[u8], n: usize, widest: usize, k: usize, first: usize, sets: &mut [u32]) -> Mark
+    requires { ⌜ (n ≤ 32) × (k ≤ 8) × (length (now sets) ≡ 16) ⌝ }
+    ensures { λ r. ⌜ Gave same (read (now (s .entry)) (times k (F.literals n 1 widest)) first) r (R.setsAt k (now (sets .exit))) ⌝ }
 {
-    let mut items = [NONE; 8];
     let mut next = first;
     let mut i: usize = 0;
     while i < k {
         let r = literals_at(s, n, 1, widest, next);
         let mark = r.mark;
         let Mark::At(rest) = mark else {
-            return SetsRead {
-                mark: mark,
-                value: Sets {
-                    count: 0,
-                    items: items,
-                },
-            };
+            return mark;
         };
-        let l = r.value;
-        items[i] = l;
+        let a = r.value;
+        sets[2 * i] = a.trues;
+        sets[2 * i + 1] = a.falses;
         next = rest;
         i += 1;
     }
-    SetsRead {
-        mark: Mark::At(next),
-        value: Sets {
-            count: k,
-            items: items,
-        },
-    }
+    Mark::At(next)
 }
 
-// least to 8 lists of 1 to widest literals: the alternatives of a clause, or section 6, the goal.
-fn sets_at(s: &[u8], n: usize, least: usize, widest: usize, at: usize) -> SetsRead
-    requires { ⌜ n ≤ 32 ⌝ }
-    ensures { λ r. ⌜ Gave setsOf (read (now (s .entry)) (F.listOf least 8 (F.literals n 1 widest)) at) (r .mark) (r .value) ⌝ }
+// least to 8 lists of 1 to widest literals, laid in 17 numbers: the alternatives of a clause, or section 6, the goal.
+fn sets_at(s: &[u8], n: usize, least: usize, widest: usize, at: usize, row: &mut [u32]) -> Mark
+    requires { ⌜ (n ≤ 32) × (length (now row) ≡ 17) ⌝ }
+    ensures { λ r. ⌜ Gave same (read (now (s .entry)) (F.listOf least 8 (F.literals n 1 widest)) at) r (R.setsRow (now (row .exit))) ⌝ }
 {
     let r = count_at(s, least, 8, at);
     let mark = r.mark;
     let Mark::At(first) = mark else {
-        return SetsRead {
-            mark: mark,
-            value: no_sets(),
-        };
+        return mark;
     };
-    sets_from(s, n, widest, r.value, first)
+    let k = r.value;
+    row[0] = k as u32;
+    sets_from(s, n, widest, k, first, &mut row[1..17])
 }
 
-// k clauses from first.
-fn clauses_from(s: &[u8], n: usize, k: usize, first: usize) -> ClausesRead
-    requires { ⌜ (n ≤ 32) × (k ≤ 8) ⌝ }
-    ensures { λ r. ⌜ Gave clausesOf (read (now (s .entry)) (times k (F.clause n)) first) (r .mark) (r .value) ⌝ }
+// k clauses from first, laid in the rows.
+fn clauses_from(s: &[u8], n: usize, k: usize, first: usize, rows: &mut [u32]) -> Mark
+    requires { ⌜ (n ≤ 32) × (k ≤ 8) × (length (now rows) ≡ 136) ⌝ }
+    ensures { λ r. ⌜ Gave same (read (now (s .entry)) (times k (F.clause n)) first) r (R.clausesAt k (now (rows .exit))) ⌝ }
 {
-    let empty = no_sets();
-    let mut items = [empty; 8];
     let mut next = first;
     let mut i: usize = 0;
     while i < k {
-        let r = sets_at(s, n, 1, 4, next);
-        let mark = r.mark;
+        let at = i * 17;
+        let mark = sets_at(s, n, 1, 4, next, &mut rows[at..at + 17]);
         let Mark::At(rest) = mark else {
-            return ClausesRead {
-                mark: mark,
-                value: Clauses {
-                    count: 0,
-                    items: items,
-                },
-            };
+            return mark;
         };
-        let c = r.value;
-        items[i] = c;
         next = rest;
         i += 1;
     }
-    ClausesRead {
-        mark: Mark::At(next),
-        value: Clauses {
-            count: k,
-            items: items,
-        },
-    }
+    Mark::At(next)
 }
 
-// Section 3 or 4.
-fn clauses_at(s: &[u8], n: usize, at: usize) -> ClausesRead
-    requires { ⌜ n ≤ 32 ⌝ }
-    ensures { λ r. ⌜ Gave clausesOf (read (now (s .entry)) (F.clauses n) at) (r .mark) (r .value) ⌝ }
+// Section 3 or 4, laid in the rows: how many clauses.
+fn clauses_at(s: &[u8], n: usize, at: usize, rows: &mut [u32]) -> ByteRead
+    requires { ⌜ (n ≤ 32) × (length (now rows) ≡ 136) ⌝ }
+    ensures { λ r. ⌜ Gave same (read (now (s .entry)) (F.clauses n) at) (r .mark) (R.clausesAt (r .value) (now (rows .exit))) ⌝ }
 {
     let r = count_at(s, 0, 8, at);
     let mark = r.mark;
     let Mark::At(first) = mark else {
-        return ClausesRead {
-            mark: mark,
-            value: no_clauses(),
-        };
+        return r;
     };
-    clauses_from(s, n, r.value, first)
+    let k = r.value;
+    ByteRead {
+        mark: clauses_from(s, n, k, first, rows),
+        value: k,
+    }
 }
 
 // The number of one of the m moves.
@@ -613,15 +472,16 @@ fn no_facts(mark: Mark) -> FactsRead
         value: Facts {
             n: 0,
             known: NONE,
-            ors: no_clauses(),
-            oneofs: no_clauses(),
+            ors: 0,
+            oneofs: 0,
         },
     }
 }
 
-// Sections 1 to 4.
-fn facts_at(s: &[u8]) -> FactsRead
-    ensures { λ r. ⌜ Gave factsOf (read (now (s .entry)) F.facts 0) (r .mark) (r .value) × (r .value .n ≤ 32) ⌝ }
+// Sections 1 to 4, the clauses laid in the rows.
+fn facts_at(s: &[u8], ors: &mut [u32], oneofs: &mut [u32]) -> FactsRead
+    requires { ⌜ (length (now ors) ≡ 136) × (length (now oneofs) ≡ 136) ⌝ }
+    ensures { λ r. ⌜ Gave same (read (now (s .entry)) F.facts 0) (r .mark) (factsIn (r .value) (now (ors .exit)) (now (oneofs .exit))) × (r .value .n ≤ 32) ⌝ }
 {
     let first = count_at(s, 1, 32, 0);
     let mark = first.mark;
@@ -634,44 +494,40 @@ fn facts_at(s: &[u8]) -> FactsRead
     let Mark::At(b) = mark_known else {
         return no_facts(mark_known);
     };
-    let ors = clauses_at(s, n, b);
-    let mark_ors = ors.mark;
+    let or_count = clauses_at(s, n, b, ors);
+    let mark_ors = or_count.mark;
     let Mark::At(c) = mark_ors else {
         return no_facts(mark_ors);
     };
-    let oneofs = clauses_at(s, n, c);
-    let mark_oneofs = oneofs.mark;
+    let oneof_count = clauses_at(s, n, c, oneofs);
+    let mark_oneofs = oneof_count.mark;
     let Mark::At(d) = mark_oneofs else {
         return no_facts(mark_oneofs);
     };
     let known_set = known.value;
-    let or_clauses = ors.value;
-    let oneof_clauses = oneofs.value;
     FactsRead {
         mark: Mark::At(d),
         value: Facts {
             n: n,
             known: known_set,
-            ors: or_clauses,
-            oneofs: oneof_clauses,
+            ors: or_count.value,
+            oneofs: oneof_count.value,
         },
     }
 }
 
 // Refused, with nothing in any slot.
 fn refused(number: u8, position: usize) -> Decoded
-    ensures { λ r. ⌜ r ≡ decodedOf (F.refused number position) ⌝ }
+    ensures { λ r. ⌜ (r .answer ≡ Refused number position) × (r .sheet .plan .count ≤ 64) ⌝ }
 {
-    let clauses = no_clauses();
     Decoded {
         answer: Answer::Refused(number, position),
         sheet: Sheet {
             n: 0,
             known: NONE,
-            ors: clauses,
-            oneofs: clauses,
-            moves: no_moves(),
-            goal: no_sets(),
+            ors: 0,
+            oneofs: 0,
+            moves: 0,
             plan: no_plan(),
         },
     }
@@ -679,7 +535,7 @@ fn refused(number: u8, position: usize) -> Decoded
 
 // Refused by the fault of a mark.
 fn refused_at(mark: Mark) -> Decoded
-    ensures { λ r. ⌜ r ≡ decodedOf (refusedBy mark) ⌝ }
+    ensures { λ r. ⌜ (r .answer ≡ answerOf (refusedBy mark)) × (r .sheet .plan .count ≤ 64) ⌝ }
 {
     match mark {
         Mark::Fault(number, position) => refused(number, position),
@@ -687,49 +543,33 @@ fn refused_at(mark: Mark) -> Decoded
     }
 }
 
-// Accepted, with the parts of the sheet in their slots.
-fn accepted(f: Facts, moves: Moves, goal: Sets, plan: Plan) -> Decoded
-    ensures { λ r. ⌜ r ≡ filled f moves goal plan ⌝ }
+// The sheet, its clauses and moves laid in the rows, or its first fault.
+pub fn sheet_in(
+    s: &[u8],
+    ors: &mut [u32],
+    oneofs: &mut [u32],
+    goal: &mut [u32],
+    moves: &mut [u32],
+) -> Decoded
+    requires { ⌜ (length (now ors) ≡ 136) × (length (now oneofs) ≡ 136) × (length (now goal) ≡ 17) × (length (now moves) ≡ 1120) ⌝ }
+    ensures { λ r. ⌜ (judgementIn r (now (ors .exit)) (now (oneofs .exit)) (now (goal .exit)) (now (moves .exit)) ≡ F.sheetOf (now (s .entry))) × (r .sheet .plan .count ≤ 64) ⌝ }
 {
-    let known = f.known;
-    let ors = f.ors;
-    let oneofs = f.oneofs;
-    Decoded {
-        answer: Answer::Accepted,
-        sheet: Sheet {
-            n: f.n,
-            known: known,
-            ors: ors,
-            oneofs: oneofs,
-            moves: moves,
-            goal: goal,
-            plan: plan,
-        },
-    }
-}
-
-// The sheet, or its first fault.
-pub fn sheet_in(s: &[u8]) -> Decoded
-    ensures { λ r. ⌜ r ≡ decodedOf (F.sheetOf (now (s .entry))) ⌝ }
-{
-    let facts = facts_at(s);
+    let facts = facts_at(s, ors, oneofs);
     let mark = facts.mark;
     let Mark::At(a) = mark else {
         return refused_at(mark);
     };
     let f = facts.value;
-    let moves = moves_at(s, f.n, a);
-    let mark_moves = moves.mark;
+    let count = moves_at(s, f.n, a, moves);
+    let mark_moves = count.mark;
     let Mark::At(b) = mark_moves else {
         return refused_at(mark_moves);
     };
-    let goal = sets_at(s, f.n, 0, 8, b);
-    let mark_goal = goal.mark;
+    let mark_goal = sets_at(s, f.n, 0, 8, b, goal);
     let Mark::At(c) = mark_goal else {
         return refused_at(mark_goal);
     };
-    let all = moves.value;
-    let plan = plan_at(s, all.count, c);
+    let plan = plan_at(s, count.value, c);
     let mark_plan = plan.mark;
     let Mark::At(end) = mark_plan else {
         return refused_at(mark_plan);
@@ -737,7 +577,17 @@ pub fn sheet_in(s: &[u8]) -> Decoded
     if end < s.len() {
         return refused(6, end);
     }
-    let goal_clauses = goal.value;
+    let known = f.known;
     let numbers = plan.value;
-    accepted(f, all, goal_clauses, numbers)
+    Decoded {
+        answer: Answer::Accepted,
+        sheet: Sheet {
+            n: f.n,
+            known: known,
+            ors: f.ors,
+            oneofs: f.oneofs,
+            moves: count.value,
+            plan: numbers,
+        },
+    }
 }

@@ -2,32 +2,28 @@
 use mathlib.Core.Path.{_≡_, refl, sym, ap, ap₂, _∙_, subst}
 use mathlib.Core.Bool.{Bool, true, false, not, _&&_, _||_}
 use mathlib.Core.List.{List, [], _∷_, _++_, map}
-use Prim.Native.Nat.{ℕ, zero, suc, _≤_, _<_}
-use native.Mathlib.Nat.{not-suc-le-zero, le-of-suc-le-suc}
+use Prim.Native.Nat.{ℕ, _≤_, _<_}
 use lib.Dec.{ltb}
-use lib.ListN.{length, getD, replicate}
-use borrow.Author.Tests.{lt-ltb, le-ltb}
+use lib.ListN.{length, take, drop, replicate}
+use borrow.Author.Tests.{lt-ltb, le-ltb, ltb-true}
 use Rattle.sheet.specs.declared.Answer.{Answer}
 use Rattle.sheet.specs.declared.Answer.the-variants.{Accepted, Refused}
 use Rattle.sheet.specs.declared.Literals.{Literals}
 use Rattle.sheet.specs.declared.Effect.{Effect}
-use Rattle.sheet.specs.declared.Move.{Move}
-use Rattle.sheet.specs.declared.Sheet.{Sheet}
-use Rattle.sheet.specs.declared.Decoded.{Decoded}
 use Rattle.sheet.specs.Literals.{consistent, within, Proper}
 use Rattle.sheet.specs.Lists.{All, anyOf, allOf, collect, pad}
-use Rattle.sheet.specs.Problem.{Action, Problem, Statement}
+use Rattle.sheet.specs.declared.Sheet.{Sheet}
+use Rattle.sheet.specs.Problem.{Action}
 use Rattle.sheet.specs.Format.{Judgement, accepted, refused as faulty, sheetOf}
-use Rattle.sheet.specs.Encoding.{ProperEffect, ProperAction, ProperStatement}
-use Rattle.sheet.specs.Decoded.{moveOf, noMove, movesOf, slots, actionIn, problemIn}
-use Rattle.sheet.specs.Calls.{decodedOf}
+use Rattle.sheet.specs.Decoded.{problemIn, statementIn}
+use Rattle.sheet.specs.Encoding.{ProperEffect, ProperAction}
 use Rattle.sheet.proofs.ListFacts.{all-map}
 use Rattle.sheet.proofs.LiteralSets.{proper-consistent}
-use Rattle.sheet.proofs.SlotLaws.{action-slots, problem-slots, not-both, Said}
 use Rattle.table.specs.declared.slots.Grown.{Grown}
 use Rattle.table.specs.declared.slots.Grown.the-variants as grown
 use Rattle.table.specs.declared.Table.{Table}
 use Rattle.table.specs.declared.Tabled.{Tabled}
+use Rattle.table.specs.declared.Counted.{Counted}
 use Rattle.table.specs.Worlds.{results}
 use Rattle.table.specs.Minimal.{described, putAll, Outcome, refused}
 use Rattle.table.specs.Step.{pieces, image, orFull, stepClear, stepSure, stepTable}
@@ -36,11 +32,11 @@ use Rattle.table.specs.Slots.{pairs, entriesOf, entries, tableOf, Grew, 
 use Rattle.table.specs.Calls.{orGiven, actionAt, stepKnown, stepMove, stepOf}
 use Rattle.table.specs.declared.steps.Stepped.{Stepped}
 use Rattle.table.specs.declared.steps.Stepped.the-variants as moved
-use Rattle.table.specs.Moves.{effectsOf, effectsAt, actionBy, lent, tabled, Fits, Steps, Filled}
+use Rattle.sheet.specs.Rows.{setFrom, actionBy, rowOf, countIn, actionFrom, countOf, actionOf, actionsAt}
+use Rattle.table.specs.Moves.{lent, tabled, toldOf, kept, counted, Fits}
 use Rattle.table.specs.Carry.{Steady}
 use Rattle.table.proofs.Pads.{length-entriesOf, fresh}
-use Rattle.table.proofs.Started.{all-at}
-use Rattle.table.proofs.EffectRows.{laid-action}
+use Rattle.sheet.proofs.RowLaws.{items-length, item-at, item-of-all, effects-long}
 use Rattle.table.proofs.PairLaws.{pairs-contradict}
 use Rattle.table.proofs.Describing.{described-iff}
 
@@ -151,126 +147,81 @@ module _ (a : Action) (n : ℕ) (ts fs : List ℕ) (h : Fits a (lent n ts fs)) w
       unfolding entries
       lent-to k q = stepped a given h s u r vs hs (fresh-puts us gs e f _ r vs hs w) k q
 
--- ---- a move whose effects are laid out
-module _ (m : Move) (t : Table) (row : List ℕ) (e : effectsOf m ≡ effectsAt (m .count) row) where
-  pub laid-fits : Fits (actionIn m) t → Fits (actionBy (m .precondition) (m .count) row) t
-  laid-fits h = subst (λ (a : Action). Fits a t) (laid-action m row e) h
+-- ---- the move of a number, laid out among others
+pub action-is : (moves : List ℕ) (m : ℕ) (row : List ℕ) (p : Literals) (size : ℕ) → row ≡ rowOf 35 moves m → p ≡ setFrom row 0 → size ≡ countIn row
+    → actionBy p size (take 32 (drop 3 row)) ≡ actionOf moves m
+unfolding actionFrom
+action-is moves m row p size r a b = ap₂ (λ (q : Literals) (n : ℕ). actionBy q n (take 32 (drop 3 row))) a b ∙ ap actionFrom r
 
-  pub laid-step : {d : Tabled} → d ≡ orGiven t (stepTable 128 (actionBy (m .precondition) (m .count) row) (entries t)) → d ≡ orGiven t (stepTable 128 (actionIn m) (entries t))
-  laid-step q = q ∙ ap (λ (a : Action). orGiven t (stepTable 128 a (entries t))) (sym (laid-action m row e))
-
--- a table and a refusal, as the call by value gives them
-pub lent-given : (t : Table) (d : Tabled) (r : Stepped) (us gs : List ℕ) (k : ℕ) → r ≡ moved.To k → tabled t r us gs ≡ d
-    → record { answer = Accepted; table = record { count = k; trues = us; falses = gs } } ≡ d
-lent-given t d r us gs k q e = sym (ap (λ (x : Stepped). tabled t x us gs) q) ∙ e
-
-pub lent-refused : (t : Table) (o : Outcome) (r : Stepped) (us gs : List ℕ) (number : ℕ) → r ≡ moved.Refused number → tabled t r us gs ≡ orGiven t o
-    → orGiven t (refused number) ≡ orGiven t o
-unfolding orGiven
-lent-refused t o r us gs number q e = sym (ap (λ (x : Stepped). tabled t x us gs) q) ∙ e
-
--- ---- the move of a number on a sheet that was read
-pad-member : {A B : Type 0} (f : B → A) (n : ℕ) (d e : A) (xs : List B) (z : B) (i : ℕ) → i < length xs → length xs ≤ n
-    → getD (pad n d (map f xs)) i e ≡ f (getD xs i z)
-unfolding pad
-pad-member f n d e [] z i h k = absurd (not-suc-le-zero h)
-pad-member f zero d e (x ∷ xs) z i h k = absurd (not-suc-le-zero k)
-pad-member f (suc n) d e (x ∷ xs) z zero h k = refl
-pad-member f (suc n) d e (x ∷ xs) z (suc i) h k = pad-member f n d e xs z i (le-of-suc-le-suc h) (le-of-suc-le-suc k)
-
-module _ (y : Statement) (h : ProperStatement y) (i : ℕ) (e : Move) (lt : i < length (y .problem .actions)) where
-  its-action : ProperAction (y .problem .n) (actionAt (y .problem) i)
-  unfolding actionAt
-  its-action = all-at (ProperAction (y .problem .n)) (y .problem .actions) i _ lt (h .problem .actions .each)
-
-  its-move : getD (slots y .moves .items) i e ≡ moveOf (actionAt (y .problem) i)
-  unfolding slots movesOf actionAt
-  its-move = pad-member moveOf 32 noMove e (y .problem .actions) _ i lt (h .problem .actions .most)
-
-  its-back : actionIn (getD (slots y .moves .items) i e) ≡ actionAt (y .problem) i
-  its-back = ap actionIn its-move ∙ action-slots (actionAt (y .problem) i) (its-action .effects .most)
-
-  its-count : getD (slots y .moves .items) i e .count ≤ 8
-  unfolding moveOf
-  its-count = let c : getD (slots y .moves .items) i e .count ≡ length (actionAt (y .problem) i .effects) = ap (λ (m : Move). m .count) its-move in rw c (its-action .effects .most)
-
-  its-steps : (t : Table) → described 128 (y .problem .n) (entries t) ≡ true → Steps (getD (slots y .moves .items) i e) t
-  unfolding entries
-  its-steps t d =
-      let k = described-iff 128 (y .problem .n) (entries t) .0 d in
-      record {
-        effects-most = its-count;
-        fits = record {
-          n = y .problem .n;
-          n-most = h .problem .n-most;
-          entries-most = subst (λ (z : ℕ). z ≤ 128) (length-entriesOf (t .count) (t .trues) (t .falses)) (k .most);
-          action = subst (ProperAction (y .problem .n)) (sym its-back) its-action;
-          proper = k .proper;
-        };
-      }
-
-module _ (x : Sheet) (g : Filled x) (t : Table) (i : ℕ) where
-  pub problem-is : problemIn x ≡ g .statement .problem
-  problem-is = ap problemIn (g .is) ∙ problem-slots (g .statement) (g .proper)
-
-  pub count-is : x .moves .count ≡ length (g .statement .problem .actions)
-  unfolding slots movesOf
-  count-is = ap (λ (s : Sheet). s .moves .count) (g .is)
-
-  pub actions-are : x .moves .count ≡ length (problemIn x .actions)
-  actions-are = count-is ∙ sym (ap (λ (p : Problem). length (p .actions)) problem-is)
-
-  pub moves-most : x .moves .count ≤ 32
-  moves-most = rw count-is (g .proper .problem .actions .most)
+-- the moves of a sheet over n propositions: 7, 22, then the step
+module _ (n : ℕ) (hn : n ≤ 32) (moves : List ℕ) (count : ℕ) (h : All (ProperAction n) (actionsAt count moves)) (t : Table) (i : ℕ) where
+  abbrev it : Action
+  it = actionOf moves i
 
   abbrev whole : Tabled
-  whole = stepMove (ltb i (length (problemIn x .actions))) (problemIn x) t i
+  whole = stepMove (ltb i count) n it t
 
-  pub off-sheet : x .moves .count ≤ i → orGiven t (refused 7) ≡ whole
-  unfolding orGiven
-  off-sheet k = sym (ap (λ (b : Bool). stepMove b (problemIn x) t i) (le-ltb i (length (problemIn x .actions)) (rw (← actions-are) k)))
+  pub off-sheet : count ≤ i → record { answer = Refused 7 0; table = t } ≡ whole
+  off-sheet k = sym (ap (λ (b : Bool). stepMove b n it t) (le-ltb i count k))
 
-  module _ (lt : i < x .moves .count) where
-    by-known : (b : Bool) → described 128 (x .n) (entries t) ≡ b → stepKnown b (actionAt (problemIn x) i) t ≡ whole
-    unfolding problemIn
+  module _ (lt : i < count) where
+    its-action : ProperAction n it
+    its-action = item-of-all 35 actionFrom (ProperAction n) count moves i lt h
+
+    pub its-count : countOf moves i ≤ 8
+    unfolding actionFrom
+    its-count = subst (λ (k : ℕ). k ≤ 8) (effects-long (countOf moves i) (take 32 (drop 3 (rowOf 35 moves i)))) (its-action .effects .most)
+
+    by-known : (b : Bool) → described 128 n (entries t) ≡ b → stepKnown b it t ≡ whole
     by-known b d =
-        ap (λ (z : Bool). stepKnown z (actionAt (problemIn x) i) t) (sym d)
-        ∙ sym (ap (λ (z : Bool). stepMove z (problemIn x) t i) (lt-ltb i (length (problemIn x .actions)) (rw (← actions-are) lt)))
+        ap (λ (z : Bool). stepKnown z it t) (sym d)
+        ∙ sym (ap (λ (z : Bool). stepMove z n it t) (lt-ltb i count lt))
 
-    pub undescribed : described 128 (x .n) (entries t) ≡ false → orGiven t (refused 22) ≡ whole
-    unfolding orGiven
+    pub undescribed : described 128 n (entries t) ≡ false → record { answer = Refused 22 0; table = t } ≡ whole
     undescribed d = by-known false d
 
-    pub move-is : (e : Move) → actionIn (getD (x .moves .items) i e) ≡ actionAt (problemIn x) i
-    move-is e =
-        ap (λ (s : Sheet). actionIn (getD (s .moves .items) i e)) (g .is)
-        ∙ its-back (g .statement) (g .proper) i e (rw (← count-is) lt)
-        ∙ ap (λ (p : Problem). actionAt p i) (sym problem-is)
+    module _ (d : described 128 n (entries t) ≡ true) where
+      pub its-fits : Fits it t
+      unfolding entries
+      its-fits =
+          let k = described-iff 128 n (entries t) .0 d in
+          record {
+            n = n;
+            n-most = hn;
+            entries-most = subst (λ (z : ℕ). z ≤ 128) (length-entriesOf (t .count) (t .trues) (t .falses)) (k .most);
+            action = its-action;
+            proper = k .proper;
+          }
 
-    module _ (d : described 128 (x .n) (entries t) ≡ true) (e : Move) where
-      pub steps-of : Steps (getD (x .moves .items) i e) t
-      unfolding slots
-      steps-of =
-          subst (λ (s : Sheet). described 128 (s .n) (entries t) ≡ true → Steps (getD (s .moves .items) i e) t) (sym (g .is))
-          (its-steps (g .statement) (g .proper) i e (rw (← count-is) lt) t) d
-
-      pub known-step : orGiven t (stepTable 128 (actionIn (getD (x .moves .items) i e)) (entries t)) ≡ whole
-      known-step = ap (λ (a : Action). orGiven t (stepTable 128 a (entries t))) (move-is e) ∙ by-known true d
+      pub known-step : orGiven t (stepTable 128 it (entries t)) ≡ whole
+      known-step = by-known true d
 
 -- ---- the call on bytes
-pub said-filled : (s : List ℕ) (d : Decoded) → Said s d → Filled (d .sheet)
-said-filled s d h = record { statement = h .statement; is = h .is; proper = h .proper }
+-- the step by a move of a sheet that was read
+pub on-sheet : (x : Sheet) (ors oneofs goal moves : List ℕ) (t : Table) (m : ℕ)
+    → stepMove (ltb m (x .moves)) (x .n) (actionOf moves m) t ≡ stepOf (accepted (statementIn x ors oneofs goal moves)) t m
+unfolding stepOf statementIn problemIn actionAt
+on-sheet x ors oneofs goal moves t m =
+    by (ltb m (x .moves)) refl
+    ∙ ap (λ (k : ℕ). stepMove (ltb m k) (x .n) (actionAt (problemIn x ors oneofs goal moves) m) t) (sym (items-length 35 actionFrom (x .moves) moves))
+  where
+    by : (b : Bool) → ltb m (x .moves) ≡ b → stepMove b (x .n) (actionOf moves m) t ≡ stepMove b (x .n) (actionAt (problemIn x ors oneofs goal moves) m) t
+    by true e = ap (λ (a : Action). stepMove true (x .n) a t) (sym (item-at 35 actionFrom (x .moves) moves m _ (ltb-true m (x .moves) e)))
+    by false e = refl
 
-pub called : (s : List ℕ) (d : Decoded) (t : Table) (i : ℕ) (r : Tabled) → Said s d
-    → r ≡ stepMove (ltb i (length (problemIn (d .sheet) .actions))) (problemIn (d .sheet)) t i → r ≡ stepOf (sheetOf s) t i
+-- a step as the answer of a call
+pub told-is : (t : Table) (r : Stepped) (c : Counted) (us gs : List ℕ) → c ≡ toldOf r → counted t c us gs ≡ tabled t r us gs
+told-is t (moved.To k) c us gs e = ap (λ (x : Counted). counted t x us gs) e
+told-is t (moved.Refused number) c us gs e = ap (λ (x : Counted). counted t x us gs) e
+
+pub call-fault : (s : List ℕ) (t : Table) (i k p : ℕ) → sheetOf s ≡ faulty k p → record { answer = Refused k p; table = t } ≡ stepOf (sheetOf s) t i
 unfolding stepOf
-called s d t i r h e =
-    e
-    ∙ ap (λ (p : Problem). stepMove (ltb i (length (p .actions))) p t i) (ap problemIn (h .is) ∙ problem-slots (h .statement) (h .proper))
-    ∙ sym (ap (λ (j : Judgement). stepOf j t i) (h .judged))
+call-fault s t i k p e = sym (ap (λ (j : Judgement). stepOf j t i) e)
 
-pub call-fault : (j : Judgement) (d : Decoded) (k p : ℕ) (t : Table) (i : ℕ) → d ≡ decodedOf j → d .answer ≡ Refused k p
-    → record { answer = Refused k p; table = t } ≡ stepOf j t i
-unfolding stepOf decodedOf
-call-fault (accepted x) d k p t i e a = not-both (d .answer) k p (ap (λ (y : Decoded). y .answer) e) a
-call-fault (faulty m q) d k p t i e a = ap (λ (b : Answer). record { answer = b; table = t }) (sym a ∙ ap (λ (y : Decoded). y .answer) e)
+-- the call by value: the table given, or the fresh one
+pub step-kept : (t : Table) (c : Counted) (us gs : List ℕ) (d : Tabled) (k p : ℕ) → c .answer ≡ Refused k p → counted t c us gs ≡ d → record { answer = c .answer; table = t } ≡ d
+step-kept t c us gs d k p e q = ap (λ (a : Answer). record { answer = c .answer; table = kept a t (lent (c .count) us gs) }) (sym e) ∙ q
+
+pub step-new : (t : Table) (c : Counted) (us gs : List ℕ) (d : Tabled) → c .answer ≡ Accepted → counted t c us gs ≡ d
+    → record { answer = c .answer; table = record { count = c .count; trues = us; falses = gs } } ≡ d
+step-new t c us gs d e q = ap (λ (a : Answer). record { answer = c .answer; table = kept a t (lent (c .count) us gs) }) (sym e) ∙ q

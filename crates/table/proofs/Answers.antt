@@ -12,7 +12,7 @@ use borrow.Author.Tests.{ltb-true, ltb-false, lt-ltb, le-ltb}
 use Rattle.sheet.specs.declared.Literals.{Literals}
 use Rattle.sheet.specs.declared.Answer.{Answer}
 use Rattle.sheet.specs.declared.Answer.the-variants.{Accepted, Refused}
-use Rattle.sheet.specs.Problem.{Action, Problem, Statement}
+use Rattle.sheet.specs.Problem.{Action, Statement}
 use Rattle.sheet.specs.Encoding.{ProperAction, ProperStatement}
 use Rattle.sheet.specs.Format.{Judgement, accepted, refused, sheetOf}
 use Rattle.sheet.proofs.Judging.{accepted-iff}
@@ -221,10 +221,10 @@ step-back s t m k q = go (sheetOf s)
     known false a e = refl
     known true a e = given-back t (stepTable 128 a (entries t)) e
 
-    moved : (b : Bool) (p : Problem) → stepMove b p t m .answer ≡ Refused k q → stepMove b p t m .table ≡ t
-    moved false p e = refl
-    moved true p e = known (described 128 (p .n) (entries t)) (actionAt p m) e
+    moved : (b : Bool) (n : ℕ) (a : Action) → stepMove b n a t .answer ≡ Refused k q → stepMove b n a t .table ≡ t
+    moved false n a e = refl
+    moved true n a e = known (described 128 n (entries t)) a e
 
     go : (j : Judgement) → stepOf j t m .answer ≡ Refused k q → stepOf j t m .table ≡ t
     go (refused i p) e = refl
-    go (accepted x) e = moved (ltb m (length (x .problem .actions))) (x .problem) e
+    go (accepted x) e = moved (ltb m (length (x .problem .actions))) (x .problem .n) (actionAt (x .problem) m) e

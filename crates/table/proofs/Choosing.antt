@@ -17,9 +17,9 @@ use Rattle.table.specs.declared.slots.Grown.{Grown}
 use Rattle.table.specs.Slots.{Puts}
 use Rattle.table.specs.Start.{falsify, Pick, picks, candidates, oneOf}
 use Rattle.table.specs.Reads.{others}
-use Rattle.table.specs.Moves.{setsAt}
+use Rattle.sheet.specs.Rows.{setsAt}
 use Rattle.table.proofs.Compact.{keep-append}
-use Rattle.table.proofs.Rows.{sets-more, sets-end}
+use Rattle.sheet.proofs.RowLaws.{sets-more, sets-end}
 
 -- ---- one candidate
 

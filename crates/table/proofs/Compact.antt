@@ -1,5 +1,5 @@
 -- Compaction in place: the members that pass move up, and the slots behind them are zero. Assumes nothing.
-use mathlib.Core.Path.{_≡_, refl, sym, ap, _∙_}
+use mathlib.Core.Path.{_≡_, refl, sym, ap, ap₂, _∙_}
 use mathlib.Core.Bool.{Bool, true, false, not, _||_, true≢false}
 use mathlib.Core.List.{List, [], _∷_, _++_, map, map-append, append-assoc, append-nil}
 use Prim.Native.Nat.{ℕ, suc, _+_, _≤_, _<_}
@@ -13,7 +13,7 @@ use Rattle.sheet.specs.Literals.{noLiteral}
 use Rattle.sheet.specs.Lists.{anyOf, addIf, keep, pad}
 use Rattle.sheet.proofs.Reading.{pad-set}
 use Rattle.table.specs.Slots.{trues-of, falses-of, entriesOf, Holds, Held}
-use Rattle.table.proofs.Pads.{length-pad, pad-suc, pad-over, length-entriesOf, getD-entriesOf, holds-falses-long}
+use Rattle.table.proofs.Pads.{length-pad, pad-suc, pad-over, pad-front, length-entriesOf, getD-entriesOf, take-entriesOf, holds-falses-long}
 
 -- ---- one array
 
@@ -99,17 +99,26 @@ module _ (f : Literals → Bool) (n : ℕ) (ts₀ fs₀ : List ℕ) (held : Held
   falses-long₀ : length fs₀ ≡ length ts₀
   falses-long₀ = holds-falses-long _ _ _ _ _ held
 
-  pub moved-start : Moved f n ts₀ fs₀ ts₀ fs₀ 0 0
-  unfolding pad
-  moved-start = record {
-    upto = omega arith;
+  -- the first i entries, all of them kept, stand where they are
+  pub moved-start : (i : ℕ) → i ≤ n → keep f (entriesOf i ts₀ fs₀) ≡ entriesOf i ts₀ fs₀ → Moved f n ts₀ fs₀ ts₀ fs₀ i i
+  moved-start i le all = record {
+    upto = le;
     behind = omega arith;
     trues-long = refl;
     falses-long = falses-long₀;
-    count-is = refl;
-    trues-are = refl;
-    falses-are = refl;
+    count-is = sym (ap length kept ∙ length-entriesOf i ts₀ fs₀);
+    trues-are = stand (λ (e : Literals). e .trues) (held .trues-are);
+    falses-are = stand (λ (e : Literals). e .falses) (held .falses-are);
   }
+    where
+      kept : keep f (take i (entriesOf n ts₀ fs₀)) ≡ entriesOf i ts₀ fs₀
+      kept = ap (keep f) (take-entriesOf i n ts₀ fs₀ le) ∙ all
+
+      stand : (g : Literals → ℕ) {xs : List ℕ} → xs ≡ pad (length ts₀) 0 (map g (entriesOf n ts₀ fs₀)) → xs ≡ pad i 0 (map g (keep f (take i (entriesOf n ts₀ fs₀)))) ++ drop i xs
+      stand g h =
+          h
+          ∙ pad-front g i (length ts₀) 0 (entriesOf n ts₀ fs₀) (omega (arith, length-entriesOf n ts₀ fs₀)) (omega (arith, length-entriesOf n ts₀ fs₀, held .room))
+          ∙ ap₂ (λ (x : List Literals) (r : List ℕ). pad i 0 (map g x) ++ drop i r) (take-entriesOf i n ts₀ fs₀ le ∙ sym kept) (sym h)
 
   module _ (ts fs : List ℕ) (k i : ℕ) (m : Moved f n ts₀ fs₀ ts fs k i) where
     -- the set in slot i, which is not read yet

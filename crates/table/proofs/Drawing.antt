@@ -9,12 +9,9 @@ use lib.Dec.{ltb}
 use lib.ListN.{length, drop}
 use borrow.Author.Tests.{lt-ltb, le-ltb}
 use Rattle.sheet.specs.declared.Literals.{Literals}
-use Rattle.sheet.specs.declared.Decoded.{Decoded}
-use Rattle.sheet.specs.declared.Answer.{Answer}
-use Rattle.sheet.specs.declared.Answer.the-variants.{Accepted, Refused}
-use Rattle.sheet.specs.Format.{Judgement, accepted, refused}
-use Rattle.sheet.specs.Decoded.{slots}
-use Rattle.sheet.specs.Calls.{decodedOf}
+use Rattle.sheet.specs.declared.Answer.the-variants.{Accepted}
+use Rattle.sheet.specs.Format.{Judgement, accepted, refused, sheetOf}
+use Rattle.sheet.specs.Problem.{Statement}
 use Rattle.sheet.proofs.Bools.{cond-true, cond-false}
 use Rattle.table.specs.declared.Table.{Table}
 use Rattle.table.specs.declared.Pictured.{Pictured}
@@ -89,23 +86,12 @@ module _ (n : ℕ) (es : List Literals) (buffer : List ℕ) where
 abbrev Called : Judgement → Table → List ℕ → Pictured → List ℕ → Type 0
 Called j t buffer r after = (r ≡ pictureOf j t (length buffer)) × (after ≡ bufferOf j t buffer)
 
-pub sheet-refused : (j : Judgement) (t : Table) (buffer : List ℕ) (d : Decoded) → d ≡ decodedOf j → (k p : ℕ) → d .answer ≡ Refused k p
-    → (r : Pictured) → r ≡ refusal k p → Called j t buffer r buffer
-unfolding decodedOf pictureOf bufferOf
-sheet-refused (accepted x) t buffer d e k p a r q =
-    let y : _≡_ {A = Answer} Accepted (Refused k p) = sym (ap (λ (z : Decoded). z .answer) e) ∙ a in
-    absurd (let z : _≡_ {A = ℕ} 0 1 = cc in omega arith)
-sheet-refused (refused k′ p′) t buffer d e k p a r q =
-    let y : _≡_ {A = Answer} (Refused k p) (Refused k′ p′) = sym a ∙ ap (λ (z : Decoded). z .answer) e in
-    let u : k ≡ k′ = cc in
-    let v : p ≡ p′ = cc in
-    (q ∙ ap₂ refusal u v, refl)
+pub sheet-refused : (s : List ℕ) (t : Table) (buffer : List ℕ) (k p : ℕ) → sheetOf s ≡ refused k p → (r : Pictured) → r ≡ refusal k p → Called (sheetOf s) t buffer r buffer
+unfolding pictureOf bufferOf
+sheet-refused s t buffer k p e r q =
+    subst (λ (j : Judgement). Called j t buffer r buffer) (sym e) (q, refl)
 
-pub sheet-accepted : (j : Judgement) (t : Table) (buffer : List ℕ) (d : Decoded) → d ≡ decodedOf j → d .answer ≡ Accepted
-    → (r : Pictured) (after : List ℕ) → Drawn (d .sheet .n) (entriesOf (t .count) (t .trues) (t .falses)) buffer r after → Called j t buffer r after
-unfolding decodedOf pictureOf bufferOf slots entries
-sheet-accepted (accepted x) t buffer d e a r after w =
-    subst (λ (n : ℕ). Drawn n (entriesOf (t .count) (t .trues) (t .falses)) buffer r after) (ap (λ (z : Decoded). z .sheet .n) e) w
-sheet-accepted (refused k p) t buffer d e a r after w =
-    let y : _≡_ {A = Answer} Accepted (Refused k p) = sym a ∙ ap (λ (z : Decoded). z .answer) e in
-    absurd (let z : _≡_ {A = ℕ} 0 1 = cc in omega arith)
+pub sheet-accepted : (s : List ℕ) (t : Table) (buffer : List ℕ) (x : Statement) → sheetOf s ≡ accepted x
+    → (r : Pictured) (after : List ℕ) → Drawn (x .problem .n) (entriesOf (t .count) (t .trues) (t .falses)) buffer r after → Called (sheetOf s) t buffer r after
+unfolding pictureOf bufferOf entries
+sheet-accepted s t buffer x e r after w = subst (λ (j : Judgement). Called j t buffer r after) (sym e) w

@@ -4,8 +4,9 @@ pub mod Scan
 pub mod Compact
 pub mod PutSlots
 pub mod Growing
-pub mod Rows
+pub mod Copying
 pub mod Choosing
+pub mod ClauseRows
 pub mod Started
 pub mod Turns
 pub mod PutLaws
@@ -32,6 +33,5 @@ pub mod Answers
 pub mod PictureAnswers
 pub mod Demands
 pub mod Carrying
-pub mod EffectRows
 pub mod Examples
 pub mod PictureExamples

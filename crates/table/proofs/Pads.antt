@@ -5,6 +5,7 @@ use Prim.Native.Nat.{ℕ, zero, suc, _+_, _≤_, _<_}
 use native.Mathlib.Omega.{arith}
 use native.Mathlib.Nat.{le-of-suc-le-suc, not-suc-le-zero, suc-ne-zero, suc-inj}
 use lib.ListN.{length, getD, set, take, drop, replicate, length-map, length-append}
+use lib.Seq.{length-take-le, getD-take, ext-getD}
 use Rattle.sheet.specs.declared.Literals.{Literals}
 use Rattle.sheet.specs.Literals.{noLiteral}
 use Rattle.sheet.specs.Lists.{pad}
@@ -97,6 +98,15 @@ unfolding entriesOf
 getD-entriesOf n ts fs i h =
     getD-pairs n (pad n 0 ts) (pad n 0 fs) i (length-pad n 0 ts) (length-pad n 0 fs) h
     ∙ (λ k. record { trues = getD-pad n 0 ts i h k; falses = getD-pad n 0 fs i h k })
+
+-- the first of the entries
+pub take-entriesOf : (i n : ℕ) (ts fs : List ℕ) → i ≤ n → take i (entriesOf n ts fs) ≡ entriesOf i ts fs
+take-entriesOf i n ts fs le =
+    let long : length (take i (entriesOf n ts fs)) ≡ i = length-take-le i (entriesOf n ts fs) (omega (arith, length-entriesOf n ts fs)) in
+    ext-getD noLiteral (take i (entriesOf n ts fs)) (entriesOf i ts fs) (long ∙ sym (length-entriesOf i ts fs))
+    (λ j h.
+    let lt : j < i = omega (arith, long) in
+    getD-take i (entriesOf n ts fs) j noLiteral lt ∙ getD-entriesOf n ts fs j (omega arith) ∙ sym (getD-entriesOf i ts fs j lt))
 
 pairs-of : (es : List Literals) → pairs (trues-of es) (falses-of es) ≡ es
 unfolding pairs

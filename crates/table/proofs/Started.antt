@@ -1,37 +1,31 @@
--- One clause, the clauses of a section, and the first table, on tables in arrays; and the call on bytes. Assumes nothing.
-use Prim.Native.Nat.{ℕ, zero, suc, _≤_, _<_}
+-- One clause, the clauses of a section, and the first table, on tables in lent arrays. Assumes nothing.
+use Prim.Native.Nat.{ℕ, zero, suc, _+_, _≤_, _<_}
 use mathlib.Core.Path.{_≡_, refl, sym, ap, _∙_, subst}
-use mathlib.Core.Bool.{Bool, true, false}
 use mathlib.Core.List.{List, [], _∷_, _++_, map}
-use mathlib.Core.Option.{some}
+use mathlib.Core.Option.{Option, none, some}
 use native.Mathlib.Nat.{not-suc-le-zero, le-of-suc-le-suc}
 use native.Mathlib.Omega.{arith}
-use lib.ListN.{length, getD, drop, take, replicate, set}
+use lib.ListN.{length, getD, drop, take, replicate, set, length-map, take-append-drop}
+use lib.Seq.{paste, take-all, length-take-le}
 use Rattle.sheet.specs.declared.Answer.the-variants.{Accepted, Refused}
 use Rattle.sheet.specs.declared.Literals.{Literals}
-use Rattle.sheet.specs.declared.Sets.{Sets}
-use Rattle.sheet.specs.declared.Clauses.{Clauses}
-use Rattle.sheet.specs.declared.Sheet.{Sheet}
-use Rattle.sheet.specs.declared.Decoded.{Decoded}
 use Rattle.sheet.specs.Literals.{consistent}
+use Rattle.sheet.specs.Format.{refused as faulty, sheetOf}
 use Rattle.sheet.specs.Lists.{All, keep, collect, pad}
-use Rattle.sheet.specs.Problem.{Statement}
-use Rattle.sheet.specs.Decoded as slots
-use Rattle.sheet.specs.Decoded.{setsIn, clausesIn, problemIn}
-use Rattle.sheet.specs.Format.{Judgement, accepted, refused as faulty, sheetOf}
-use Rattle.sheet.specs.Encoding.{Counted, ProperClause, ProperStatement}
-use Rattle.sheet.specs.Calls.{decodedOf}
-use Rattle.sheet.proofs.SlotLaws.{problem-slots, not-both, Said}
+use Rattle.sheet.proofs.SlotLaws.{not-both}
 use Rattle.table.specs.declared.slots.Grown.{Grown}
 use Rattle.table.specs.declared.slots.Grown.the-variants as grown
+use Rattle.table.specs.declared.steps.Stepped.{Stepped}
+use Rattle.table.specs.declared.steps.Stepped.the-variants as stepped
 use Rattle.table.specs.declared.Table.{Table}
 use Rattle.table.specs.declared.Tabled.{Tabled}
 use Rattle.table.specs.Minimal.{putAll, Outcome, refused, table}
-use Rattle.table.specs.Start.{Clause, clausesOf, candidates, fresh, grow, onTable, growAll, startTable}
-use Rattle.table.specs.Slots.{pairs, trues-of, falses-of, entriesOf, Holds, Held, entries, tableOf, Grew, Puts}
+use Rattle.table.specs.Start.{Clause, candidates, fresh, grow, onTable, growAll}
+use Rattle.table.specs.Slots.{pairs, entriesOf, Holds, Held, tableOf, Grew, Puts}
+use Rattle.table.specs.Moves.{tabled, lent}
 use Rattle.table.specs.Calls.{orGiven, startOf}
-use Rattle.table.specs.Reads.{clauseOf, Counts, Readable}
-use Rattle.table.proofs.Pads.{length-entriesOf, holds-entries, held as held-of}
+use Rattle.table.proofs.Pads.{length-pad, length-entriesOf, holds-trues-long, holds-falses-long, holds-entries, held as held-of}
+use Rattle.table.proofs.PutLaws.{put-all-size}
 
 -- a member of a list has what all have
 pub all-at : {A : Type 0} (P : A → Type 0) (xs : List A) (i : ℕ) (e : A) → i < length xs → All P xs → P (getD xs i e)
@@ -39,117 +33,167 @@ all-at P [] i e h p = absurd (not-suc-le-zero h)
 all-at P (x ∷ xs) zero e h p = p .0
 all-at P (x ∷ xs) (suc i) e h p = all-at P xs i e (le-of-suc-le-suc h) (p .1)
 
--- ---- one clause
+-- ---- what is in the arrays
 
-abbrev pub Right : Outcome → Tabled → Type 0
-Right o s = (s ≡ orGiven (tableOf []) o) × (s .table .count ≤ 128)
+-- what came of it, with the arrays, is the outcome
+abbrev pub Right : Outcome → Stepped → List ℕ → List ℕ → Type 0
+Right o r ts fs = tabled (tableOf []) r ts fs ≡ orGiven (tableOf []) o
 
--- what `refuse` makes
-abbrev pub Refusal : ℕ → ℕ → Tabled → Type 0
-Refusal k p s = (s .answer ≡ Refused k p) × (s .table ≡ tableOf [])
+-- the outcome is the table in the arrays
+pub record Readied (o : Outcome) (k : ℕ) (ts fs : List ℕ) : Type 0 where
+  pub held : Held 128 k ts fs
+  pub is : o ≡ table (entriesOf k ts fs)
 
-refusing : (o : Outcome) (k : ℕ) (s : Tabled) → o ≡ refused k → Refusal k 0 s → Right o s
+pub right-refused : (o : Outcome) (k : ℕ) (ts fs : List ℕ) → o ≡ refused k → Right o (stepped.Refused k) ts fs
+unfolding orGiven
+right-refused o k ts fs e = sym (ap (orGiven (tableOf [])) e)
+
+pub right-table : (o : Outcome) (k : ℕ) (ts fs : List ℕ) → Readied o k ts fs → Right o (stepped.To k) ts fs
 unfolding orGiven tableOf
-refusing o k s e p =
-    let z : s .table .count ≡ 0 = ap (λ (t : Table). t .count) (p .1) in
-    ((λ j. record { answer = p .0 j; table = p .1 j }) ∙ sym (ap (orGiven (tableOf [])) e), omega arith)
+right-table o k ts fs m =
+    let h = m .held in
+    (λ j. record { answer = Accepted; table = record { count = h .count-is j; trues = h .trues-are j; falses = h .falses-are j } })
+    ∙ sym (ap (orGiven (tableOf [])) (m .is))
+
+-- the table of an outcome has room
+abbrev pub Small : Outcome → Type 0
+Small o = (u : List Literals) → o ≡ table u → length u ≤ 128
+
+pub ready : (o : Outcome) (r : Stepped) (k : ℕ) (ts fs : List ℕ) → Small o → Right o r ts fs → r ≡ stepped.To k → Readied o k ts fs
+unfolding orGiven tableOf
+ready o r k ts fs small w e = at o refl (subst (λ (x : Stepped). Right o x ts fs) e w)
+  where
+    at : (x : Outcome) → o ≡ x → Right x (stepped.To k) ts fs → Readied o k ts fs
+    at (refused j) q v = not-both Accepted j 0 refl (ap (λ (y : Tabled). y .answer) v)
+    at (table u) q v =
+        let t : lent k ts fs ≡ tableOf u = ap (λ (y : Tabled). y .table) v in
+        let n : k ≡ length u = ap (λ (y : Table). y .count) t in
+        let h : Holds 128 u k ts fs = record {
+          count-is = n;
+          room = omega (arith, small u q);
+          trues-are = ap (λ (y : Table). y .trues) t;
+          falses-are = ap (λ (y : Table). y .falses) t;
+        } in
+        record { held = held-of _ _ _ _ _ h; is = q ∙ sym (ap table (holds-entries _ _ _ _ _ h)) }
+
+-- a refusal stays
+pub refusal : (o : Outcome) (r : Stepped) (k : ℕ) (ts fs : List ℕ) (f : List Literals → Outcome) → Right o r ts fs → r ≡ stepped.Refused k
+    → Right (onTable o f) (stepped.Refused k) ts fs
+unfolding orGiven
+refusal o r k ts fs f w e = at o (subst (λ (x : Stepped). Right o x ts fs) e w)
+  where
+    at : (x : Outcome) → Right x (stepped.Refused k) ts fs → Right (onTable x f) (stepped.Refused k) ts fs
+    at (refused j) v = v
+    at (table u) v = not-both (Refused k 0) k 0 (ap (λ (y : Tabled). y .answer) v) refl
+
+-- ---- a table copied over another: both are zero past `top`
+
+module _ (k : ℕ) (us gs : List ℕ) (h : Held 128 k us gs) (top : ℕ) (most : top ≤ 128) where
+  pub trues-front : length (take top us) ≡ top
+  trues-front = let l = holds-trues-long _ _ _ _ _ h in length-take-le top us (omega arith)
+
+  pub falses-front : length (take top gs) ≡ top
+  falses-front = let l = holds-falses-long _ _ _ _ _ h in length-take-le top gs (omega arith)
+
+zeros-past : (top cap : ℕ) (xs : List ℕ) → length xs ≤ top → drop top (pad cap 0 xs) ≡ drop top (pad cap 0 [])
+unfolding pad
+zeros-past zero cap [] h = refl
+zeros-past zero cap (x ∷ xs) h = absurd (not-suc-le-zero h)
+zeros-past (suc top) zero xs h = refl
+zeros-past (suc top) (suc cap) [] h = refl
+zeros-past (suc top) (suc cap) (x ∷ xs) h = zeros-past top cap xs (le-of-suc-le-suc h)
+
+module _ (top : ℕ) (most : top ≤ 128) where
+  over : (xs ys ts us : List ℕ) → length xs ≤ top → length ys ≤ top → ts ≡ pad 128 0 xs → us ≡ pad 128 0 ys → paste ts 0 (take top us) (length (take top us)) ≡ us
+  over xs ys ts us h k e f =
+      let l : length us ≡ 128 = ap length f ∙ length-pad 128 0 ys in
+      let n : 0 + length (take top us) ≡ top = omega (arith, length-take-le top us (omega arith)) in
+      ap (λ (r : List ℕ). r ++ drop (0 + length (take top us)) ts) (take-all (length (take top us)) (take top us) (omega arith))
+      ∙ ap (λ (j : ℕ). take top us ++ drop j ts) n
+      ∙ ap (λ (r : List ℕ). take top us ++ r) (ap (drop top) e ∙ zeros-past top 128 xs h ∙ sym (zeros-past top 128 ys k) ∙ sym (ap (drop top) f))
+      ∙ take-append-drop top us
+
+  few : (f : Literals → ℕ) (n : ℕ) (ts fs : List ℕ) → n ≤ top → length (map f (entriesOf n ts fs)) ≤ top
+  few f n ts fs h = omega (arith, length-map (entriesOf n ts fs) f, length-entriesOf n ts fs)
+
+  module _ (m : ℕ) (ts fs : List ℕ) (g : Held 128 m ts fs) (k : ℕ) (us gs : List ℕ) (h : Held 128 k us gs) (p : m ≤ top) (q : k ≤ top) where
+    pub trues-over : paste ts 0 (take top us) (length (take top us)) ≡ us
+    trues-over = over _ _ ts us (few (λ (e : Literals). e .trues) m ts fs p) (few (λ (e : Literals). e .trues) k us gs q) (g .trues-are) (h .trues-are)
+
+    pub falses-over : paste fs 0 (take top gs) (length (take top gs)) ≡ gs
+    falses-over = over _ _ fs gs (few (λ (e : Literals). e .falses) m ts fs p) (few (λ (e : Literals). e .falses) k us gs q) (g .falses-are) (h .falses-are)
+
+-- ---- one clause
 
 fresh-some : (es : List Literals) → (length es ≡ 0 → ⊥) → fresh (some es) ≡ table es
 fresh-some [] h = absurd (h refl)
 fresh-some (e ∷ es) h = refl
 
-module _ (c : Clause) (t : Table) (r : Grown) (ts fs : List ℕ)
-    (w : Puts (keep consistent (collect (candidates c) (entriesOf (t .count) (t .trues) (t .falses)))) 0 (replicate 128 0) (replicate 128 0) r ts fs) where
-  told : (x : Grown) → r ≡ x → Grew 128 (putAll 128 (keep consistent (collect (candidates c) (entries t))) []) x ts fs
-  unfolding entriesOf pairs pad entries
-  told x e = subst (λ (y : Grown). Grew 128 (putAll 128 (keep consistent (collect (candidates c) (entries t))) []) y ts fs) e (w .grew)
+pub grow-small : (c : Clause) (es : List Literals) → Small (grow 128 c es)
+unfolding grow
+grow-small c es u e = at (putAll 128 (keep consistent (collect (candidates c) es)) []) refl e
+  where
+    at : (o : Option (List Literals)) → putAll 128 (keep consistent (collect (candidates c) es)) [] ≡ o → fresh o ≡ table u → length u ≤ 128
+    at none q f = absurd (let z : _≡_ {A = ℕ} 0 1 = cc in omega arith)
+    at (some []) q f = absurd (let z : _≡_ {A = ℕ} 0 1 = cc in omega arith)
+    at (some (d ∷ t)) q f = let s : d ∷ t ≡ u = cc in put-all-size 128 (keep consistent (collect (candidates c) es)) [] u (q ∙ ap {B = Option (List Literals)} some s) (omega arith)
 
-  pub grown-full : r ≡ grown.Full → (s : Tabled) → Refusal 21 0 s → Right (grow 128 c (entries t)) s
+-- what was put is held
+pub put-held : (cs : List Literals) (n : ℕ) (ts fs : List ℕ) (r : Grown) (us gs : List ℕ) → Puts cs n ts fs r us gs → (k : ℕ) → r ≡ grown.To k → Held (length ts) k us gs
+put-held cs n ts fs r us gs w k e = subst (λ (x : Grown). Grew (length ts) (putAll (length ts) cs (entriesOf n ts fs)) x us gs) e (w .grew) .1
+
+module _ (c : Clause) (es : List Literals) (r : Grown) (ts fs : List ℕ) (w : Puts (keep consistent (collect (candidates c) es)) 0 (replicate 128 0) (replicate 128 0) r ts fs) where
+  told : (x : Grown) → r ≡ x → Grew 128 (putAll 128 (keep consistent (collect (candidates c) es)) []) x ts fs
+  unfolding entriesOf pairs pad
+  told x e = subst (λ (y : Grown). Grew 128 (putAll 128 (keep consistent (collect (candidates c) es)) []) y ts fs) e (w .grew)
+
+  pub grown-full : r ≡ grown.Full → grow 128 c es ≡ refused 21
   unfolding grow
-  grown-full e s p = refusing _ 21 s (ap fresh (told grown.Full e)) p
+  grown-full e = ap fresh (told grown.Full e)
 
   module _ (k : ℕ) (e : r ≡ grown.To k) where
-    pub grown-empty : k ≡ 0 → (s : Tabled) → Refusal 20 0 s → Right (grow 128 c (entries t)) s
+    pub grown-empty : k ≡ 0 → grow 128 c es ≡ refused 20
     unfolding grow entriesOf pairs pad
-    grown-empty z s p = refusing _ 20 s (ap fresh (told (grown.To k) e .0 ∙ ap (λ (j : ℕ). some (entriesOf j ts fs)) z)) p
+    grown-empty z = ap fresh (told (grown.To k) e .0 ∙ ap (λ (j : ℕ). some (entriesOf j ts fs)) z)
 
-    pub grown-table : (k ≡ 0 → ⊥) → Right (grow 128 c (entries t)) (record { answer = Accepted; table = record { count = k; trues = ts; falses = fs } })
-    unfolding grow orGiven tableOf
-    grown-table z =
-        let m = told (grown.To k) e in
-        let h = m .1 in (
-          (λ j. record { answer = Accepted; table = record { count = h .count-is j; trues = h .trues-are j; falses = h .falses-are j } })
-              ∙ sym (ap (orGiven (tableOf [])) (ap fresh (m .0) ∙ fresh-some (entriesOf k ts fs) (λ q. z (sym (length-entriesOf k ts fs) ∙ q)))),
-          h .room,
-        )
+    pub grown-table : (k ≡ 0 → ⊥) → Readied (grow 128 c es) k ts fs
+    unfolding grow
+    grown-table z = record {
+      held = told (grown.To k) e .1;
+      is = ap fresh (told (grown.To k) e .0) ∙ fresh-some (entriesOf k ts fs) (λ q. z (sym (length-entriesOf k ts fs) ∙ q));
+    }
 
--- ---- what an answer says
+    -- copied over the table that it is built from
+    pub grown-copied : (k ≡ 0 → ⊥) → (m : ℕ) (ts₀ fs₀ : List ℕ) → Held 128 m ts₀ fs₀ → (top : ℕ) → (m ≤ top) × (k ≤ top) × (top ≤ 128) → (us gs : List ℕ)
+        → us ≡ paste ts₀ 0 (take top ts) (length (take top ts)) → gs ≡ paste fs₀ 0 (take top fs) (length (take top fs)) → Right (grow 128 c es) (stepped.To k) us gs
+    grown-copied z m ts₀ fs₀ g top l us gs p q =
+        let w = grown-table z in
+        let a = p ∙ trues-over top (l .2) m ts₀ fs₀ g k ts fs (w .held) (l .0) (l .1) in
+        let b = q ∙ falses-over top (l .2) m ts₀ fs₀ g k ts fs (w .held) (l .0) (l .1) in
+        rw (a, b) (right-table _ k ts fs w)
 
--- the table of an answer that is one
-pub record Readied (o : Outcome) (t : Table) : Type 0 where
-  pub held : Held 128 (t .count) (t .trues) (t .falses)
-  pub is : o ≡ table (entries t)
+-- ---- the clauses of a section: those still to come, from the table in the arrays on, give o
 
-table-held : (es : List Literals) → length es ≤ 128 → Readied (table es) (tableOf es)
-unfolding tableOf entries
-table-held es le =
-    let h : Holds 128 es (length es) (pad 128 0 (trues-of es)) (pad 128 0 (falses-of es)) = record { count-is = refl; room = le; trues-are = refl; falses-are = refl } in
-    record { held = held-of _ _ _ _ _ h; is = sym (ap table (holds-entries _ _ _ _ _ h)) }
+pub record Sections (o : Outcome) (cs : List Clause) (k : ℕ) (ts fs : List ℕ) : Type 0 where
+  pub held : Held 128 k ts fs
+  pub onwards : growAll 128 cs (entriesOf k ts fs) ≡ o
 
-pub ready : (o : Outcome) (s : Tabled) → Right o s → s .answer ≡ Accepted → Readied o (s .table)
-unfolding orGiven tableOf
-ready (refused k) s r e = not-both (s .answer) k 0 e (ap (λ (x : Tabled). x .answer) (r .0))
-ready (table es) s r e =
-    let q : s .table ≡ tableOf es = ap (λ (x : Tabled). x .table) (r .0) in
-    let z : s .table .count ≡ length es = ap (λ (x : Table). x .count) q in
-    subst (λ (x : Table). Readied (table es) x) (sym q) (table-held es (omega (arith, r .1)))
+module _ (o : Outcome) (bs cs : List Clause) (c : Clause) (n : ℕ) (us gs : List ℕ) (g : Sections o bs n us gs) (is : bs ≡ c ∷ cs) (r : Stepped) (ts fs : List ℕ)
+    (w : Right (grow 128 c (entriesOf n us gs)) r ts fs) (k : ℕ) where
+  unrolled : onTable (grow 128 c (entriesOf n us gs)) (λ u. growAll 128 cs u) ≡ o
+  unrolled = sym (ap (λ (x : List Clause). growAll 128 x (entriesOf n us gs)) is) ∙ g .onwards
 
--- a refusal stays
-pub refusal : (o : Outcome) (s : Tabled) (f : List Literals → Outcome) (k p : ℕ) → Right o s → s .answer ≡ Refused k p → Right (onTable o f) s
-unfolding orGiven
-refusal (refused j) s f k p r e = r
-refusal (table es) s f k p r e = not-both (s .answer) k p (ap (λ (x : Tabled). x .answer) (r .0)) e
-
--- ---- the clauses of a section: those still to come, from the table t on, give o
-
-abbrev pub sectionFrom : Bool → Clauses → ℕ → List Clause
-sectionFrom b c i = map (clauseOf b) (map setsIn (drop i (take (c .count) (c .items))))
-
-pub record Sections (o : Outcome) (cs : List Clause) (t : Table) : Type 0 where
-  pub held : Held 128 (t .count) (t .trues) (t .falses)
-  pub onwards : growAll 128 cs (entries t) ≡ o
-
-pub sections-start : (b : Bool) (c : Clauses) (t : Table) → Held 128 (t .count) (t .trues) (t .falses)
-    → Sections (growAll 128 (map (clauseOf b) (clausesIn c)) (entries t)) (sectionFrom b c 0) t
-unfolding clausesIn
-sections-start b c t h = record { held = h; onwards = refl }
-
--- the clause in slot i comes first
-pub section-step : (b : Bool) (c : Clauses) (i j : ℕ) (s : Sets) → drop i (take (c .count) (c .items)) ≡ s ∷ drop j (take (c .count) (c .items))
-    → sectionFrom b c i ≡ clauseOf b (setsIn s) ∷ sectionFrom b c j
-section-step b c i j s e = ap (λ (x : List Sets). map (clauseOf b) (map setsIn x)) e
-
-pub section-end : (b : Bool) (c : Clauses) (i : ℕ) → drop i (take (c .count) (c .items)) ≡ [] → sectionFrom b c i ≡ []
-section-end b c i e = ap (λ (x : List Sets). map (clauseOf b) (map setsIn x)) e
-
-module _ (o : Outcome) (bs cs : List Clause) (c : Clause) (t : Table) (g : Sections o bs t) (is : bs ≡ c ∷ cs) (s : Tabled) (r : Right (grow 128 c (entries t)) s) where
-  unrolled : onTable (grow 128 c (entries t)) (λ u. growAll 128 cs u) ≡ o
-  unrolled = sym (ap (λ (x : List Clause). growAll 128 x (entries t)) is) ∙ g .onwards
-
-  pub sections-on : s .answer ≡ Accepted → Sections o cs (s .table)
+  pub sections-on : r ≡ stepped.To k → Sections o cs k ts fs
   sections-on e =
-      let m = ready _ s r e in
+      let m = ready _ r k ts fs (grow-small c (entriesOf n us gs)) w e in
       record { held = m .held; onwards = sym (ap (λ (x : Outcome). onTable x (λ u. growAll 128 cs u)) (m .is)) ∙ unrolled }
 
-  pub sections-refused : (k p : ℕ) → s .answer ≡ Refused k p → Right o s
-  sections-refused k p e = subst (λ (x : Outcome). Right x s) unrolled (refusal _ s (λ u. growAll 128 cs u) k p r e)
+  pub sections-refused : r ≡ stepped.Refused k → Right o (stepped.Refused k) ts fs
+  sections-refused e = subst (λ (x : Outcome). Right x (stepped.Refused k) ts fs) unrolled (refusal _ r k ts fs (λ u. growAll 128 cs u) w e)
 
-pub sections-end : (o : Outcome) (cs : List Clause) (t : Table) → Sections o cs t → cs ≡ [] → Right o (record { answer = Accepted; table = t })
-unfolding orGiven tableOf entries
-sections-end o cs t g e =
-    let h = g .held in
-    let q : o ≡ table (entries t) = sym (g .onwards) ∙ ap (λ (x : List Clause). growAll 128 x (entries t)) e in
-    ((λ j. record { answer = Accepted; table = record { count = h .count-is j; trues = h .trues-are j; falses = h .falses-are j } }) ∙ sym (ap (orGiven (tableOf [])) q), h .room)
+pub sections-end : (o : Outcome) (cs : List Clause) (k : ℕ) (ts fs : List ℕ) → Sections o cs k ts fs → cs ≡ [] → Right o (stepped.To k) ts fs
+sections-end o cs k ts fs g e =
+    right-table o k ts fs (record { held = g .held; is = sym (g .onwards) ∙ ap (λ (x : List Clause). growAll 128 x (entriesOf k ts fs)) e })
 
 -- ---- the first table
 
@@ -162,81 +206,54 @@ growAll-append (c ∷ cs) ds t = at (grow 128 c t) (λ u. growAll-append cs ds u
     at (refused k) rec = refl
     at (table u) rec = rec u
 
-abbrev sectionOf : Bool → Clauses → List Clause
-sectionOf b c = map (clauseOf b) (clausesIn c)
+growAll-small : (cs : List Clause) (t : List Literals) → length t ≤ 128 → Small (growAll 128 cs t)
+growAll-small [] t h u e = let q : t ≡ u = cc in subst (λ (x : List Literals). length x ≤ 128) q h
+growAll-small (c ∷ cs) t h u e = at (grow 128 c t) refl e (λ v l. growAll-small cs v l u)
+  where
+    at : (o : Outcome) → grow 128 c t ≡ o → onTable o (λ v. growAll 128 cs v) ≡ table u → ((v : List Literals) → length v ≤ 128 → growAll 128 cs v ≡ table u → length u ≤ 128) → length u ≤ 128
+    at (refused k) q f rec = absurd (let z : _≡_ {A = ℕ} 0 1 = cc in omega arith)
+    at (table v) q f rec = rec v (grow-small c t v q) f
 
-start-is : (x : Sheet) → startTable 128 (problemIn x) ≡ onTable (growAll 128 (sectionOf false (x .ors)) (x .known ∷ [])) (λ u. growAll 128 (sectionOf true (x .oneofs)) u)
-unfolding startTable clausesOf problemIn
-start-is x = growAll-append (sectionOf false (x .ors)) (sectionOf true (x .oneofs)) (x .known ∷ [])
+-- the table of one entry, in arrays that were zero
+module _ (known : Literals) (ts fs : List ℕ) (p : ts ≡ replicate 128 0) (q : fs ≡ replicate 128 0) where
+  one : Holds 128 (known ∷ []) 1 (set ts 0 (known .trues)) (set fs 0 (known .falses))
+  unfolding pad
+  one = record { count-is = refl; room = omega arith; trues-are = ap (λ (x : List ℕ). set x 0 (known .trues)) p; falses-are = ap (λ (x : List ℕ). set x 0 (known .falses)) q }
 
--- the table of one entry
-abbrev pub first : Literals → Table
-first known = record { count = 1; trues = set (replicate 128 0) 0 (known .trues); falses = set (replicate 128 0) 0 (known .falses) }
+  pub first-held : Held 128 1 (set ts 0 (known .trues)) (set fs 0 (known .falses))
+  first-held = held-of _ _ _ _ _ one
 
-first-is : (known : Literals) → Readied (table (known ∷ [])) (first known)
-unfolding tableOf pad
-first-is known = table-held (known ∷ []) (omega arith)
+  module _ (cs ds : List Clause) (r : Stepped) (us gs : List ℕ) (w : Right (growAll 128 cs (entriesOf 1 (set ts 0 (known .trues)) (set fs 0 (known .falses)))) r us gs) (k : ℕ) where
+    whole : onTable (growAll 128 cs (entriesOf 1 (set ts 0 (known .trues)) (set fs 0 (known .falses)))) (λ u. growAll 128 ds u) ≡ growAll 128 (cs ++ ds) (known ∷ [])
+    whole = ap (λ (y : List Literals). onTable (growAll 128 cs y) (λ u. growAll 128 ds u)) (holds-entries _ _ _ _ _ one) ∙ sym (growAll-append cs ds (known ∷ []))
 
-pub first-held : (known : Literals) → Held 128 1 (first known .trues) (first known .falses)
-first-held known = first-is known .held
+    pub first-refused : r ≡ stepped.Refused k → Right (growAll 128 (cs ++ ds) (known ∷ [])) (stepped.Refused k) us gs
+    first-refused e = subst (λ (y : Outcome). Right y (stepped.Refused k) us gs) whole (refusal _ r k us gs (λ u. growAll 128 ds u) w e)
 
-module _ (x : Sheet) (r : Tabled) (w : Right (growAll 128 (sectionOf false (x .ors)) (entries (first (x .known)))) r) where
-  abbrev later : List Literals → Outcome
-  later u = growAll 128 (sectionOf true (x .oneofs)) u
+    first-ready : r ≡ stepped.To k → Readied (growAll 128 cs (entriesOf 1 (set ts 0 (known .trues)) (set fs 0 (known .falses)))) k us gs
+    first-ready e = ready _ r k us gs (growAll-small cs _ (omega (arith, length-entriesOf 1 (set ts 0 (known .trues)) (set fs 0 (known .falses))))) w e
 
-  whole : onTable (growAll 128 (sectionOf false (x .ors)) (entries (first (x .known)))) later ≡ startTable 128 (problemIn x)
-  whole =
-      let q : x .known ∷ [] ≡ entries (first (x .known)) = let e = first-is (x .known) .is in cc in
-      ap (λ (y : List Literals). onTable (growAll 128 (sectionOf false (x .ors)) y) later) (sym q) ∙ sym (start-is x)
+    pub first-grown : r ≡ stepped.To k → Held 128 k us gs
+    first-grown e = first-ready e .held
 
-  pub start-refused : (k p : ℕ) → r .answer ≡ Refused k p → Right (startTable 128 (problemIn x)) r
-  start-refused k p e = subst (λ (y : Outcome). Right y r) whole (refusal _ r later k p w e)
+    pub first-on : r ≡ stepped.To k → growAll 128 ds (entriesOf k us gs) ≡ growAll 128 (cs ++ ds) (known ∷ [])
+    first-on e = sym (ap (λ (y : Outcome). onTable y (λ u. growAll 128 ds u)) (first-ready e .is)) ∙ whole
 
-  pub start-held : r .answer ≡ Accepted → Held 128 (r .table .count) (r .table .trues) (r .table .falses)
-  start-held e = ready _ r w e .held
+-- ---- the first table by value, and the call on bytes
+pub first-given : (o : Outcome) (r : Stepped) (ts fs : List ℕ) → Right o r ts fs → (k : ℕ) → r ≡ stepped.To k
+    → record { answer = Accepted; table = record { count = k; trues = ts; falses = fs } } ≡ orGiven (tableOf []) o
+first-given o r ts fs e k q = sym (ap (λ (x : Stepped). tabled (tableOf []) x ts fs) q) ∙ e
 
-  pub start-on : r .answer ≡ Accepted → (z : Tabled) → Right (later (entries (r .table))) z → Right (startTable 128 (problemIn x)) z
-  start-on e z v =
-      subst (λ (y : Outcome). Right y z) (sym (ap (λ (y : Outcome). onTable y later) (ready _ r w e .is)) ∙ whole) v
+-- no table
+abbrev pub NoTable : Tabled → ℕ → ℕ → Type 0
+NoTable d k p = (d .answer ≡ Refused k p) × (d .table ≡ tableOf [])
 
--- ---- an accepted sheet
+none-is : (d : Tabled) (k p : ℕ) → NoTable d k p → d ≡ record { answer = Refused k p; table = tableOf [] }
+none-is d k p h = λ j. record { answer = h .0 j; table = h .1 j }
 
-all-padded : {A : Type 0} (P : A → Type 0) (n : ℕ) (d : A) (xs : List A) → P d → All P xs → All P (pad n d xs)
-unfolding pad
-all-padded P zero d xs p h = tt
-all-padded P (suc n) d [] p h = (p, all-padded P n d [] p h)
-all-padded P (suc n) d (x ∷ xs) p h = (h .0, all-padded P n d xs p (h .1))
+pub first-none : (o : Outcome) (r : Stepped) (ts fs : List ℕ) → Right o r ts fs → (k : ℕ) → r ≡ stepped.Refused k → (d : Tabled) → NoTable d k 0 → d ≡ orGiven (tableOf []) o
+first-none o r ts fs e k q d h = none-is d k 0 h ∙ sym (ap (λ (x : Stepped). tabled (tableOf []) x ts fs) q) ∙ e
 
-few : (n : ℕ) (cs : List (List Literals)) → All (ProperClause n) cs → All (λ (s : Sets). s .count ≤ 8) (map slots.setsOf cs)
-unfolding slots.setsOf
-few n [] h = tt
-few n (c ∷ cs) h = (h .0 .most, few n cs (h .1))
-
-counts : (n : ℕ) (cs : List (List Literals)) → Counted 0 8 (ProperClause n) cs → Counts (slots.clausesOf cs)
-unfolding slots.clausesOf slots.setsOf
-counts n cs h = record {
-  count = h .most;
-  items = all-padded (λ (s : Sets). s .count ≤ 8) 8 (slots.setsOf []) (map slots.setsOf cs) (omega arith) (few n cs (h .each));
-}
-
-pub readable : (x : Statement) → ProperStatement x → Readable (slots.slots x)
-unfolding slots.slots
-readable x h = record { ors = counts _ _ (h .problem .ors); oneofs = counts _ _ (h .problem .oneofs) }
-
-pub said-readable : (s : List ℕ) (d : Decoded) → Said s d → Readable (d .sheet)
-said-readable s d h = subst Readable (sym (h .is)) (readable (h .statement) (h .proper))
-
-pub started : (s : List ℕ) (d : Decoded) (r : Tabled) → Said s d → r ≡ orGiven (tableOf []) (startTable 128 (problemIn (d .sheet))) → r ≡ startOf (sheetOf s)
+pub start-fault : (s : List ℕ) (k p : ℕ) → sheetOf s ≡ faulty k p → (d : Tabled) → NoTable d k p → d ≡ startOf (sheetOf s)
 unfolding startOf
-started s d r h e =
-    e
-    ∙ ap (λ (x : Sheet). orGiven (tableOf []) (startTable 128 (problemIn x))) (h .is)
-    ∙ ap (λ x. orGiven (tableOf []) (startTable 128 x)) (problem-slots (h .statement) (h .proper))
-    ∙ sym (ap startOf (h .judged))
-
-pub start-fault : (j : Judgement) (d : Decoded) (k p : ℕ) (r : Tabled) → d ≡ decodedOf j → d .answer ≡ Refused k p → Refusal k p r → r ≡ startOf j
-unfolding startOf decodedOf
-start-fault (accepted x) d k p r e a q = not-both (d .answer) k p (ap (λ (y : Decoded). y .answer) e) a
-start-fault (faulty m i) d k p r e a q =
-    let b : r .answer ≡ Refused m i = q .0 ∙ sym a ∙ ap (λ (y : Decoded). y .answer) e in
-    (λ j. record { answer = b j; table = q .1 j })
+start-fault s k p e d h = none-is d k p h ∙ sym (ap startOf e)

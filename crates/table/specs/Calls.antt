@@ -34,10 +34,10 @@ abbrev pub stepKnown : Bool → Action → Table → Tabled
 stepKnown false a t = record { answer = Refused 22 0; table = t }
 stepKnown true a t = orGiven t (stepTable 128 a (entries t))
 
-abbrev pub stepMove : Bool → Problem → Table → ℕ → Tabled
-stepMove false p t m = record { answer = Refused 7 0; table = t }
-stepMove true p t m = stepKnown (described 128 (p .n) (entries t)) (actionAt p m) t
+abbrev pub stepMove : Bool → ℕ → Action → Table → Tabled
+stepMove false n a t = record { answer = Refused 7 0; table = t }
+stepMove true n a t = stepKnown (described 128 n (entries t)) a t
 
 unfoldable pub stepOf : Judgement → Table → ℕ → Tabled
 stepOf (refused k p) t m = record { answer = Refused k p; table = t }
-stepOf (accepted x) t m = stepMove (ltb m (length (x .problem .actions))) (x .problem) t m
+stepOf (accepted x) t m = stepMove (ltb m (length (x .problem .actions))) (x .problem .n) (actionAt (x .problem) m) t

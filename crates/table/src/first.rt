@@ -1,33 +1,35 @@
 // The first table: the known literals, then a fresh table for each or-clause and for each oneof-clause.
 use crate::Table;
 use crate::Tabled;
-use crate::effects::set_from;
 use crate::slots::Grown;
+use crate::slots::copy_masks;
 use crate::slots::offer;
+use crate::steps::Stepped;
 use sheet::Answer;
-use sheet::Clauses;
 use sheet::Literals;
-use sheet::Sets;
 use sheet::Sheet;
 use sheet::masks::consistent;
 use sheet::masks::flip;
 use sheet::masks::join;
 use sheet::masks::literal;
 use sheet::masks::next;
+use sheet::rows::count_of;
+use sheet::rows::set_at;
+use sheet::rows::set_from;
 ghost use mathlib.Core.Path.{_≡_};
 ghost use mathlib.Core.Bool.{true};
-ghost use mathlib.Core.List.{[], _∷_, map};
+ghost use mathlib.Core.List.{List, [], _∷_, _++_, map};
 ghost use Prim.Native.Nat.{_≤_, _<_, _*_};
-ghost use lib.ListN.{length, drop, getD};
+ghost use lib.ListN.{length, drop, getD, replicate};
 ghost use Rattle.sheet.specs.declared.Answer.the-variants.{Refused};
 ghost use Rattle.sheet.specs.Literals as L;
-ghost use Rattle.sheet.specs.Lists.{keep, collect};
-ghost use Rattle.sheet.specs.Decoded.{setsIn, clausesIn, problemIn};
+ghost use Rattle.sheet.specs.Lists.{All, keep, collect};
+ghost use Rattle.sheet.specs.Rows as R;
 ghost use Rattle.table.specs.Start as spec;
-ghost use Rattle.table.specs.Slots.{entriesOf, Held, Puts, entries, tableOf};
+ghost use Rattle.table.specs.Slots.{entriesOf, Held, Puts, tableOf};
 ghost use Rattle.table.specs.Calls.{orGiven};
-ghost use Rattle.table.specs.Reads.{clauseOf, others, Counts, Readable};
-ghost use Rattle.table.specs.Moves.{setsAt};
+ghost use Rattle.table.specs.Reads.{clauseOf, others};
+ghost use Rattle.table.specs.Moves.{tabled};
 
 // Puts a candidate if it is consistent.
 pub(crate) fn admit(trues: &mut [u32], falses: &mut [u32], k: usize, c: Literals) -> Grown
@@ -42,21 +44,21 @@ pub(crate) fn admit(trues: &mut [u32], falses: &mut [u32], k: usize, c: Literals
 
 // The entry with each alternative of an or-clause, in order.
 pub(crate) fn widen_or(
-    alts: Sets,
+    alts: &[u32],
     entry: Literals,
     trues: &mut [u32],
     falses: &mut [u32],
     k: usize,
 ) -> Grown
-    requires { ⌜ alts .count ≤ 8 ⌝ }
+    requires { ⌜ R.SetsFit (now alts) ⌝ }
     requires { ⌜ Held (length (now trues)) k (now trues) (now falses) ⌝ }
-    ensures { λ r. ⌜ Puts (keep L.consistent (spec.candidates (spec.orOf (setsIn alts)) entry)) k (now (trues .entry)) (now (falses .entry)) r (now (trues .exit)) (now (falses .exit)) ⌝ }
+    ensures { λ r. ⌜ Puts (keep L.consistent (spec.candidates (spec.orOf (R.setsRow (now (alts .entry)))) entry)) k (now (trues .entry)) (now (falses .entry)) r (now (trues .exit)) (now (falses .exit)) ⌝ }
 {
-    let count = alts.count;
+    let count = count_of(alts);
     let mut sum = k;
     let mut i: usize = 0;
     while i < count {
-        let a = alts.items[i];
+        let a = set_at(alts, i);
         let Grown::To(m) = admit(trues, falses, sum, join(entry, a)) else {
             return Grown::Full;
         };
@@ -67,16 +69,16 @@ pub(crate) fn widen_or(
 }
 
 // The alternatives but the one of number i, laid out, two masks to each. The result is how many.
-pub(crate) fn lay_others(alts: Sets, i: usize, row: &mut [u32]) -> usize
-    requires { ⌜ (alts .count ≤ 8) × (length (now row) ≡ 16) ⌝ }
-    ensures { λ r. ⌜ (2 * r ≤ length (now (row .exit))) × (setsAt r (now (row .exit)) ≡ others i 0 (setsIn alts)) ⌝ }
+pub(crate) fn lay_others(alts: &[u32], i: usize, row: &mut [u32]) -> usize
+    requires { ⌜ R.SetsFit (now alts) × (length (now row) ≡ 16) ⌝ }
+    ensures { λ r. ⌜ (2 * r ≤ length (now (row .exit))) × (R.setsAt r (now (row .exit)) ≡ others i 0 (R.setsRow (now (alts .entry)))) ⌝ }
 {
-    let count = alts.count;
+    let count = count_of(alts);
     let mut k: usize = 0;
     let mut j: usize = 0;
     while j < count {
         if j != i {
-            let a = alts.items[j];
+            let a = set_at(alts, j);
             row[2 * k] = a.trues;
             row[2 * k + 1] = a.falses;
             k += 1;
@@ -99,7 +101,7 @@ pub(crate) fn choose<'a, 'b>(
     requires { ⌜ 2 * size ≤ length (now row) ⌝ }
     requires { ⌜ L.consistent piece ≡ true ⌝ }
     requires { ⌜ Held (length (now trues)) k (now trues) (now falses) ⌝ }
-    ensures { λ r. ⌜ Puts (keep L.consistent (spec.falsify (drop at (setsAt size (now (row .entry)))) piece)) k (now (trues .entry)) (now (falses .entry)) r (now (trues .exit)) (now (falses .exit)) ⌝ }
+    ensures { λ r. ⌜ Puts (keep L.consistent (spec.falsify (drop at (R.setsAt size (now (row .entry)))) piece)) k (now (trues .entry)) (now (falses .entry)) r (now (trues .exit)) (now (falses .exit)) ⌝ }
 {
     if size <= at {
         return offer(trues, falses, k, piece);
@@ -130,18 +132,18 @@ pub(crate) fn choose<'a, 'b>(
 
 // The entry with the alternative of number i, and the others made false.
 pub(crate) fn widen_one(
-    alts: Sets,
+    alts: &[u32],
     i: usize,
     entry: Literals,
     trues: &mut [u32],
     falses: &mut [u32],
     k: usize,
 ) -> Grown
-    requires { ⌜ (alts .count ≤ 8) × (i < alts .count) ⌝ }
+    requires { ⌜ R.SetsFit (now alts) × (i < getD (now alts) 0 0) ⌝ }
     requires { ⌜ Held (length (now trues)) k (now trues) (now falses) ⌝ }
-    ensures { λ r. ⌜ Puts (keep L.consistent (spec.falsify (others i 0 (setsIn alts)) (L.join entry (getD (setsIn alts) i L.noLiteral)))) k (now (trues .entry)) (now (falses .entry)) r (now (trues .exit)) (now (falses .exit)) ⌝ }
+    ensures { λ r. ⌜ Puts (keep L.consistent (spec.falsify (others i 0 (R.setsRow (now (alts .entry)))) (L.join entry (getD (R.setsRow (now (alts .entry))) i L.noLiteral)))) k (now (trues .entry)) (now (falses .entry)) r (now (trues .exit)) (now (falses .exit)) ⌝ }
 {
-    let a = alts.items[i];
+    let a = set_at(alts, i);
     let first = join(entry, a);
     if !consistent(first) {
         return Grown::To(k);
@@ -153,17 +155,17 @@ pub(crate) fn widen_one(
 
 // The entry with each alternative of a oneof-clause, in order, and the others made false.
 pub(crate) fn widen_oneof(
-    alts: Sets,
+    alts: &[u32],
     entry: Literals,
     trues: &mut [u32],
     falses: &mut [u32],
     k: usize,
 ) -> Grown
-    requires { ⌜ alts .count ≤ 8 ⌝ }
+    requires { ⌜ R.SetsFit (now alts) ⌝ }
     requires { ⌜ Held (length (now trues)) k (now trues) (now falses) ⌝ }
-    ensures { λ r. ⌜ Puts (keep L.consistent (spec.candidates (spec.oneOf (setsIn alts)) entry)) k (now (trues .entry)) (now (falses .entry)) r (now (trues .exit)) (now (falses .exit)) ⌝ }
+    ensures { λ r. ⌜ Puts (keep L.consistent (spec.candidates (spec.oneOf (R.setsRow (now (alts .entry)))) entry)) k (now (trues .entry)) (now (falses .entry)) r (now (trues .exit)) (now (falses .exit)) ⌝ }
 {
-    let count = alts.count;
+    let count = count_of(alts);
     let mut sum = k;
     let mut i: usize = 0;
     while i < count {
@@ -179,15 +181,15 @@ pub(crate) fn widen_oneof(
 // The candidates of one entry.
 pub(crate) fn widen(
     exclusive: bool,
-    alts: Sets,
+    alts: &[u32],
     entry: Literals,
     trues: &mut [u32],
     falses: &mut [u32],
     k: usize,
 ) -> Grown
-    requires { ⌜ alts .count ≤ 8 ⌝ }
+    requires { ⌜ R.SetsFit (now alts) ⌝ }
     requires { ⌜ Held (length (now trues)) k (now trues) (now falses) ⌝ }
-    ensures { λ r. ⌜ Puts (keep L.consistent (spec.candidates (clauseOf exclusive (setsIn alts)) entry)) k (now (trues .entry)) (now (falses .entry)) r (now (trues .exit)) (now (falses .exit)) ⌝ }
+    ensures { λ r. ⌜ Puts (keep L.consistent (spec.candidates (clauseOf exclusive (R.setsRow (now (alts .entry)))) entry)) k (now (trues .entry)) (now (falses .entry)) r (now (trues .exit)) (now (falses .exit)) ⌝ }
 {
     if exclusive {
         return widen_oneof(alts, entry, trues, falses, k);
@@ -196,9 +198,9 @@ pub(crate) fn widen(
 }
 
 // The candidates of the first m entries of ts and fs, put after the k that are there.
-pub(crate) fn spread<'a, 'b>(
+pub(crate) fn spread<'a, 'b, 'c>(
     exclusive: bool,
-    alts: Sets,
+    alts: &'c [u32],
     ts: &'a [u32],
     fs: &'a [u32],
     m: usize,
@@ -206,10 +208,10 @@ pub(crate) fn spread<'a, 'b>(
     falses: &'b mut [u32],
     k: usize,
 ) -> Grown
-    requires { ⌜ alts .count ≤ 8 ⌝ }
+    requires { ⌜ R.SetsFit (now alts) ⌝ }
     requires { ⌜ (m ≤ length (now ts)) × (m ≤ length (now fs)) ⌝ }
     requires { ⌜ Held (length (now trues)) k (now trues) (now falses) ⌝ }
-    ensures { λ r. ⌜ Puts (keep L.consistent (collect (spec.candidates (clauseOf exclusive (setsIn alts))) (entriesOf m (now (ts .entry)) (now (fs .entry))))) k (now (trues .entry)) (now (falses .entry)) r (now (trues .exit)) (now (falses .exit)) ⌝ }
+    ensures { λ r. ⌜ Puts (keep L.consistent (collect (spec.candidates (clauseOf exclusive (R.setsRow (now (alts .entry))))) (entriesOf m (now (ts .entry)) (now (fs .entry))))) k (now (trues .entry)) (now (falses .entry)) r (now (trues .exit)) (now (falses .exit)) ⌝ }
 {
     let mut sum = k;
     let mut i: usize = 0;
@@ -241,98 +243,124 @@ pub(crate) fn refuse(number: u8, position: usize) -> Tabled
     }
 }
 
-// The fresh table that one clause builds.
-pub(crate) fn grow(exclusive: bool, alts: Sets, t: Table) -> Tabled
-    requires { ⌜ alts .count ≤ 8 ⌝ }
-    requires { ⌜ t .count ≤ 128 ⌝ }
-    ensures { λ r. ⌜ r ≡ orGiven (tableOf []) (spec.grow 128 (clauseOf exclusive (setsIn alts)) (entries t)) ⌝ }
-    ensures { λ r. ⌜ r .table .count ≤ 128 ⌝ }
+// The greater of two counts.
+pub(crate) fn longer(a: usize, b: usize) -> usize
+    requires { ⌜ (a ≤ 128) × (b ≤ 128) ⌝ }
+    ensures { λ r. ⌜ (a ≤ r) × (b ≤ r) × (r ≤ 128) ⌝ }
 {
-    let mut trues = [0u32; 128];
-    let mut falses = [0u32; 128];
-    let m = t.count;
-    match spread(
-        exclusive,
-        alts,
-        &t.trues,
-        &t.falses,
-        m,
-        &mut trues,
-        &mut falses,
-        0,
-    ) {
+    if a < b {
+        return b;
+    }
+    a
+}
+
+// The fresh table that one clause builds, in the place of the one it is built from. A refusal leaves no table.
+pub(crate) fn grow(
+    exclusive: bool,
+    alts: &[u32],
+    trues: &mut [u32],
+    falses: &mut [u32],
+    m: usize,
+) -> Stepped
+    requires { ⌜ R.SetsFit (now alts) ⌝ }
+    requires { ⌜ Held 128 m (now trues) (now falses) ⌝ }
+    ensures { λ r. ⌜ tabled (tableOf []) r (now (trues .exit)) (now (falses .exit)) ≡ orGiven (tableOf []) (spec.grow 128 (clauseOf exclusive (R.setsRow (now (alts .entry)))) (entriesOf m (now (trues .entry)) (now (falses .entry)))) ⌝ }
+{
+    let mut us = [0u32; 128];
+    let mut gs = [0u32; 128];
+    match spread(exclusive, alts, trues, falses, m, &mut us, &mut gs, 0) {
         Grown::To(k) => {
             if k == 0 {
-                return refuse(20, 0);
+                return Stepped::Refused(20);
             }
-            Tabled {
-                answer: Answer::Accepted,
-                table: Table {
-                    count: k,
-                    trues,
-                    falses,
-                },
-            }
+            let top = longer(m, k);
+            copy_masks(trues, 0, &us[..top]);
+            copy_masks(falses, 0, &gs[..top]);
+            Stepped::To(k)
         }
-        Grown::Full => refuse(21, 0),
+        Grown::Full => Stepped::Refused(21),
     }
 }
 
 // The tables of all clauses of a section, one after the other; the first refusal stays.
-pub(crate) fn grow_all(exclusive: bool, clauses: Clauses, t: Table) -> Tabled
-    requires { ⌜ Counts clauses ⌝ }
-    requires { ⌜ Held 128 (t .count) (t .trues) (t .falses) ⌝ }
-    ensures { λ r. ⌜ r ≡ orGiven (tableOf []) (spec.growAll 128 (map (clauseOf exclusive) (clausesIn clauses)) (entries t)) ⌝ }
-    ensures { λ r. ⌜ r .table .count ≤ 128 ⌝ }
+pub(crate) fn grow_all<'a, 'b>(
+    exclusive: bool,
+    clauses: &'a [u32],
+    count: usize,
+    trues: &'b mut [u32],
+    falses: &'b mut [u32],
+    m: usize,
+) -> Stepped
+    requires { ⌜ (count * 17 ≤ length (now clauses)) × All (λ (c : List Literals). length c ≤ 8) (R.clausesAt count (now clauses)) ⌝ }
+    requires { ⌜ Held 128 m (now trues) (now falses) ⌝ }
+    ensures { λ r. ⌜ tabled (tableOf []) r (now (trues .exit)) (now (falses .exit)) ≡ orGiven (tableOf []) (spec.growAll 128 (map (clauseOf exclusive) (R.clausesAt count (now (clauses .entry)))) (entriesOf m (now (trues .entry)) (now (falses .entry)))) ⌝ }
 {
-    let count = clauses.count;
-    let mut table = t;
+    let mut sum = m;
     let mut i: usize = 0;
     while i < count {
-        let alts = clauses.items[i];
-        let grown = grow(exclusive, alts, table);
-        let answer = grown.answer;
-        match answer {
-            Answer::Accepted => {
-                let fresh = grown.table;
-                table = fresh;
+        let at = i * 17;
+        match grow(exclusive, &clauses[at..at + 17], trues, falses, sum) {
+            Stepped::To(k) => {
+                sum = k;
             }
-            Answer::Refused(_, _) => {
-                return grown;
+            Stepped::Refused(number) => {
+                return Stepped::Refused(number);
             }
         }
         i += 1;
     }
-    Tabled {
-        answer: Answer::Accepted,
-        table,
+    Stepped::To(sum)
+}
+
+// The first table, of the known literals, i or-clauses and j oneof-clauses, into arrays of zeros.
+pub fn first_into<'a, 'b>(
+    known: Literals,
+    ors: &'a [u32],
+    i: usize,
+    oneofs: &'a [u32],
+    j: usize,
+    trues: &'b mut [u32],
+    falses: &'b mut [u32],
+) -> Stepped
+    requires { ⌜ (i * 17 ≤ length (now ors)) × All (λ (c : List Literals). length c ≤ 8) (R.clausesAt i (now ors)) ⌝ }
+    requires { ⌜ (j * 17 ≤ length (now oneofs)) × All (λ (c : List Literals). length c ≤ 8) (R.clausesAt j (now oneofs)) ⌝ }
+    requires { ⌜ (now trues ≡ replicate 128 0) × (now falses ≡ replicate 128 0) ⌝ }
+    ensures { λ r. ⌜ tabled (tableOf []) r (now (trues .exit)) (now (falses .exit)) ≡ orGiven (tableOf []) (spec.growAll 128 (map spec.orOf (R.clausesAt i (now (ors .entry))) ++ map spec.oneOf (R.clausesAt j (now (oneofs .entry)))) (known ∷ [])) ⌝ }
+{
+    trues[0] = known.trues;
+    falses[0] = known.falses;
+    match grow_all(false, ors, i, trues, falses, 1) {
+        Stepped::To(k) => grow_all(true, oneofs, j, trues, falses, k),
+        Stepped::Refused(number) => Stepped::Refused(number),
     }
 }
 
 // The first table of a sheet that was read.
-pub fn first_table(sheet: Sheet) -> Tabled
-    requires { ⌜ Readable sheet ⌝ }
-    ensures { λ r. ⌜ r ≡ orGiven (tableOf []) (spec.startTable 128 (problemIn sheet)) ⌝ }
+pub(crate) fn first_table<'a>(sheet: Sheet, ors: &'a [u32], oneofs: &'a [u32]) -> Tabled
+    requires { ⌜ (sheet .ors * 17 ≤ length (now ors)) × All (λ (c : List Literals). length c ≤ 8) (R.clausesAt (sheet .ors) (now ors)) ⌝ }
+    requires { ⌜ (sheet .oneofs * 17 ≤ length (now oneofs)) × All (λ (c : List Literals). length c ≤ 8) (R.clausesAt (sheet .oneofs) (now oneofs)) ⌝ }
+    ensures { λ r. ⌜ r ≡ orGiven (tableOf []) (spec.growAll 128 (map spec.orOf (R.clausesAt (sheet .ors) (now (ors .entry))) ++ map spec.oneOf (R.clausesAt (sheet .oneofs) (now (oneofs .entry)))) (sheet .known ∷ [])) ⌝ }
 {
-    let known = sheet.known;
-    let ors = sheet.ors;
-    let oneofs = sheet.oneofs;
     let mut trues = [0u32; 128];
     let mut falses = [0u32; 128];
-    trues[0] = known.trues;
-    falses[0] = known.falses;
-    let first = Table {
-        count: 1,
-        trues,
-        falses,
-    };
-    let grown = grow_all(false, ors, first);
-    let answer = grown.answer;
-    match answer {
-        Answer::Accepted => {
-            let table = grown.table;
-            grow_all(true, oneofs, table)
-        }
-        Answer::Refused(_, _) => grown,
+    let known = sheet.known;
+    match first_into(
+        known,
+        ors,
+        sheet.ors,
+        oneofs,
+        sheet.oneofs,
+        &mut trues,
+        &mut falses,
+    ) {
+        Stepped::To(count) => Tabled {
+            answer: Answer::Accepted,
+            table: Table {
+                count,
+                trues,
+                falses,
+            },
+        },
+        Stepped::Refused(number) => refuse(number, 0),
     }
 }

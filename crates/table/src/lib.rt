@@ -1,9 +1,10 @@
 // Belief states as tables of entries: the first table of a sheet, the step of a move, and pictures.
 use sheet::Answer;
 ghost use mathlib.Core.Path.{_≡_};
-ghost use lib.ListN.{length};
+ghost use lib.ListN.{length, replicate};
 ghost use Rattle.sheet.specs.Format.{sheetOf};
 ghost use Rattle.table.specs.Calls.{startOf, stepOf};
+ghost use Rattle.table.specs.Moves.{lent, counted};
 ghost use Rattle.table.specs.PictureCalls.{pictureOf, bufferOf};
 
 pub mod clauses;
@@ -34,17 +35,60 @@ pub struct Pictured {
     pub clauses: usize,
 }
 
+// What a call on lent arrays gives: the answer, and how many entries the arrays have, 0 if refused.
+pub struct Counted {
+    pub answer: Answer,
+    pub count: usize,
+}
+
 // The first table of a sheet.
 pub fn start(s: &[u8]) -> Tabled
     ensures { λ r. ⌜ r ≡ startOf (sheetOf (now (s .entry))) ⌝ }
 {
-    let decoded = sheet::decode(s);
+    let mut ors = [0u32; 136];
+    let mut oneofs = [0u32; 136];
+    let mut goal = [0u32; 17];
+    let mut moves = [0u32; 1120];
+    let decoded = sheet::decode(s, &mut ors, &mut oneofs, &mut goal, &mut moves);
     let answer = decoded.answer;
     match answer {
         Answer::Refused(number, position) => first::refuse(number, position),
         Answer::Accepted => {
             let sheet = decoded.sheet;
-            first::first_table(sheet)
+            first::first_table(sheet, &ors, &oneofs)
+        }
+    }
+}
+
+// The step of a lent table by the move of a number on a sheet, into arrays of zeros.
+pub fn step_lent<'a, 'b, 'c>(
+    s: &'a [u8],
+    number: usize,
+    ts: &'b [u32],
+    fs: &'b [u32],
+    k: usize,
+    us: &'c mut [u32],
+    gs: &'c mut [u32],
+) -> Counted
+    requires { ⌜ (length (now ts) ≡ 128) × (length (now fs) ≡ 128) ⌝ }
+    requires { ⌜ (now us ≡ replicate 128 0) × (now gs ≡ replicate 128 0) ⌝ }
+    ensures { λ r. ⌜ counted (lent k (now (ts .entry)) (now (fs .entry))) r (now (us .exit)) (now (gs .exit)) ≡ stepOf (sheetOf (now (s .entry))) (lent k (now (ts .entry)) (now (fs .entry))) number ⌝ }
+{
+    let mut ors = [0u32; 136];
+    let mut oneofs = [0u32; 136];
+    let mut goal = [0u32; 17];
+    let mut moves = [0u32; 1120];
+    let decoded = sheet::decode(s, &mut ors, &mut oneofs, &mut goal, &mut moves);
+    let answer = decoded.answer;
+    match answer {
+        Answer::Refused(fault, position) => Counted {
+            answer: Answer::Refused(fault, position),
+            count: 0,
+        },
+        Answer::Accepted => {
+            let sheet = decoded.sheet;
+            let moved = steps::step_in(sheet.n, &moves, sheet.moves, number, ts, fs, k, us, gs);
+            steps::told(moved)
         }
     }
 }
@@ -53,17 +97,29 @@ pub fn start(s: &[u8]) -> Tabled
 pub fn step(s: &[u8], table: Table, number: usize) -> Tabled
     ensures { λ r. ⌜ r ≡ stepOf (sheetOf (now (s .entry))) table number ⌝ }
 {
-    let decoded = sheet::decode(s);
-    let answer = decoded.answer;
+    let count = table.count;
+    let mut trues = [0u32; 128];
+    let mut falses = [0u32; 128];
+    let stepped = step_lent(
+        s,
+        number,
+        &table.trues,
+        &table.falses,
+        count,
+        &mut trues,
+        &mut falses,
+    );
+    let answer = stepped.answer;
     match answer {
-        Answer::Refused(fault, position) => Tabled {
-            answer: Answer::Refused(fault, position),
-            table,
+        Answer::Refused(_, _) => Tabled { answer, table },
+        Answer::Accepted => Tabled {
+            answer,
+            table: Table {
+                count: stepped.count,
+                trues,
+                falses,
+            },
         },
-        Answer::Accepted => {
-            let sheet = decoded.sheet;
-            steps::step_in(sheet, table, number)
-        }
     }
 }
 
@@ -72,7 +128,11 @@ pub fn picture(s: &[u8], table: Table, buffer: &mut [u8]) -> Pictured
     ensures { λ r. ⌜ r ≡ pictureOf (sheetOf (now (s .entry))) table (length (now (buffer .entry))) ⌝ }
     ensures { λ r. ⌜ now (buffer .exit) ≡ bufferOf (sheetOf (now (s .entry))) table (now (buffer .entry)) ⌝ }
 {
-    let decoded = sheet::decode(s);
+    let mut ors = [0u32; 136];
+    let mut oneofs = [0u32; 136];
+    let mut goal = [0u32; 17];
+    let mut moves = [0u32; 1120];
+    let decoded = sheet::decode(s, &mut ors, &mut oneofs, &mut goal, &mut moves);
     let answer = decoded.answer;
     match answer {
         Answer::Refused(number, position) => writing::refused(number, position),

@@ -2,8 +2,10 @@
 use sheet::Literals;
 use sheet::masks::within;
 ghost use mathlib.Core.Path.{_≡_};
+ghost use mathlib.Core.Bool.{false};
 ghost use mathlib.Core.List.{[], _∷_};
-ghost use Prim.Native.Nat.{_≤_};
+ghost use Prim.Native.Nat.{_≤_, _+_};
+ghost use lib.Seq.{paste};
 ghost use lib.ListN.{length};
 ghost use Rattle.sheet.specs.Literals as L;
 ghost use Rattle.sheet.specs.Lists.{anyOf};
@@ -47,22 +49,23 @@ pub(crate) fn last_within(trues: &[u32], falses: &[u32], n: usize, l: Literals) 
     Found::Nothing
 }
 
-// Some of the first n entries contains l. The scan has no way out before its end, so that the compiler can compare several at a time.
-pub(crate) fn some_above(trues: &[u32], falses: &[u32], n: usize, l: Literals) -> bool
+// None of the entries before the result contains l. The result is the first that does, n if there is none; correct is any before it, and
+// the later it is, the less the pass of `remove` goes over. The scan has no way out before its end.
+pub(crate) fn first_above(trues: &[u32], falses: &[u32], n: usize, l: Literals) -> usize
     requires { ⌜ (n ≤ length (now trues)) × (n ≤ length (now falses)) ⌝ }
-    ensures { λ r. ⌜ r ≡ anyOf (λ e. L.within l e) (entriesOf n (now (trues .entry)) (now (falses .entry))) ⌝ }
+    ensures { λ r. ⌜ (r ≤ n) × (anyOf (λ e. L.within l e) (entriesOf r (now (trues .entry)) (now (falses .entry))) ≡ false) ⌝ }
 {
-    let mut found = false;
-    let mut i: usize = 0;
-    while i < n {
+    let mut found = n;
+    let mut i = n;
+    while 0 < i {
+        i -= 1;
         let e = Literals {
             trues: trues[i],
             falses: falses[i],
         };
         if within(l, e) {
-            found = true;
+            found = i;
         }
-        i += 1;
     }
     found
 }
@@ -72,11 +75,9 @@ pub(crate) fn remove(trues: &mut [u32], falses: &mut [u32], n: usize, l: Literal
     requires { ⌜ Held (length (now trues)) n (now trues) (now falses) ⌝ }
     ensures { λ r. ⌜ Holds (length (now (trues .entry))) (left (entriesOf n (now (trues .entry)) (now (falses .entry))) l) r (now (trues .exit)) (now (falses .exit)) ⌝ }
 {
-    if !some_above(trues, falses, n, l) {
-        return n;
-    }
-    let mut i: usize = 0;
-    let mut k: usize = 0;
+    let first = first_above(trues, falses, n, l);
+    let mut i = first;
+    let mut k = first;
     while i < n {
         let e = Literals {
             trues: trues[i],
@@ -126,5 +127,17 @@ pub(crate) fn offer(trues: &mut [u32], falses: &mut [u32], n: usize, l: Literals
         Fate::Dropped => Grown::To(n),
         Fate::Added { removed: _, count } => Grown::To(count),
         Fate::Full => Grown::Full,
+    }
+}
+
+// Masks copied into others from `at` on. The others are kept.
+pub fn copy_masks<'a, 'b>(to: &'a mut [u32], at: usize, from: &'b [u32])
+    requires { ⌜ at + length (now from) ≤ length (now to) ⌝ }
+    ensures { λ r. ⌜ now (to .exit) ≡ paste (now (to .entry)) at (now (from .entry)) (length (now (from .entry))) ⌝ }
+{
+    let mut i: usize = 0;
+    while i < from.len() {
+        to[at + i] = from[i];
+        i += 1;
     }
 }

@@ -1,8 +1,6 @@
 // The step of a table over lent slices: 24, then 25 by pairs of effects, then the pieces of each entry, each image put in its turn.
-use crate::Table;
-use crate::Tabled;
+use crate::Counted;
 use crate::effects::effect_at;
-use crate::effects::lay;
 use crate::slots;
 use crate::slots::Grown;
 use crate::tables::described;
@@ -10,19 +8,18 @@ use crate::tables::entry_at;
 use sheet::Answer;
 use sheet::Effect;
 use sheet::Literals;
-use sheet::Move;
-use sheet::Sheet;
 use sheet::masks;
+use sheet::rows::set_from;
 ghost use mathlib.Core.Path.{_≡_};
 ghost use mathlib.Core.Bool.{true};
 ghost use mathlib.Core.List.{map};
-ghost use Prim.Native.Nat.{_≤_, _<_, _*_};
+ghost use Prim.Native.Nat.{_≤_, _<_, _+_, _*_};
 ghost use lib.ListN.{length, drop, replicate};
 ghost use Rattle.sheet.specs.Literals as L;
 ghost use Rattle.sheet.specs.Lists.{All, anyOf, allOf, collect};
 ghost use lib.Dec.{ltb};
-ghost use Rattle.sheet.specs.Decoded.{actionIn, problemIn};
-ghost use Rattle.table.specs.Minimal as O;
+ghost use Rattle.sheet.specs.Encoding.{ProperAction};
+ghost use Rattle.sheet.specs.Rows as R;
 ghost use Rattle.table.specs.Step as S;
 ghost use Rattle.table.specs.Slots.{entriesOf, Held, Puts, entries};
 ghost use Rattle.table.specs.Pairs as P;
@@ -69,7 +66,7 @@ pub(crate) fn opposes<'a>(
     d: Literals,
 ) -> bool
     requires { ⌜ 4 * size ≤ length (now effects) ⌝ }
-    ensures { λ r. ⌜ r ≡ anyOf (P.opposed e d) (drop from (M.effectsAt size (now (effects .entry)))) ⌝ }
+    ensures { λ r. ⌜ r ≡ anyOf (P.opposed e d) (drop from (R.effectsAt size (now (effects .entry)))) ⌝ }
 {
     let mut j = from;
     while j < size {
@@ -84,7 +81,7 @@ pub(crate) fn opposes<'a>(
 // Two effects are opposed in d.
 pub(crate) fn contradicts<'a>(effects: &'a [u32], size: usize, d: Literals) -> bool
     requires { ⌜ 4 * size ≤ length (now effects) ⌝ }
-    ensures { λ r. ⌜ r ≡ P.contradicts (M.effectsAt size (now (effects .entry))) d ⌝ }
+    ensures { λ r. ⌜ r ≡ P.contradicts (R.effectsAt size (now (effects .entry))) d ⌝ }
 {
     let mut i: usize = 0;
     while i < size {
@@ -107,7 +104,7 @@ pub(crate) fn unclear<'a, 'b>(
 ) -> bool
     requires { ⌜ 4 * size ≤ length (now effects) ⌝ }
     requires { ⌜ (count ≤ length (now trues)) × (count ≤ length (now falses)) ⌝ }
-    ensures { λ r. ⌜ r ≡ anyOf (λ d. P.contradicts (M.effectsAt size (now (effects .entry))) d) (entriesOf count (now (trues .entry)) (now (falses .entry))) ⌝ }
+    ensures { λ r. ⌜ r ≡ anyOf (λ d. P.contradicts (R.effectsAt size (now (effects .entry))) d) (entriesOf count (now (trues .entry)) (now (falses .entry))) ⌝ }
 {
     let mut i: usize = 0;
     while i < count {
@@ -142,8 +139,8 @@ pub(crate) fn settle<'a>(
     results: Literals,
 ) -> Settled
     requires { ⌜ 4 * size ≤ length (now effects) ⌝ }
-    requires { ⌜ Carried (M.effectsAt size (now effects)) at piece results ⌝ }
-    ensures { λ r. ⌜ Settles (M.effectsAt size (now (effects .entry))) at piece r × (r .at < size → Splits (M.effectAt (now (effects .entry)) (r .at) .condition) piece) ⌝ }
+    requires { ⌜ Carried (R.effectsAt size (now effects)) at piece results ⌝ }
+    ensures { λ r. ⌜ Settles (R.effectsAt size (now (effects .entry))) at piece r × (r .at < size → Splits (R.effectAt (now (effects .entry)) (r .at) .condition) piece) ⌝ }
 {
     let mut sum = results;
     let mut i = at;
@@ -211,10 +208,10 @@ pub(crate) fn split<'a, 'b>(
     k: usize,
 ) -> Grown
     requires { ⌜ 4 * size ≤ length (now effects) ⌝ }
-    requires { ⌜ (at < size) × Splits (M.effectAt (now effects) at .condition) piece ⌝ }
-    requires { ⌜ Carried (M.effectsAt size (now effects)) at piece results ⌝ }
+    requires { ⌜ (at < size) × Splits (R.effectAt (now effects) at .condition) piece ⌝ }
+    requires { ⌜ Carried (R.effectsAt size (now effects)) at piece results ⌝ }
     requires { ⌜ Held (length (now trues)) k (now trues) (now falses) ⌝ }
-    ensures { λ r. ⌜ Puts (map (S.image (M.effectsAt size (now (effects .entry)))) (S.pieces (drop at (M.effectsAt size (now (effects .entry)))) piece)) k (now (trues .entry)) (now (falses .entry)) r (now (trues .exit)) (now (falses .exit)) ⌝ }
+    ensures { λ r. ⌜ Puts (map (S.image (R.effectsAt size (now (effects .entry)))) (S.pieces (drop at (R.effectsAt size (now (effects .entry)))) piece)) k (now (trues .entry)) (now (falses .entry)) r (now (trues .exit)) (now (falses .exit)) ⌝ }
 {
     let e = effect_at(effects, at);
     let condition = e.condition;
@@ -251,9 +248,9 @@ pub(crate) fn branch<'a, 'b>(
     k: usize,
 ) -> Grown
     requires { ⌜ 4 * size ≤ length (now effects) ⌝ }
-    requires { ⌜ Steady (M.effectsAt size (now effects)) × (L.consistent entry ≡ true) ⌝ }
+    requires { ⌜ Steady (R.effectsAt size (now effects)) × (L.consistent entry ≡ true) ⌝ }
     requires { ⌜ Held (length (now trues)) k (now trues) (now falses) ⌝ }
-    ensures { λ r. ⌜ Puts (map (S.image (M.effectsAt size (now (effects .entry)))) (S.pieces (M.effectsAt size (now (effects .entry))) entry)) k (now (trues .entry)) (now (falses .entry)) r (now (trues .exit)) (now (falses .exit)) ⌝ }
+    ensures { λ r. ⌜ Puts (map (S.image (R.effectsAt size (now (effects .entry)))) (S.pieces (R.effectsAt size (now (effects .entry))) entry)) k (now (trues .entry)) (now (falses .entry)) r (now (trues .exit)) (now (falses .exit)) ⌝ }
 {
     let none = Literals {
         trues: 0,
@@ -279,9 +276,9 @@ pub(crate) fn spread<'a, 'b, 'c>(
 ) -> Grown
     requires { ⌜ 4 * size ≤ length (now effects) ⌝ }
     requires { ⌜ (m ≤ length (now ts)) × (m ≤ length (now fs)) ⌝ }
-    requires { ⌜ Steady (M.effectsAt size (now effects)) × All (λ d. L.consistent d ≡ true) (entriesOf m (now ts) (now fs)) ⌝ }
+    requires { ⌜ Steady (R.effectsAt size (now effects)) × All (λ d. L.consistent d ≡ true) (entriesOf m (now ts) (now fs)) ⌝ }
     requires { ⌜ Held (length (now trues)) k (now trues) (now falses) ⌝ }
-    ensures { λ r. ⌜ Puts (map (S.image (M.effectsAt size (now (effects .entry)))) (collect (S.pieces (M.effectsAt size (now (effects .entry)))) (entriesOf m (now (ts .entry)) (now (fs .entry))))) k (now (trues .entry)) (now (falses .entry)) r (now (trues .exit)) (now (falses .exit)) ⌝ }
+    ensures { λ r. ⌜ Puts (map (S.image (R.effectsAt size (now (effects .entry)))) (collect (S.pieces (R.effectsAt size (now (effects .entry)))) (entriesOf m (now (ts .entry)) (now (fs .entry))))) k (now (trues .entry)) (now (falses .entry)) r (now (trues .exit)) (now (falses .exit)) ⌝ }
 {
     let mut sum = k;
     let mut i: usize = 0;
@@ -293,16 +290,6 @@ pub(crate) fn spread<'a, 'b, 'c>(
         i += 1;
     }
     Grown::To(sum)
-}
-
-// A refusal by its number, with the table.
-pub(crate) fn refused(number: u8, table: Table) -> Tabled
-    ensures { λ r. ⌜ r ≡ orGiven table (O.refused number) ⌝ }
-{
-    Tabled {
-        answer: Answer::Refused(number, 0),
-        table,
-    }
 }
 
 // What a step gave: so many entries in the lent arrays, or the number of a refusal.
@@ -323,10 +310,10 @@ pub fn step_into<'a, 'b, 'c>(
     gs: &'c mut [u32],
 ) -> Stepped
     requires { ⌜ 4 * size ≤ length (now effects) ⌝ }
-    requires { ⌜ M.Fits (M.actionBy precondition size (now effects)) (M.lent n (now ts) (now fs)) ⌝ }
+    requires { ⌜ M.Fits (R.actionBy precondition size (now effects)) (M.lent n (now ts) (now fs)) ⌝ }
     requires { ⌜ (n ≤ length (now ts)) × (n ≤ length (now fs)) ⌝ }
     requires { ⌜ (now us ≡ replicate 128 0) × (now gs ≡ replicate 128 0) ⌝ }
-    ensures { λ r. ⌜ M.tabled (M.lent n (now (ts .entry)) (now (fs .entry))) r (now (us .exit)) (now (gs .exit)) ≡ orGiven (M.lent n (now (ts .entry)) (now (fs .entry))) (S.stepTable 128 (M.actionBy precondition size (now (effects .entry))) (entriesOf n (now (ts .entry)) (now (fs .entry)))) ⌝ }
+    ensures { λ r. ⌜ M.tabled (M.lent n (now (ts .entry)) (now (fs .entry))) r (now (us .exit)) (now (gs .exit)) ≡ orGiven (M.lent n (now (ts .entry)) (now (fs .entry))) (S.stepTable 128 (R.actionBy precondition size (now (effects .entry))) (entriesOf n (now (ts .entry)) (now (fs .entry)))) ⌝ }
 {
     if !sure(precondition, ts, fs, n) {
         return Stepped::Refused(24);
@@ -340,55 +327,81 @@ pub fn step_into<'a, 'b, 'c>(
     }
 }
 
-// The step of a table by a move.
-pub fn advance(mv: Move, table: Table) -> Tabled
-    requires { ⌜ M.Steps mv table ⌝ }
-    ensures { λ r. ⌜ r ≡ orGiven table (S.stepTable 128 (actionIn mv) (entries table)) ⌝ }
+// A number as a count.
+fn wide(x: u32) -> usize
+    ensures { λ r. ⌜ r ≡ x ⌝ }
 {
-    let precondition = mv.precondition;
-    let size = mv.count;
-    let mut row = [0u32; 32];
-    lay(mv, &mut row);
-    let count = table.count;
-    let mut trues = [0u32; 128];
-    let mut falses = [0u32; 128];
-    match step_into(
-        precondition,
-        &row,
-        size,
-        &table.trues,
-        &table.falses,
-        count,
-        &mut trues,
-        &mut falses,
-    ) {
-        Stepped::To(k) => Tabled {
-            answer: Answer::Accepted,
-            table: Table {
-                count: k,
-                trues,
-                falses,
-            },
-        },
-        Stepped::Refused(number) => refused(number, table),
-    }
+    x as usize
 }
 
-// The step by the move of a number on a sheet that was read: 7, 22, then the step.
-pub(crate) fn step_in(sheet: Sheet, table: Table, number: usize) -> Tabled
-    requires { ⌜ M.Filled sheet ⌝ }
-    ensures { λ r. ⌜ r ≡ stepMove (ltb number (length (problemIn sheet .actions))) (problemIn sheet) table number ⌝ }
+// The step of a lent table by the move of a number, into arrays of zeros.
+pub fn step_at<'a, 'b, 'c>(
+    moves: &'a [u32],
+    m: usize,
+    ts: &'b [u32],
+    fs: &'b [u32],
+    n: usize,
+    us: &'c mut [u32],
+    gs: &'c mut [u32],
+) -> Stepped
+    requires { ⌜ (m * 35 + 35 ≤ length (now moves)) × (R.countOf (now moves) m ≤ 8) ⌝ }
+    requires { ⌜ M.Fits (R.actionOf (now moves) m) (M.lent n (now ts) (now fs)) ⌝ }
+    requires { ⌜ (n ≤ length (now ts)) × (n ≤ length (now fs)) ⌝ }
+    requires { ⌜ (now us ≡ replicate 128 0) × (now gs ≡ replicate 128 0) ⌝ }
+    ensures { λ r. ⌜ M.tabled (M.lent n (now (ts .entry)) (now (fs .entry))) r (now (us .exit)) (now (gs .exit)) ≡ orGiven (M.lent n (now (ts .entry)) (now (fs .entry))) (S.stepTable 128 (R.actionOf (now (moves .entry)) m) (entriesOf n (now (ts .entry)) (now (fs .entry)))) ⌝ }
 {
-    let moves = sheet.moves;
-    let count = moves.count;
+    let i = m * 35;
+    let row = &moves[i..i + 35];
+    step_into(
+        set_from(row, 0),
+        &row[3..35],
+        wide(row[2]),
+        ts,
+        fs,
+        n,
+        us,
+        gs,
+    )
+}
+
+// The step of a lent table by the move of a number among the `count` of a sheet over n propositions: 7, 22, then the step.
+pub(crate) fn step_in<'a, 'b, 'c>(
+    n: usize,
+    moves: &'a [u32],
+    count: usize,
+    number: usize,
+    ts: &'b [u32],
+    fs: &'b [u32],
+    k: usize,
+    us: &'c mut [u32],
+    gs: &'c mut [u32],
+) -> Stepped
+    requires { ⌜ (n ≤ 32) × (count * 35 ≤ length (now moves)) × All (ProperAction n) (R.actionsAt count (now moves)) ⌝ }
+    requires { ⌜ (length (now ts) ≡ 128) × (length (now fs) ≡ 128) ⌝ }
+    requires { ⌜ (now us ≡ replicate 128 0) × (now gs ≡ replicate 128 0) ⌝ }
+    ensures { λ r. ⌜ M.tabled (M.lent k (now (ts .entry)) (now (fs .entry))) r (now (us .exit)) (now (gs .exit)) ≡ stepMove (ltb number count) n (R.actionOf (now (moves .entry)) number) (M.lent k (now (ts .entry)) (now (fs .entry))) ⌝ }
+{
     if count <= number {
-        return refused(7, table);
+        return Stepped::Refused(7);
     }
-    let n = sheet.n;
-    let entries = table.count;
-    if !described(n, &table.trues, &table.falses, entries) {
-        return refused(22, table);
+    if !described(n, ts, fs, k) {
+        return Stepped::Refused(22);
     }
-    let mv = moves.items[number];
-    advance(mv, table)
+    step_at(moves, number, ts, fs, k, us, gs)
+}
+
+// A step as the answer of a call.
+pub(crate) fn told(r: Stepped) -> Counted
+    ensures { λ c. ⌜ c ≡ M.toldOf r ⌝ }
+{
+    match r {
+        Stepped::To(count) => Counted {
+            answer: Answer::Accepted,
+            count,
+        },
+        Stepped::Refused(number) => Counted {
+            answer: Answer::Refused(number, 0),
+            count: 0,
+        },
+    }
 }

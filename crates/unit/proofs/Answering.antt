@@ -58,9 +58,9 @@ pub start-told : (s : List ℕ) (r : Tabled) (t : Told) → r ≡ startOf (sheet
 unfolding startTold
 start-told s r t e q = q ∙ ap (λ (x : Tabled). answerTold (x .answer) 0) e
 
-pub step-told : (s xs : List ℕ) (m : ℕ) (g : Table) (r : Tabled) (t : Told) → g ≡ tableIn xs → r ≡ stepOf (sheetOf s) g m → t ≡ answerTold (r .answer) 0 → t ≡ stepTold s xs m
+pub step-told : (s xs : List ℕ) (m : ℕ) (r : Tabled) (t : Told) → r ≡ stepOf (sheetOf s) (tableIn xs) m → t ≡ answerTold (r .answer) 0 → t ≡ stepTold s xs m
 unfolding stepTold
-step-told s xs m g r t e q h = h ∙ ap (λ (x : Tabled). answerTold (x .answer) 0) (q ∙ ap (λ (x : Table). stepOf (sheetOf s) x m) e)
+step-told s xs m r t q h = h ∙ ap (λ (x : Tabled). answerTold (x .answer) 0) q
 
 pub picture-told : (s xs : List ℕ) (n : ℕ) (g : Table) (r : Pictured) (t : Told) → g ≡ tableIn xs → r ≡ pictureOf (sheetOf s) g n → t ≡ answerTold (r .answer) (r .clauses)
     → t ≡ pictureTold s xs n
@@ -83,10 +83,6 @@ run-table s rows r e = ap (λ (x : Course). x .ran .table) e
 -- ---- the numbers of a table, once the slices are long enough
 pub tables : {b : Bool} (enough : b ≡ false) (t u : Table) (xs after : List ℕ) → t ≡ u → after ≡ tableOut t xs → after ≡ cond b xs (tableOut u xs)
 tables enough t u xs after same e = second xs (tableOut u xs) after enough (e ∙ ap (λ (x : Table). tableOut x xs) same)
-
--- the table that a step hands back
-pub step-table : (s xs : List ℕ) (m : ℕ) (g : Table) (r : Tabled) → g ≡ tableIn xs → r ≡ stepOf (sheetOf s) g m → r .table ≡ stepOf (sheetOf s) (tableIn xs) m .table
-step-table s xs m g r e q = ap (λ (x : Tabled). x .table) (q ∙ ap (λ (x : Table). stepOf (sheetOf s) x m) e)
 
 -- the bytes of a plan that was found
 pub search-plan : (s : List ℕ) (limit : ℕ) (r : Searched) (plan after : List ℕ) → length (r .plan) ≡ 8 → r ≡ searchOf (sheetOf s) limit

@@ -14,7 +14,11 @@ use Rattle.sheet.specs.Lists.{allOf, collect}
 use Rattle.sheet.specs.Problem.{Action, Problem, Statement}
 use Rattle.sheet.specs.Encoding.{ProperProblem}
 use Rattle.sheet.specs.Format.{Judgement, accepted, refused as faulty, sheetOf}
+use Rattle.sheet.specs.declared.Answer.{Answer}
+use Rattle.sheet.specs.declared.Answer.the-variants.{Accepted}
 use Rattle.table.specs.declared.Table.{Table}
+use Rattle.table.specs.declared.Counted.{Counted}
+use Rattle.table.specs.Moves.{lent, kept, counted}
 use Rattle.table.specs.declared.Tabled.{Tabled}
 use Rattle.table.specs.Worlds.{results}
 use Rattle.table.specs.Minimal.{Outcome, refused, table, putAll, described}
@@ -86,19 +90,22 @@ fits-known : (b : Bool) (a : Action) (t : Table) → t .count < 2 ^ 32 → stepK
 fits-known false a t h = h
 fits-known true a t h = fits-given t (stepTable 128 a (entries t)) (small-step a (entries t)) h
 
-fits-move : (b : Bool) (p : Problem) (t : Table) (m : ℕ) → t .count < 2 ^ 32 → stepMove b p t m .table .count < 2 ^ 32
-fits-move false p t m h = h
-fits-move true p t m h = fits-known (described 128 (p .n) (entries t)) (actionAt p m) t h
+fits-move : (b : Bool) (n : ℕ) (a : Action) (t : Table) → t .count < 2 ^ 32 → stepMove b n a t .table .count < 2 ^ 32
+fits-move false n a t h = h
+fits-move true n a t h = fits-known (described 128 n (entries t)) a t h
 
 fits-step : (j : Judgement) (t : Table) (m : ℕ) → t .count < 2 ^ 32 → stepOf j t m .table .count < 2 ^ 32
 unfolding stepOf
 fits-step (faulty k p) t m h = h
-fits-step (accepted x) t m h = fits-move (ltb m (length (x .problem .actions))) (x .problem) t m h
+fits-step (accepted x) t m h = fits-move (ltb m (length (x .problem .actions))) (x .problem .n) (actionAt (x .problem) m) t h
 
-pub step-fits : (s xs : List ℕ) (m : ℕ) (t : Table) (r : Tabled) → getD xs 0 0 < 2 ^ 32 → t ≡ tableIn xs → r ≡ stepOf (sheetOf s) t m → r .table .count < 2 ^ 32
+-- the entries that a step put in arrays
+pub step-fits : (s xs : List ℕ) (m : ℕ) (c : Counted) (us gs : List ℕ) → getD xs 0 0 < 2 ^ 32 → counted (tableIn xs) c us gs ≡ stepOf (sheetOf s) (tableIn xs) m
+    → c .answer ≡ Accepted → c .count < 2 ^ 32
 unfolding tableIn
-step-fits s xs m t r h e q =
-    subst (λ (x : Tabled). x .table .count < 2 ^ 32) (sym q) (fits-step (sheetOf s) t m (subst (λ (x : Table). x .count < 2 ^ 32) (sym e) h))
+step-fits s xs m c us gs h q a =
+    subst (λ (x : Answer). kept x (tableIn xs) (lent (c .count) us gs) .count < 2 ^ 32) a
+    (subst (λ (x : Tabled). x .table .count < 2 ^ 32) (sym q) (fits-step (sheetOf s) (tableIn xs) m h))
 
 fits-planned : (p : Problem) (plan : List ℕ) (o : Outcome) → Small o → planned p plan o .table .count < 2 ^ 32
 unfolding planned refusedRun tableOf

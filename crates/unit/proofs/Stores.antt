@@ -1,13 +1,17 @@
 -- Numbers stored one after the other: info, copies, tables. Assumes nothing.
-use mathlib.Core.Path.{_≡_, refl, sym, ap, ap₂, _∙_}
+use mathlib.Core.Path.{_≡_, refl, sym, ap, ap₂, subst, _∙_}
 use mathlib.Core.List.{List, [], _∷_, _++_, append-assoc, append-nil}
-use Prim.Native.Nat.{ℕ, _+_, _≤_, _<_, zero-le}
+use Prim.Native.Nat.{ℕ, _+_, _≤_, _<_}
 use native.Mathlib.Nat.{zero-add, not-suc-le-zero, le-refl, le-of-eq}
-use native.Mathlib.Numerals.{add-one}
 use native.Mathlib.Omega.{arith}
-use lib.ListN.{length, set, getD, take, drop, length-set, drop-of-length-le}
-use lib.Seq.{sets-eq, paste, paste-zero, paste-suc, take-paste, drop-paste, take-length, drop-drop, drop-set-lt}
+use lib.ListN.{length, set, getD, take, drop, length-set, drop-of-length-le, take-append-drop}
+use lib.Seq.{sets-eq, paste, take-paste, drop-paste, take-length, drop-drop, drop-set-lt}
+use Rattle.sheet.specs.Format.{sheetOf}
 use Rattle.table.specs.declared.Table.{Table}
+use Rattle.table.specs.declared.Counted.{Counted}
+use Rattle.table.specs.Moves.{lent, counted}
+use Rattle.table.specs.Calls.{stepOf}
+use Rattle.table.proofs.Copying.{Copied, copied-step, copied-end}
 use Rattle.unit.specs.declared.Told.{Told}
 use Rattle.unit.specs.Numbers.{infoOf, tableIn, tableOut}
 
@@ -17,28 +21,7 @@ pub info-stores : (t : Told) (info : List ℕ) → 4 ≤ length info
 unfolding infoOf
 info-stores t info h = sets-eq (t .position ∷ t .kind ∷ t .place ∷ t .detail ∷ []) info 0 h
 
--- ---- a copy of the first i members of s, from `at` on
-pub record Copied (d : List ℕ) (at : ℕ) (s : List ℕ) (i : ℕ) (e : List ℕ) : Type 0 where
-  pub upto : i ≤ length s
-  pub long : length e ≡ length d
-  pub is : e ≡ paste d at s i
-
-pub copied-start : (d : List ℕ) (at : ℕ) (s : List ℕ) → Copied d at s 0 d
-copied-start d at s = record { upto = zero-le; long = refl; is = paste-zero d at s }
-
-pub copied-step : (d : List ℕ) (at : ℕ) (s : List ℕ) (i : ℕ) (e : List ℕ) → Copied d at s i e → at + length s ≤ length d → i < length s
-    → Copied d at s (i + 1) (set e (at + i) (getD s i 0))
-copied-step d at s i e h fits lt = record {
-  upto = omega arith;
-  long = length-set e (at + i) (getD s i 0) ∙ h .long;
-  is =
-      ap (λ (z : List ℕ). set z (at + i) (getD s i 0)) (h .is) ∙ paste-suc d at s i 0 (omega arith) lt
-      ∙ ap (λ (k : ℕ). paste d at s k) (sym (add-one i));
-}
-
-pub copied-end : (d : List ℕ) (at : ℕ) (s : List ℕ) (i : ℕ) (e : List ℕ) → Copied d at s i e → length s ≤ i → e ≡ paste d at s (length s)
-copied-end d at s i e h past = let same : i ≡ length s = omega (arith, h .upto) in h .is ∙ ap (λ (k : ℕ). paste d at s k) same
-
+-- ---- copies
 -- a copy to the front
 pub front-step : (d s : List ℕ) (i : ℕ) (e : List ℕ) → Copied d 0 s i e → length s ≤ length d → i < length s → Copied d 0 s (i + 1) (set e i (getD s i 0))
 front-step d s i e h fits lt =
@@ -94,3 +77,20 @@ table-stores t xs one two h p q e f =
     ∙ ap (λ (k : ℕ). take 1 d ++ t .trues ++ t .falses ++ drop k d) end
     ∙ ap₂ (λ (x y : List ℕ). x ++ t .trues ++ t .falses ++ y) (first-set xs (t .count) (omega (arith, h))) (drop-set-lt 257 xs 0 (t .count) (omega arith))
     ∙ ap (λ (x : List ℕ). t .count ∷ x) (append-assoc (t .trues) (t .falses) (drop 257 xs))
+
+-- a table that is read and written back
+pub table-back : (xs : List ℕ) → 257 ≤ length xs → xs ≡ tableOut (tableIn xs) xs
+unfolding tableOut tableIn
+table-back [] h = absurd (not-suc-le-zero h)
+table-back (x ∷ ys) h =
+    ap (λ (r : List ℕ). x ∷ r)
+    (sym (take-append-drop 128 ys)
+    ∙ ap (λ (r : List ℕ). take 128 ys ++ r)
+    (sym (take-append-drop 128 (drop 128 ys)) ∙ ap (λ (r : List ℕ). take 128 (drop 128 ys) ++ r) (drop-drop 128 128 ys)))
+
+-- the step of the table in some numbers
+pub numbers-step : (s xs : List ℕ) (m k : ℕ) (c : Counted) (us gs : List ℕ) → k ≡ getD xs 0 0 → let t = lent k (take 128 (drop 1 xs)) (take 128 (drop 129 xs)) in
+    counted t c us gs ≡ stepOf (sheetOf s) t m → counted (tableIn xs) c us gs ≡ stepOf (sheetOf s) (tableIn xs) m
+unfolding tableIn
+numbers-step s xs m k c us gs e q =
+    subst (λ (j : ℕ). counted (lent j (take 128 (drop 1 xs)) (take 128 (drop 129 xs))) c us gs ≡ stepOf (sheetOf s) (lent j (take 128 (drop 1 xs)) (take 128 (drop 129 xs))) m) e q

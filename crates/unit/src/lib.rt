@@ -102,12 +102,12 @@ pub extern "C" fn krepuskilo_step(
     if info.len() < 4 {
         return 255;
     }
-    let given = numbers::table_in(table);
-    let stepped = table::step(sheet, given, number as usize);
+    let mut trues = [0u32; 128];
+    let mut falses = [0u32; 128];
+    let stepped = numbers::step_numbers(sheet, table, number as usize, &mut trues, &mut falses);
     let answer = stepped.answer;
-    let next = stepped.table;
     let told = numbers::told(answer, 0);
-    numbers::write_table(table, next);
+    numbers::write_step(table, stepped, &trues, &falses);
     numbers::write_info(info, told);
     told.answer
 }

@@ -4,13 +4,20 @@ use plan::Counts;
 use plan::Kind;
 use plan::Verdict;
 use sheet::Answer;
+use sheet::rows::wide;
+use table::Counted;
 use table::Table;
+use table::slots::copy_masks;
+use table::step_lent;
 ghost use mathlib.Core.Path.{_≡_};
 ghost use mathlib.Core.List.{_++_};
 ghost use Prim.Native.Nat.{_+_, _*_, _^_, _≤_, _<_};
-ghost use lib.ListN.{length, drop};
-ghost use lib.Seq.{paste};
+ghost use lib.ListN.{length, drop, replicate};
+ghost use Rattle.sheet.specs.declared.Answer.the-variants.{Accepted};
 ghost use Rattle.sheet.specs.Lists.{collect};
+ghost use Rattle.sheet.specs.Format.{sheetOf};
+ghost use Rattle.table.specs.Calls.{stepOf};
+ghost use Rattle.table.specs.Moves.{lent, kept, counted};
 ghost use Rattle.plan.specs.Rows.{rowsIn};
 ghost use Rattle.unit.specs.Numbers.{answerTold, verdictTold, kindTold, infoOf, tableIn, tableOut, rowNumbers};
 
@@ -109,18 +116,6 @@ pub(crate) fn write_info(info: &mut [u64], told: Told)
     info[3] = told.detail;
 }
 
-// Masks copied into others from `at` on. The others are kept.
-pub(crate) fn copy_masks<'a, 'b>(to: &'a mut [u32], at: usize, from: &'b [u32])
-    requires { ⌜ at + length (now from) ≤ length (now to) ⌝ }
-    ensures { λ r. ⌜ now (to .exit) ≡ paste (now (to .entry)) at (now (from .entry)) (length (now (from .entry))) ⌝ }
-{
-    let mut i: usize = 0;
-    while i < from.len() {
-        to[at + i] = from[i];
-        i += 1;
-    }
-}
-
 // Bytes copied to the front of others. The others are kept.
 pub(crate) fn copy_bytes<'a, 'b>(to: &'a mut [u8], from: &'b [u8])
     requires { ⌜ length (now from) ≤ length (now to) ⌝ }
@@ -149,14 +144,73 @@ pub(crate) fn table_in(numbers: &[u32]) -> Table
     }
 }
 
+// A table's count and masks as 257 numbers. The others are kept.
+pub(crate) fn write_entries<'a, 'b>(
+    numbers: &'a mut [u32],
+    count: usize,
+    trues: &'b [u32],
+    falses: &'b [u32],
+)
+    requires { ⌜ (257 ≤ length (now numbers)) × (count < 2 ^ 32) ⌝ }
+    requires { ⌜ (length (now trues) ≡ 128) × (length (now falses) ≡ 128) ⌝ }
+    ensures { λ r. ⌜ now (numbers .exit) ≡ tableOut (lent count (now (trues .entry)) (now (falses .entry))) (now (numbers .entry)) ⌝ }
+{
+    numbers[0] = count as u32;
+    copy_masks(numbers, 1, trues);
+    copy_masks(numbers, 129, falses);
+}
+
 // A table as 257 numbers. The others are kept.
 pub(crate) fn write_table(numbers: &mut [u32], table: Table)
     requires { ⌜ (257 ≤ length (now numbers)) × (table .count < 2 ^ 32) ⌝ }
     ensures { λ r. ⌜ now (numbers .exit) ≡ tableOut table (now (numbers .entry)) ⌝ }
 {
-    numbers[0] = table.count as u32;
-    copy_masks(numbers, 1, &table.trues);
-    copy_masks(numbers, 129, &table.falses);
+    let count = table.count;
+    write_entries(numbers, count, &table.trues, &table.falses);
+}
+
+// The step of a table in 257 numbers, into arrays of zeros.
+pub(crate) fn step_numbers<'a, 'b, 'c>(
+    sheet: &'a [u8],
+    numbers: &'b [u32],
+    number: usize,
+    trues: &'c mut [u32],
+    falses: &'c mut [u32],
+) -> Counted
+    requires { ⌜ 257 ≤ length (now numbers) ⌝ }
+    requires { ⌜ (now trues ≡ replicate 128 0) × (now falses ≡ replicate 128 0) ⌝ }
+    ensures { λ r. ⌜ counted (tableIn (now (numbers .entry))) r (now (trues .exit)) (now (falses .exit)) ≡ stepOf (sheetOf (now (sheet .entry))) (tableIn (now (numbers .entry))) number ⌝ }
+{
+    step_lent(
+        sheet,
+        number,
+        &numbers[1..129],
+        &numbers[129..257],
+        wide(numbers[0]),
+        trues,
+        falses,
+    )
+}
+
+// What a step gave, written over the 257 numbers of its table; a refusal leaves them.
+pub(crate) fn write_step<'a, 'b>(
+    numbers: &'a mut [u32],
+    stepped: Counted,
+    trues: &'b [u32],
+    falses: &'b [u32],
+)
+    requires { ⌜ (257 ≤ length (now numbers)) × (stepped .answer ≡ Accepted → stepped .count < 2 ^ 32) ⌝ }
+    requires { ⌜ (length (now trues) ≡ 128) × (length (now falses) ≡ 128) ⌝ }
+    ensures { λ r. ⌜ now (numbers .exit) ≡ tableOut (kept (stepped .answer) (tableIn (now (numbers .entry))) (lent (stepped .count) (now (trues .entry)) (now (falses .entry)))) (now (numbers .entry)) ⌝ }
+{
+    let answer = stepped.answer;
+    match answer {
+        Answer::Accepted => {
+            let count = stepped.count;
+            write_entries(numbers, count, trues, falses);
+        }
+        Answer::Refused(_, _) => {}
+    }
 }
 
 // The rows of the places arrived at, three numbers each. The others are kept.

@@ -1,35 +1,38 @@
 -- `table::step` meets its contract. Assumes nothing.
+use Rattle.table.proofs.Advancing.{step-kept, step-new}
 use borrow.Author.Needs.{needs}
-use Rattle.sheet.proofs.SlotLaws.{said}
-use Rattle.table.proofs.Advancing.{said-filled, called, call-fault}
 use Rattle.table.proofs.step.Statement.{statement}
 use Rattle.table.proofs.step.Tie as tie
 
-decode-requires : tie.Need-decode-requires
-decode-requires c κs = search needs
+slice-aggregate-step-lent : tie.Need-slice-aggregate-step-lent
+slice-aggregate-step-lent c = search needs
 
-enum-known-answer : tie.Need-enum-known-answer
-enum-known-answer c = search needs
+slice-aggregate-step-lent-2 : tie.Need-slice-aggregate-step-lent-2
+slice-aggregate-step-lent-2 c = search needs
+
+step-lent-requires : tie.Need-step-lent-requires
+step-lent-requires c κs = search needs
 
 enum-told : tie.Need-enum-told
 enum-told c = search needs
 
-step-in-requires : tie.Need-step-in-requires
-step-in-requires c κs = said-filled _ _ (said _ _ (c .before .before .before .decode .ensures) (c .before .enum-told .given .1))
+enum-told-2 : tie.Need-enum-told-2
+enum-told-2 c = search needs
 
 returns : tie.Need-returns
-returns c = call-fault _ _ _ _ _ _ (c .before .before .before .decode .ensures) (c .before .answer .given .1)
+returns c = step-kept (c .before .before .before .before .before .before .before .before .before .before .before .before .before .args .t2) _ _ _ _ _ _ (c .enum-told .given .1) (c .before .before .before .before .step-lent .ensures)
 
 returns-2 : tie.Need-returns-2
-returns-2 c = called _ _ _ _ _ (said _ _ (c .before .before .before .before .decode .ensures) (c .before .before .enum-told .given .1)) (c .step-in .ensures)
+returns-2 c = step-new (c .before .before .before .before .before .before .before .before .before .before .before .before .before .args .t2) _ _ _ _ (c .enum-told2 .given .1) (c .before .before .before .before .step-lent .ensures)
 
 pub step-spec : {M : Type 1} → statement M
 step-spec =
     tie.close
     (tie.spec
-    decode-requires
-    enum-known-answer
+    slice-aggregate-step-lent
+    slice-aggregate-step-lent-2
+    step-lent-requires
     enum-told
-    step-in-requires
+    enum-told-2
     returns
     returns-2)

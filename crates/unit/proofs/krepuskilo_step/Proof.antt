@@ -1,7 +1,10 @@
 -- `krepuskilo_step` meets its contract: the answer of `step` in numbers and its table, or 255. Assumes nothing.
+use mathlib.Core.Path.{_≡_, ap}
+use lib.ListN.{length}
 use borrow.Author.Needs.{needs}
 use Rattle.sheet.proofs.Bools.{cond-true}
-use Rattle.unit.proofs.Answering.{lacks-first, lacks-info, lacks-none, byte, tables, numbers, step-told, step-table}
+use Rattle.table.specs.declared.Tabled.{Tabled}
+use Rattle.unit.proofs.Answering.{lacks-first, lacks-info, lacks-none, byte, tables, numbers, step-told}
 use Rattle.unit.proofs.Sizes.{step-fits}
 use Rattle.unit.proofs.krepuskilo_step.Statement.{statement}
 use Rattle.unit.proofs.krepuskilo_step.Tie as tie
@@ -18,17 +21,30 @@ returns-2 c =
     let e = lacks-info 257 (a .table .now) (a .info .now) (c .before .if1 .left) (c .if2 .taken) in
     (cond-true _ _ e, (cond-true _ _ e, cond-true _ _ e))
 
-table-in-requires : tie.Need-table-in-requires
-table-in-requires c κs = search needs
+slice-aggregate-step-numbers : tie.Need-slice-aggregate-step-numbers
+slice-aggregate-step-numbers c = search needs
 
-step-requires : tie.Need-step-requires
-step-requires c κs = search needs
+slice-aggregate-step-numbers-2 : tie.Need-slice-aggregate-step-numbers-2
+slice-aggregate-step-numbers-2 c = search needs
+
+step-numbers-requires : tie.Need-step-numbers-requires
+step-numbers-requires c κs = search needs
 
 told-requires : tie.Need-told-requires
 told-requires c κs = search needs
 
-write-table-requires : tie.Need-write-table-requires
-write-table-requires c κs = (c .before .before .before .before .before .before .before .if1 .left, step-fits _ _ _ _ _ (c .before .before .before .before .before .before .before .before .before .slice-known .given 0 .fits) (c .before .before .before .before .table-in .ensures) (c .before .before .before .step .ensures))
+slice-aggregate-write-step : tie.Need-slice-aggregate-write-step
+slice-aggregate-write-step c = search needs
+
+slice-aggregate-write-step-2 : tie.Need-slice-aggregate-write-step-2
+slice-aggregate-write-step-2 c = search needs
+
+write-step-requires : tie.Need-write-step-requires
+write-step-requires c κs =
+    let d = c .before .before .before .before .before .before .step-numbers in
+    let k : length (d .last .1 .1 .1 .0) ≡ 128 = search needs in
+    let l : length (d .last .1 .1 .1 .1 .0) ≡ 128 = search needs in
+    ((c .before .before .before .before .before .before .before .before .before .before .before .if1 .left, step-fits _ _ _ _ _ _ (c .before .before .before .before .before .before .before .before .before .before .before .before .before .slice-known .given 0 .fits) (d .ensures)), (k, l))
 
 write-info-requires : tie.Need-write-info-requires
 write-info-requires c κs = search needs
@@ -41,13 +57,12 @@ same-length-2 c = search needs
 
 returns-3 : tie.Need-returns-3
 returns-3 c =
-    let r = c .before .before .before .before .before .before .before .before .before .before in
-    let g = r .before .before .before in
-    let a = g .before .before .before .before .before .args in
-    let e = lacks-none 257 (a .table .now) (a .info .now) (g .before .if1 .left) (g .if2 .left) in
-    let same = step-told _ _ _ _ _ _ (r .before .table-in .ensures) (r .step .ensures) (c .before .before .before .before .before .before .before .before .told .ensures) in
-    let next = step-table _ _ _ _ _ (r .before .table-in .ensures) (r .step .ensures) in
-    (byte e _ _ same, (tables e _ _ _ _ next (c .before .before .before .before .before .before .write-table .ensures), numbers e _ _ same _ _ (c .before .before .write-info .ensures)))
+    let a = c .before .before .before .before .before .before .before .before .before .before .before .before .before .before .before .before .before .before .before .before .before .before .args in
+    let e = lacks-none 257 (a .table .now) (a .info .now) (c .before .before .before .before .before .before .before .before .before .before .before .before .before .before .before .before .before .before .if1 .left) (c .before .before .before .before .before .before .before .before .before .before .before .before .before .before .before .before .before .if2 .left) in
+    let d = c .before .before .before .before .before .before .before .before .before .before .before .before .before .step-numbers in
+    let same = step-told (a .sheet .now) (a .table .now) (a .number) _ _ (d .ensures) (c .before .before .before .before .before .before .before .before .before .before .told .ensures) in
+    let next = ap (λ (x : Tabled). x .table) (d .ensures) in
+    (byte e _ _ same, (tables e _ _ _ _ next (c .before .before .before .before .before .before .write-step .ensures), numbers e _ _ same _ _ (c .before .before .write-info .ensures)))
 
 pub krepuskilo-step-spec : {M : Type 1} → statement M
 krepuskilo-step-spec =
@@ -55,10 +70,13 @@ krepuskilo-step-spec =
     (tie.spec
     returns
     returns-2
-    table-in-requires
-    step-requires
+    slice-aggregate-step-numbers
+    slice-aggregate-step-numbers-2
+    step-numbers-requires
     told-requires
-    write-table-requires
+    slice-aggregate-write-step
+    slice-aggregate-write-step-2
+    write-step-requires
     write-info-requires
     same-length
     same-length-2

@@ -4,43 +4,42 @@ use Prim.Native.Nat.{_-_}
 use native.Mathlib.Omega.{arith}
 use borrow.Author.Needs.{needs}
 use borrow.Author.Tests.{not-true, not-false}
-use lib.ListN.{drop, length}
+use lib.ListN.{drop, getD}
 use Rattle.sheet.specs.Literals.{meets}
 use Rattle.sheet.specs.Lists.{allOf}
-use Rattle.sheet.specs.Decoded.{setsIn}
-use Rattle.sheet.proofs.Prefixes.{part-step, part-end, length-mapped}
+use Rattle.sheet.specs.Rows.{setsRow}
+use Rattle.sheet.proofs.RowLaws.{sets-step, sets-end}
 use Rattle.table.proofs.Turns.{all-stop, all-on}
 use Rattle.plan.specs.Run.{inGoal}
 use Rattle.plan.proofs.goals.in_goal.Statement.{statement}
 use Rattle.plan.proofs.goals.in_goal.Tie as tie
 
 abbrev Inv-loop : tie.InvT-loop
-Inv-loop d goal count i₀ i = inGoal (setsIn goal) d ≡ inGoal (drop i (setsIn goal)) d
+Inv-loop goal d count i₀ i = (count ≡ getD goal 0 0) × (inGoal (setsRow goal) d ≡ inGoal (drop i (setsRow goal)) d)
 
 abbrev μ-loop : tie.MeasureT-loop
-μ-loop d goal count i₀ i = count - i
+μ-loop goal d count i₀ i = count - i
+
+count-of-requires : tie.Need-count-of-requires Inv-loop μ-loop
+count-of-requires c κs = omega (arith, c .before .pre .0)
 
 loop-holds : tie.Need-loop-holds Inv-loop μ-loop
-loop-holds c = refl
+loop-holds c = (c .count-of .ensures, refl)
 
-mul-c : tie.Need-mul-c Inv-loop μ-loop
-mul-c c = search needs
-
-element-copy-out-c : tie.Need-element-copy-out-c Inv-loop μ-loop
-element-copy-out-c c = search needs
+set-at-requires : tie.Need-set-at-requires Inv-loop μ-loop
+set-at-requires c κs = let z = c .before .before .before .before in omega (arith, z .pre .0, z .pre .1, c .before .loop .inv .0, c .loop-test .taken)
 
 shares-requires : tie.Need-shares-requires Inv-loop μ-loop
 shares-requires c κs = search needs
 
 returns : tie.Need-returns Inv-loop μ-loop
-unfolding setsIn inGoal
+unfolding setsRow inGoal
 returns c =
     let o = c .before .before .before .before in
-    let a = o .before .args in
-    let n : length (a .t1 .items) ≡ 8 = search (needs, length-mapped) in
-    all-stop (λ x. meets x (a .d)) _ _ _ _ (part-step (a .t1 .count) (a .t1 .items) (o .loop .i) _ (omega arith) (omega arith))
+    let a = o .before .before .before .args in
+    all-stop (λ x. meets x (a .d)) _ _ _ _ (sets-step (getD (a .goal .now) 0 0) (drop 1 (a .goal .now)) (o .loop .i) _ (omega (arith, o .loop .inv .0, c .before .before .before .loop-test .taken)) (c .before .before .set-at .ensures))
     (c .before .shares .ensures) (not-true (c .before .shares .result) (c .if1 .taken))
-    ∙ sym (o .loop .inv)
+    ∙ sym (o .loop .inv .1)
 
 add-i : tie.Need-add-i Inv-loop μ-loop
 add-i c = search needs
@@ -49,21 +48,22 @@ loop-less : tie.Need-loop-less Inv-loop μ-loop
 loop-less c = search needs
 
 loop-again : tie.Need-loop-again Inv-loop μ-loop
-unfolding setsIn inGoal
+unfolding setsRow inGoal
 loop-again c =
     let o = c .before .before .before .before in
-    let a = o .before .args in
-    let n : length (a .t1 .items) ≡ 8 = search (needs, length-mapped) in
-    o .loop .inv
-    ∙ all-on (λ x. meets x (a .d)) _ _ _ _ (part-step (a .t1 .count) (a .t1 .items) (o .loop .i) _ (omega arith) (omega arith))
-    (c .before .shares .ensures) (not-false (c .before .shares .result) (c .if1 .left))
+    let a = o .before .before .before .args in (
+      o .loop .inv .0,
+      o .loop .inv .1
+          ∙ all-on (λ x. meets x (a .d)) _ _ _ _ (sets-step (getD (a .goal .now) 0 0) (drop 1 (a .goal .now)) (o .loop .i) _ (omega (arith, o .loop .inv .0, c .before .before .before .loop-test .taken)) (c .before .before .set-at .ensures))
+          (c .before .shares .ensures) (not-false (c .before .shares .result) (c .if1 .left)),
+    )
 
 returns-2 : tie.Need-returns-2 Inv-loop μ-loop
-unfolding setsIn inGoal
+unfolding setsRow inGoal
 returns-2 c =
-    let a = c .before .before .args in
-    let n : length (a .t1 .items) ≡ 8 = search (needs, length-mapped) in
-    sym (c .before .loop .inv ∙ ap (allOf (λ x. meets x (a .d))) (part-end (a .t1 .count) (a .t1 .items) (c .before .loop .i) (omega arith) (omega arith)))
+    let o = c .before in
+    let a = o .before .before .before .args in
+    sym (o .loop .inv .1 ∙ ap (allOf (λ x. meets x (a .d))) (sets-end (getD (a .goal .now) 0 0) (drop 1 (a .goal .now)) (o .loop .i) (omega (arith, o .loop .inv .0, c .loop-test .left))))
 
 pub in-goal-spec : {M : Type 1} → statement M
 in-goal-spec =
@@ -71,9 +71,9 @@ in-goal-spec =
     (tie.spec
     Inv-loop
     μ-loop
+    count-of-requires
     loop-holds
-    mul-c
-    element-copy-out-c
+    set-at-requires
     shares-requires
     returns
     add-i

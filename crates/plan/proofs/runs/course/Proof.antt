@@ -1,11 +1,24 @@
 -- `plan::runs::course` meets its contract. Assumes nothing.
-use borrow.Author.Needs.{needs}
 use mathlib.Core.Path.{_∙_}
-use Rattle.sheet.proofs.SlotLaws.{said}
-use Rattle.table.proofs.Advancing.{said-filled}
+use borrow.Author.Needs.{needs}
+use Rattle.sheet.specs.Decoded.{statementIn}
+use Rattle.sheet.proofs.SlotLaws.{refused-says, accepted-says}
 use Rattle.plan.proofs.Courses.{course-few, course-run, course-fault}
+use Rattle.plan.proofs.SheetStarts.{filled}
 use Rattle.plan.proofs.runs.course.Statement.{statement}
 use Rattle.plan.proofs.runs.course.Tie as tie
+
+slice-aggregate-decode : tie.Need-slice-aggregate-decode
+slice-aggregate-decode c = search needs
+
+slice-aggregate-decode-2 : tie.Need-slice-aggregate-decode-2
+slice-aggregate-decode-2 c = search needs
+
+slice-aggregate-decode-3 : tie.Need-slice-aggregate-decode-3
+slice-aggregate-decode-3 c = search needs
+
+slice-aggregate-decode-4 : tie.Need-slice-aggregate-decode-4
+slice-aggregate-decode-4 c = search needs
 
 decode-requires : tie.Need-decode-requires
 decode-requires c κs = search needs
@@ -23,35 +36,51 @@ refused-requires-2 : tie.Need-refused-requires-2
 refused-requires-2 c κs = search needs
 
 returns : tie.Need-returns
-returns c =
-    let q = c .before .before .before .before in
-    c .refused2 .ensures
-    ∙ course-few _ _ (q .before .before .args .lent) (said _ _ (q .decode .ensures) (c .before .before .enum-told .given .1)) (c .before .if1 .taken)
+returns c = c .refused2 .ensures ∙ course-few _ _ (accepted-says _ _ _ _ _ _ (c .before .before .before .before .before .before .before .before .decode .ensures .0) (c .before .before .enum-told .given .1)) _ (c .before .if1 .taken)
+
+slice-aggregate-run-sheet : tie.Need-slice-aggregate-run-sheet
+slice-aggregate-run-sheet c = search needs
+
+slice-aggregate-run-sheet-2 : tie.Need-slice-aggregate-run-sheet-2
+slice-aggregate-run-sheet-2 c = search needs
+
+slice-aggregate-run-sheet-3 : tie.Need-slice-aggregate-run-sheet-3
+slice-aggregate-run-sheet-3 c = search needs
+
+slice-aggregate-run-sheet-4 : tie.Need-slice-aggregate-run-sheet-4
+slice-aggregate-run-sheet-4 c = search needs
 
 run-sheet-requires : tie.Need-run-sheet-requires
-run-sheet-requires c κs = said-filled _ _ (said _ _ (c .before .before .before .before .decode .ensures) (c .before .before .enum-told .given .1))
+run-sheet-requires c κs =
+    let d = c .before .before .before .before .before .before .before .before .before .before .before .before .decode in
+    let h = filled _ _ _ _ _ _ (d .ensures) (c .before .before .before .before .before .before .enum-told .given .1) (search needs) (search needs) (search needs) (search needs) in
+    h
 
 returns-2 : tie.Need-returns-2
-returns-2 c =
-    let q = c .before .before .before .before in
-    c .refused .ensures ∙ course-fault _ _ _ _ (q .before .before .args .lent) (q .decode .ensures) (c .before .before .answer .given .1)
+returns-2 c = c .refused .ensures ∙ course-fault _ _ _ _ (refused-says _ _ _ _ _ _ (c .before .before .before .before .before .before .before .before .decode .ensures .0) _ _ (c .before .before .answer .given .1))
 
 returns-3 : tie.Need-returns-3
-returns-3 c =
-    let q = c .before .before .before .before .before in
-    c .run-sheet .ensures
-    ∙ course-run _ _ (q .before .before .args .lent) (said _ _ (q .decode .ensures) (c .before .before .before .enum-told .given .1)) (c .before .before .if1 .left)
+unfolding statementIn
+returns-3 c = c .run-sheet .ensures ∙ course-run _ _ (accepted-says _ _ _ _ _ _ (c .before .before .before .before .before .before .before .before .before .before .before .before .before .decode .ensures .0) (c .before .before .before .before .before .before .before .enum-told .given .1)) _ (c .before .before .before .before .before .before .if1 .left)
 
 pub course-spec : {M : Type 1} → statement M
 course-spec =
     tie.close
     (tie.spec
+    slice-aggregate-decode
+    slice-aggregate-decode-2
+    slice-aggregate-decode-3
+    slice-aggregate-decode-4
     decode-requires
     enum-known-answer
     refused-requires
     enum-told
     refused-requires-2
     returns
+    slice-aggregate-run-sheet
+    slice-aggregate-run-sheet-2
+    slice-aggregate-run-sheet-3
+    slice-aggregate-run-sheet-4
     run-sheet-requires
     returns-2
     returns-3)

@@ -1,45 +1,55 @@
 -- `plan::runs::run_sheet` meets its contract. Assumes nothing.
+use mathlib.Core.Path.{_∙_, refl}
 use borrow.Author.Needs.{needs}
-use mathlib.Core.Path.{_∙_}
-use Rattle.plan.proofs.Courses.{filled-readable, start-ready, start-run, start-halt}
+use Rattle.plan.proofs.SheetStarts.{ors-fit, oneofs-fit, can-run, run-is, run-stops}
 use Rattle.plan.proofs.runs.run_sheet.Statement.{statement}
 use Rattle.plan.proofs.runs.run_sheet.Tie as tie
 
-first-table-requires : tie.Need-first-table-requires
-first-table-requires c κs = filled-readable (c .args .sheet) (c .pre)
+slice-aggregate-first-into : tie.Need-slice-aggregate-first-into
+slice-aggregate-first-into c = search needs
 
-enum-told : tie.Need-enum-told
-enum-told c = search needs
+slice-aggregate-first-into-2 : tie.Need-slice-aggregate-first-into-2
+slice-aggregate-first-into-2 c = search needs
+
+first-into-requires : tie.Need-first-into-requires
+first-into-requires c κs =
+    let z = c .before .before .before .before .before .before .before .before in
+    (ors-fit (z .args .sheet) (z .args .ors .now) (z .args .oneofs .now) (z .args .goal .now) (z .args .moves .now) (z .pre), (oneofs-fit (z .args .sheet) (z .args .ors .now) (z .args .oneofs .now) (z .args .goal .now) (z .args .moves .now) (z .pre), (refl, refl)))
+
+enum-known-count : tie.Need-enum-known-count
+enum-known-count c = search needs
 
 run-from-requires : tie.Need-run-from-requires
 run-from-requires c κs =
-    let q = c .before .before .before .before in
-    (q .pre, start-ready (q .args .sheet) (q .pre) _ (c .before .before .before .first-table .ensures) (c .before .enum-told .given .1))
+    let z = c .before .before .before .before .before .before .before .before .before .before .before .before .before .before in
+    can-run (z .args .sheet) (z .args .ors .now) (z .args .oneofs .now) (z .args .goal .now) (z .args .moves .now) (z .pre) _ _ _ (c .before .before .before .before .before .first-into .ensures) _ (c .before .count .given .1)
 
-enum-known-answer : tie.Need-enum-known-answer
-enum-known-answer c = search needs
+enum-known-number : tie.Need-enum-known-number
+enum-known-number c = search needs
 
 refused-requires : tie.Need-refused-requires
 refused-requires c κs = search needs
 
 returns : tie.Need-returns
 returns c =
-    let q = c .before .before .before .before .before in
-    c .run-from .ensures ∙ start-run (q .args .sheet) (q .pre) _ (c .before .before .before .before .first-table .ensures) (c .before .before .enum-told .given .1)
+    let z = c .before .before .before .before .before .before .before .before .before .before .before .before .before .before .before in
+    c .run-from .ensures ∙ run-is (z .args .sheet) (z .args .ors .now) (z .args .oneofs .now) (z .args .goal .now) (z .args .moves .now) (z .pre) _ _ _ (c .before .before .before .before .before .before .first-into .ensures) _ (c .before .before .count .given .1)
 
 returns-2 : tie.Need-returns-2
 returns-2 c =
-    let q = c .before .before .before .before .before in
-    c .refused .ensures ∙ start-halt (q .args .sheet) (q .pre) _ (c .before .before .before .before .first-table .ensures) _ _ (c .before .before .answer .given .1)
+    let z = c .before .before .before .before .before .before .before .before .before .before .before .before .before .before .before in
+    c .refused .ensures ∙ run-stops (z .args .sheet) (z .args .ors .now) (z .args .oneofs .now) (z .args .goal .now) (z .args .moves .now) (z .pre) _ _ _ (c .before .before .before .before .before .before .first-into .ensures) _ (c .before .before .number .given .1)
 
 pub run-sheet-spec : {M : Type 1} → statement M
 run-sheet-spec =
     tie.close
     (tie.spec
-    first-table-requires
-    enum-told
+    slice-aggregate-first-into
+    slice-aggregate-first-into-2
+    first-into-requires
+    enum-known-count
     run-from-requires
-    enum-known-answer
+    enum-known-number
     refused-requires
     returns
     returns-2)

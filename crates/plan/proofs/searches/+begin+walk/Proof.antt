@@ -5,10 +5,10 @@ use Prim.Native.Nat.{_+_, _*_, _-_, _≤_}
 use native.Mathlib.Omega.{arith}
 use borrow.Author.Needs.{needs}
 use denote.Ref.{now}
-use Rattle.sheet.specs.Decoded.{setsIn}
+use Rattle.sheet.specs.Rows.{setsRow}
 use Rattle.table.specs.Slots.{entriesOf, entries}
 use Rattle.plan.specs.Search.{nothing}
-use Rattle.plan.specs.Packed.{actionOf}
+use Rattle.sheet.specs.Rows.{actionOf}
 use Rattle.plan.specs.Walks.{firstBy}
 use Rattle.plan.proofs.FirstAnswers.{firstBelow}
 use Rattle.plan.proofs.Walking.{at-goal, at-short, not-yet, found-now, none-at-all}
@@ -23,7 +23,7 @@ use Rattle.plan.proofs.searches.walk.Reads as walk
 use Rattle.plan.proofs.searches.walk.Kinds as walk-kinds
 use Rattle.plan.proofs.searches.+begin+walk.Lts-walk as walk-lts
 use Rattle.plan.proofs.goals.all_in_goal.Reads as all-in-goal-reads
-use Rattle.plan.proofs.packed.step_at.Reads as step-at-reads
+use Rattle.table.proofs.steps.step_at.Reads as step-at-reads
 use Rattle.plan.proofs.searches.ended.Reads as ended-reads
 use Rattle.plan.proofs.searches.full.Reads as full-reads
 use Rattle.plan.proofs.searches.none.Reads as none-reads
@@ -85,7 +85,7 @@ begin-slice-aggregate-step-at-2 t c = search needs
 
 begin-step-at-requires : (t : ℕ) → begin-lts.Need-step-at-requires (begin-claims t) (begin-at t) begin.Post
 begin-step-at-requires t c κs =
-    let z = c .before .before .before .before .before in
+    let z = c .before .before .before .before .before .before in
     let h = z .pre .1 .0 in
     let l = z .pre .1 .1 .0 .1 in
     ((omega (arith, h .room), h .effects-most _ l), (can-step h l, (slots-room h, (refl, refl))))
@@ -104,7 +104,7 @@ begin-slice-aggregate-same-2 t c = search needs
 
 begin-same-requires : (t : ℕ) → begin-lts.Need-same-requires (begin-claims t) (begin-at t) begin.Post
 begin-same-requires t c κs =
-    let z = c .before .before .before .before .before .before .before .before .before .before .before .before .before in
+    let z = c .before .before .before .before .before .before .before .before .before .before .before .before .before .before in
     let s = z .args in
     (slots-room (ready-after (z .pre .1 .0) (z .pre .1 .1 .0 .1) _ _ _ (c .before .before .before .before .before .before .before .step-at .ensures) (c .before .before .before .stepped .given .1)), slots-room (z .pre .1 .0))
 
@@ -113,7 +113,7 @@ begin-none-requires t c κs = search needs
 
 begin-returns : (t : ℕ) → begin-lts.Need-returns (begin-claims t) (begin-at t) begin.Post
 begin-returns t c =
-    let z = c .before .before .before .before .before .before .before .before .before .before .before .before .before .before .before .before in
+    let z = c .before .before .before .before .before .before .before .before .before .before .before .before .before .before .before .before .before in
     let s = z .args in
     begun-same (z .pre .1 .0) (z .pre .1 .1 .0 .1) _ _ _ (c .before .before .before .before .before .before .before .before .before .before .step-at .ensures) (c .before .before .before .before .before .before .stepped .given .1) (s .at) (s .left) (z .pre .1 .1 .1) (c .before .before .same .ensures (c .before .if1 .taken)) (c .none .ensures)
 
@@ -125,7 +125,7 @@ begin-slice-aggregate-walk-2 t c = search needs
 
 begin-walk-requires : (t : ℕ) → begin-lts.Need-walk-requires (begin-claims t) (begin-at t) begin.Post
 begin-walk-requires t c κs =
-    let z = c .before .before .before .before .before .before .before .before .before .before .before .before .before .before .before .before .before in
+    let z = c .before .before .before .before .before .before .before .before .before .before .before .before .before .before .before .before .before .before in
     let s = z .args in
     (omega arith, (ready-after (z .pre .1 .0) (z .pre .1 .1 .0 .1) _ _ _ (c .before .before .before .before .before .before .before .before .before .before .before .step-at .ensures) (c .before .before .before .before .before .before .before .stepped .given .1), (omega (arith, z .pre .1 .1 .0 .0), unmet-after (z .pre .1 .0) (z .pre .1 .1 .0 .1) _ _ _ (c .before .before .before .before .before .before .before .before .before .before .before .step-at .ensures) (c .before .before .before .before .before .before .before .stepped .given .1) (s .at) (s .left) (z .pre .1 .1 .1))))
 
@@ -134,23 +134,23 @@ begin-ended-requires t c κs = search needs
 
 begin-cast-r : (t : ℕ) → begin-lts.Need-cast-r (begin-claims t) (begin-at t) begin.Post
 begin-cast-r t c =
-    let z = c .before .before .before .before .before .before .before .before .before .before .before .before .before .before .before .before .before .before .before .before in
+    let z = c .before .before .before .before .before .before .before .before .before .before .before .before .before .before .before .before .before .before .before .before .before in
     omega (arith, z .pre .1 .1 .0 .1, z .pre .1 .0 .most)
 
 begin-element-write-r : (t : ℕ) → begin-lts.Need-element-write-r (begin-claims t) (begin-at t) begin.Post
 begin-element-write-r t c =
-    let z = c .before .before .before .before .before .before .before .before .before .before .before .before .before .before .before .before .before .before .before .before in
+    let z = c .before .before .before .before .before .before .before .before .before .before .before .before .before .before .before .before .before .before .before .before .before in
     omega (arith, z .pre .1 .1 .0 .0)
 
 begin-enum-known-stepped-2 : (t : ℕ) → begin-lts.Need-enum-known-stepped-2 (begin-claims t) (begin-at t) begin.Post
 begin-enum-known-stepped-2 t c = search needs
 
 begin-full-requires : (t : ℕ) → begin-lts.Need-full-requires (begin-claims t) (begin-at t) begin.Post
-begin-full-requires t c κs = let z = c .before .before .before .before .before .before .before .before .before .before .before .before in (z .pre .1 .1 .0 .0, omega (arith, z .pre .1 .1 .0 .1, z .pre .1 .0 .most))
+begin-full-requires t c κs = let z = c .before .before .before .before .before .before .before .before .before .before .before .before .before in (z .pre .1 .1 .0 .0, omega (arith, z .pre .1 .1 .0 .1, z .pre .1 .0 .most))
 
 begin-returns-2 : (t : ℕ) → begin-lts.Need-returns-2 (begin-claims t) (begin-at t) begin.Post
 begin-returns-2 t c =
-    let z = c .before .before .before .before .before .before .before .before .before .before .before .before .before in
+    let z = c .before .before .before .before .before .before .before .before .before .before .before .before .before .before in
     let s = z .args in
     begun-full (z .pre .1 .0) (z .pre .1 .1 .0 .1) _ _ _ (c .before .before .before .before .before .before .before .step-at .ensures) (c .before .before .before .stepped2 .given .1) (s .at) (s .left) (c .before .if3 .taken) (c .full .ensures)
 
@@ -159,40 +159,40 @@ begin-none-requires-2 t c κs = search needs
 
 begin-returns-3 : (t : ℕ) → begin-lts.Need-returns-3 (begin-claims t) (begin-at t) begin.Post
 begin-returns-3 t c =
-    let z = c .before .before .before .before .before .before .before .before .before .before .before .before .before .before .before .before .before .before .before .before in
+    let z = c .before .before .before .before .before .before .before .before .before .before .before .before .before .before .before .before .before .before .before .before .before in
     let s = z .args in
     begun-ended (z .pre .1 .0) (z .pre .1 .1 .0 .1) _ _ _ (c .before .before .before .before .before .before .before .before .before .before .before .before .before .before .step-at .ensures) (c .before .before .before .before .before .before .before .before .before .before .stepped .given .1) (s .at) (s .left) (c .before .before .walk .ensures) (sym (c .before .ended .ensures) ∙ c .if2 .taken)
 
 begin-returns-4 : (t : ℕ) → begin-lts.Need-returns-4 (begin-claims t) (begin-at t) begin.Post
 begin-returns-4 t c =
-    let z = c .before .before .before .before .before .before .before .before .before .before .before .before .before .before .before .before .before .before .before .before in
+    let z = c .before .before .before .before .before .before .before .before .before .before .before .before .before .before .before .before .before .before .before .before .before in
     let s = z .args in
     begun-not (z .pre .1 .0) (z .pre .1 .1 .0 .1) _ _ _ (c .before .before .before .before .before .before .before .before .before .before .before .before .before .before .step-at .ensures) (c .before .before .before .before .before .before .before .before .before .before .stepped .given .1) (s .at) (s .left) (c .before .before .walk .ensures) (sym (c .before .ended .ensures) ∙ c .if2 .left)
 
 begin-returns-5 : (t : ℕ) → begin-lts.Need-returns-5 (begin-claims t) (begin-at t) begin.Post
 begin-returns-5 t c =
-    let z = c .before .before .before .before .before .before .before .before .before .before .before .before .before in
+    let z = c .before .before .before .before .before .before .before .before .before .before .before .before .before .before in
     let s = z .args in
     begun-stopped (z .pre .1 .0) (z .pre .1 .1 .0 .1) _ _ _ (c .before .before .before .before .before .before .before .step-at .ensures) (c .before .before .before .stepped2 .given .1) (s .at) (s .left) (c .before .if3 .left) (c .none2 .ensures)
 
 abbrev walk-Inv-loop : walk-lts.InvT-loop
 walk-Inv-loop packed moves goal ts fs n at left fewer m₀ m =
-    (firstBelow (firstBy (setsIn goal) (actionOf packed) moves at (entriesOf n ts fs) fewer) m ≡ nothing) × (m ≤ moves)
+    (firstBelow (firstBy (setsRow goal) (actionOf packed) moves at (entriesOf n ts fs) fewer) m ≡ nothing) × (m ≤ moves)
 
 abbrev walk-μ-loop : walk-lts.MeasureT-loop
 walk-μ-loop packed moves goal ts fs n at left fewer m₀ m = moves - m
 
 walk-all-in-goal-requires : (t : ℕ) → walk-lts.Need-all-in-goal-requires (walk-claims t) (walk-at t) walk.Post walk-Inv-loop walk-μ-loop
 walk-all-in-goal-requires t c κs =
-    let z = c .before .before .before .before in
+    let z = c .before .before .before .before .before in
     let s = z .args in
-    (z .pre .1 .0 .goal-most, slots-room (z .pre .1 .0))
+    (z .pre .1 .0 .goal-fits, slots-room (z .pre .1 .0))
 
 walk-returns : (t : ℕ) → walk-lts.Need-returns (walk-claims t) (walk-at t) walk.Post walk-Inv-loop walk-μ-loop
 unfolding entries
 walk-returns t c =
-    let s = c .before .before .before .before .before .before .args in
-    at-goal (setsIn (s .goal)) (actionOf (now (s .packed))) (s .moves) (s .at) (entriesOf (s .n) (now (s .ts)) (now (s .fs))) (s .left) (c .before .before .if1 .taken) (sym (c .before .all-in-goal .ensures) ∙ c .if2 .taken)
+    let s = c .before .before .before .before .before .before .before .args in
+    at-goal (setsRow (now (s .goal))) (actionOf (now (s .packed))) (s .moves) (s .at) (entriesOf (s .n) (now (s .ts)) (now (s .fs))) (s .left) (c .before .before .if1 .taken) (sym (c .before .all-in-goal .ensures) ∙ c .if2 .taken)
 
 walk-none-requires : (t : ℕ) → walk-lts.Need-none-requires (walk-claims t) (walk-at t) walk.Post walk-Inv-loop walk-μ-loop
 walk-none-requires t c κs = search needs
@@ -200,8 +200,8 @@ walk-none-requires t c κs = search needs
 walk-returns-2 : (t : ℕ) → walk-lts.Need-returns-2 (walk-claims t) (walk-at t) walk.Post walk-Inv-loop walk-μ-loop
 unfolding entries
 walk-returns-2 t c =
-    let s = c .before .before .before .before .before .before .before .args in
-    at-short (setsIn (s .goal)) (actionOf (now (s .packed))) (s .moves) (s .at) (entriesOf (s .n) (now (s .ts)) (now (s .fs))) (s .left) (c .before .before .before .if1 .taken) _ (sym (c .before .before .all-in-goal .ensures) ∙ c .before .if2 .left) (c .none .ensures)
+    let s = c .before .before .before .before .before .before .before .before .args in
+    at-short (setsRow (now (s .goal))) (actionOf (now (s .packed))) (s .moves) (s .at) (entriesOf (s .n) (now (s .ts)) (now (s .fs))) (s .left) (c .before .before .before .if1 .taken) _ (sym (c .before .before .all-in-goal .ensures) ∙ c .before .if2 .left) (c .none .ensures)
 
 walk-sub-fewer : (t : ℕ) → walk-lts.Need-sub-fewer (walk-claims t) (walk-at t) walk.Post walk-Inv-loop walk-μ-loop
 walk-sub-fewer t c = search needs
@@ -211,7 +211,7 @@ walk-loop-holds t c = (refl, omega arith)
 
 walk-begin-requires : (t : ℕ) → walk-lts.Need-begin-requires (walk-claims t) (walk-at t) walk.Post walk-Inv-loop walk-μ-loop
 walk-begin-requires t c κs =
-    let z = c .before .before .before .before .before .before in
+    let z = c .before .before .before .before .before .before .before in
     (omega arith, (z .pre .1 .0, ((omega arith, omega arith), λ q i l. z .pre .1 .1 .1 q i (omega arith))))
 
 walk-ended-requires : (t : ℕ) → walk-lts.Need-ended-requires (walk-claims t) (walk-at t) walk.Post walk-Inv-loop walk-μ-loop
@@ -220,8 +220,8 @@ walk-ended-requires t c κs = search needs
 walk-returns-3 : (t : ℕ) → walk-lts.Need-returns-3 (walk-claims t) (walk-at t) walk.Post walk-Inv-loop walk-μ-loop
 unfolding entries
 walk-returns-3 t c =
-    let s = c .before .before .before .before .before .before .before .before .before .args in
-    found-now (setsIn (s .goal)) (actionOf (now (s .packed))) (s .moves) (s .at) (entriesOf (s .n) (now (s .ts)) (now (s .fs))) (s .left - 1) (c .before .before .before .before .loop .m) _ (c .before .before .before .before .loop .inv .0) (s .left) (omega arith) (c .before .before .before .loop-test .taken) (c .before .before .begin .ensures) (sym (c .before .ended .ensures) ∙ c .if3 .taken)
+    let s = c .before .before .before .before .before .before .before .before .before .before .args in
+    found-now (setsRow (now (s .goal))) (actionOf (now (s .packed))) (s .moves) (s .at) (entriesOf (s .n) (now (s .ts)) (now (s .fs))) (s .left - 1) (c .before .before .before .before .loop .m) _ (c .before .before .before .before .loop .inv .0) (s .left) (omega arith) (c .before .before .before .loop-test .taken) (c .before .before .begin .ensures) (sym (c .before .ended .ensures) ∙ c .if3 .taken)
 
 walk-add-m : (t : ℕ) → walk-lts.Need-add-m (walk-claims t) (walk-at t) walk.Post walk-Inv-loop walk-μ-loop
 walk-add-m t c = search needs
@@ -232,8 +232,8 @@ walk-loop-less t c = search needs
 walk-loop-again : (t : ℕ) → walk-lts.Need-loop-again (walk-claims t) (walk-at t) walk.Post walk-Inv-loop walk-μ-loop
 unfolding entries
 walk-loop-again t c =
-    let s = c .before .before .before .before .before .before .before .before .before .args in
-    (not-yet (setsIn (s .goal)) (actionOf (now (s .packed))) (s .moves) (s .at) (entriesOf (s .n) (now (s .ts)) (now (s .fs))) (s .left - 1) (c .before .before .before .before .loop .m) _ (c .before .before .before .before .loop .inv .0) (c .before .before .begin .ensures) (sym (c .before .ended .ensures) ∙ c .if3 .left), omega arith)
+    let s = c .before .before .before .before .before .before .before .before .before .before .args in
+    (not-yet (setsRow (now (s .goal))) (actionOf (now (s .packed))) (s .moves) (s .at) (entriesOf (s .n) (now (s .ts)) (now (s .fs))) (s .left - 1) (c .before .before .before .before .loop .m) _ (c .before .before .before .before .loop .inv .0) (c .before .before .begin .ensures) (sym (c .before .ended .ensures) ∙ c .if3 .left), omega arith)
 
 walk-none-requires-2 : (t : ℕ) → walk-lts.Need-none-requires-2 (walk-claims t) (walk-at t) walk.Post walk-Inv-loop walk-μ-loop
 walk-none-requires-2 t c κs = search needs
@@ -241,8 +241,8 @@ walk-none-requires-2 t c κs = search needs
 walk-returns-4 : (t : ℕ) → walk-lts.Need-returns-4 (walk-claims t) (walk-at t) walk.Post walk-Inv-loop walk-μ-loop
 unfolding entries
 walk-returns-4 t c =
-    let s = c .before .before .before .before .before .before .before .args in
-    none-at-all (setsIn (s .goal)) (actionOf (now (s .packed))) (s .moves) (s .at) (entriesOf (s .n) (now (s .ts)) (now (s .fs))) (s .left - 1) (c .before .before .loop .m) _ (c .before .before .loop .inv .0) (s .left) (omega arith) (omega arith) (c .none2 .ensures)
+    let s = c .before .before .before .before .before .before .before .before .args in
+    none-at-all (setsRow (now (s .goal))) (actionOf (now (s .packed))) (s .moves) (s .at) (entriesOf (s .n) (now (s .ts)) (now (s .fs))) (s .left - 1) (c .before .before .loop .m) _ (c .before .before .loop .inv .0) (s .left) (omega arith) (omega arith) (c .none2 .ensures)
 
 pub +begin+walk-spec : {M : Type 1} → statement M
 +begin+walk-spec = close μ-begin μ-walk (λ t. begin-lts.spec (begin-claims t)

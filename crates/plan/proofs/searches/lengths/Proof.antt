@@ -4,10 +4,10 @@ use Prim.Native.Nat.{_+_, _-_, _≤_}
 use native.Mathlib.Omega.{arith}
 use borrow.Author.Needs.{needs}
 use denote.Ref.{now}
-use Rattle.sheet.specs.Decoded.{setsIn}
+use Rattle.sheet.specs.Rows.{setsRow}
 use Rattle.table.specs.Slots.{entriesOf, entries}
 use Rattle.plan.specs.Search.{nothing}
-use Rattle.plan.specs.Packed.{actionOf}
+use Rattle.sheet.specs.Rows.{actionOf}
 use Rattle.plan.specs.Walks.{firstFrom}
 use Rattle.plan.proofs.FirstAnswers.{firstBelow}
 use Rattle.plan.proofs.Pruning.{quiet-lengths}
@@ -16,7 +16,7 @@ use Rattle.plan.proofs.searches.lengths.Statement.{statement}
 use Rattle.plan.proofs.searches.lengths.Tie as tie
 
 abbrev Inv-loop : tie.InvT-loop
-Inv-loop packed moves goal ts fs n limit length₀ length = (firstBelow (firstFrom (setsIn goal) (actionOf packed) moves 0 (entriesOf n ts fs)) length ≡ nothing) × (length ≤ limit + 1)
+Inv-loop packed moves goal ts fs n limit length₀ length = (firstBelow (firstFrom (setsRow goal) (actionOf packed) moves 0 (entriesOf n ts fs)) length ≡ nothing) × (length ≤ limit + 1)
 
 abbrev μ-loop : tie.MeasureT-loop
 μ-loop packed moves goal ts fs n limit length₀ length = limit + 1 - length
@@ -27,9 +27,9 @@ loop-holds c = (refl, omega arith)
 walk-requires : tie.Need-walk-requires Inv-loop μ-loop
 unfolding entries
 walk-requires c κs =
-    let z = c .before .before .before .before .before in
+    let z = c .before .before .before .before .before .before in
     let s = z .args in
-    (z .pre .0, (omega arith, quiet-lengths (setsIn (s .goal)) (actionOf (now (s .packed))) (s .moves) (entriesOf (s .n) (now (s .ts)) (now (s .fs))) (c .before .loop .length) (c .before .loop .inv .0)))
+    (z .pre .0, (omega arith, quiet-lengths (setsRow (now (s .goal))) (actionOf (now (s .packed))) (s .moves) (entriesOf (s .n) (now (s .ts)) (now (s .fs))) (c .before .loop .length) (c .before .loop .inv .0)))
 
 ended-requires : tie.Need-ended-requires Inv-loop μ-loop
 ended-requires c κs = search needs
@@ -37,8 +37,8 @@ ended-requires c κs = search needs
 returns : tie.Need-returns Inv-loop μ-loop
 unfolding entries
 returns c =
-    let s = c .before .before .before .before .before .before .before .before .args in
-    length-found (setsIn (s .goal)) (actionOf (now (s .packed))) (s .moves) (entriesOf (s .n) (now (s .ts)) (now (s .fs))) (s .limit) (c .before .before .before .before .loop .length) _ (c .before .before .before .before .loop .inv .0) (c .before .before .before .loop-test .taken) (c .before .before .walk .ensures) (sym (c .before .ended .ensures) ∙ c .if1 .taken)
+    let s = c .before .before .before .before .before .before .before .before .before .args in
+    length-found (setsRow (now (s .goal))) (actionOf (now (s .packed))) (s .moves) (entriesOf (s .n) (now (s .ts)) (now (s .fs))) (s .limit) (c .before .before .before .before .loop .length) _ (c .before .before .before .before .loop .inv .0) (c .before .before .before .loop-test .taken) (c .before .before .walk .ensures) (sym (c .before .ended .ensures) ∙ c .if1 .taken)
 
 add-length : tie.Need-add-length Inv-loop μ-loop
 add-length c = search needs
@@ -49,8 +49,8 @@ loop-less c = search needs
 loop-again : tie.Need-loop-again Inv-loop μ-loop
 unfolding entries
 loop-again c =
-    let s = c .before .before .before .before .before .before .before .before .args in
-    (length-next (setsIn (s .goal)) (actionOf (now (s .packed))) (s .moves) (entriesOf (s .n) (now (s .ts)) (now (s .fs))) (s .limit) (c .before .before .before .before .loop .length) _ (c .before .before .before .before .loop .inv .0) (c .before .before .walk .ensures) (sym (c .before .ended .ensures) ∙ c .if1 .left), omega arith)
+    let s = c .before .before .before .before .before .before .before .before .before .args in
+    (length-next (setsRow (now (s .goal))) (actionOf (now (s .packed))) (s .moves) (entriesOf (s .n) (now (s .ts)) (now (s .fs))) (s .limit) (c .before .before .before .before .loop .length) _ (c .before .before .before .before .loop .inv .0) (c .before .before .walk .ensures) (sym (c .before .ended .ensures) ∙ c .if1 .left), omega arith)
 
 none-requires : tie.Need-none-requires Inv-loop μ-loop
 none-requires c κs = search needs
@@ -58,8 +58,8 @@ none-requires c κs = search needs
 returns-2 : tie.Need-returns-2 Inv-loop μ-loop
 unfolding entries
 returns-2 c =
-    let s = c .before .before .before .before .before .before .args in
-    length-none (setsIn (s .goal)) (actionOf (now (s .packed))) (s .moves) (entriesOf (s .n) (now (s .ts)) (now (s .fs))) (s .limit) (c .before .before .loop .length) _ (c .before .before .loop .inv .0) (omega arith) (c .none .ensures)
+    let s = c .before .before .before .before .before .before .before .args in
+    length-none (setsRow (now (s .goal))) (actionOf (now (s .packed))) (s .moves) (entriesOf (s .n) (now (s .ts)) (now (s .fs))) (s .limit) (c .before .before .loop .length) _ (c .before .before .loop .inv .0) (omega arith) (c .none .ensures)
 
 pub lengths-spec : {M : Type 1} → statement M
 lengths-spec =

@@ -2,7 +2,6 @@
 use borrow.Author.Needs.{needs}
 use Rattle.sheet.specs.Marks.{same}
 use Rattle.sheet.specs.Format.{clauses, listOf}
-use Rattle.sheet.specs.Decoded.{clausesOf}
 use Rattle.sheet.proofs.Reading.{gave-stop, gave-on, got-same}
 use Rattle.sheet.proofs.Parts.{read-passed, count-most}
 use Rattle.sheet.proofs.reader.clauses_at.Statement.{statement}
@@ -17,21 +16,23 @@ enum-known-mark c = search needs
 enum-told : tie.Need-enum-told
 enum-told c = search needs
 
-no-clauses-requires : tie.Need-no-clauses-requires
-no-clauses-requires c κs = search needs
-
 returns : tie.Need-returns
 unfolding clauses listOf
-returns c = gave-stop _ _ _ _ clausesOf same (c .before .before .before .count-at .ensures) (c .before .enum-told .given .1)
+returns c = gave-stop _ _ _ _ same same (c .before .before .count-at .ensures) (c .enum-told .given .1)
 
 clauses-from-requires : tie.Need-clauses-from-requires
-clauses-from-requires c κs = (c .before .before .before .before .before .pre, count-most _ _ _ (read-passed _ _ _ (c .before .before .before .count-at .ensures) (c .before .mark .given .1)))
+clauses-from-requires c κs =
+    let p = c .before .before .before .before .before .before .before .pre in
+    (p .0, count-most _ _ _ (read-passed _ _ _ (c .before .before .before .before .count-at .ensures) (c .before .before .mark .given .1)), p .1)
+
+same-length : tie.Need-same-length
+same-length c = search needs
 
 returns-2 : tie.Need-returns-2
 unfolding clauses listOf
-returns-2 c = gave-on _ _ _ _ clausesOf (got-same _ _ _ (c .before .before .before .before .count-at .ensures) (c .before .before .mark .given .1)) (c .clauses-from .ensures)
+returns-2 c = gave-on _ _ _ _ same (got-same _ _ _ (c .before .before .before .before .before .before .before .count-at .ensures) (c .before .before .before .before .before .mark .given .1)) (c .before .before .clauses-from .ensures)
 
 pub clauses-at-spec : {M : Type 1} → statement M
 clauses-at-spec =
     tie.close
-    (tie.spec count-at-requires enum-known-mark enum-told no-clauses-requires returns clauses-from-requires returns-2)
+    (tie.spec count-at-requires enum-known-mark enum-told returns clauses-from-requires same-length returns-2)

@@ -1,30 +1,46 @@
--- `sheet::reader::clauses_from` meets its contract. Assumes nothing.
+-- `sheet::reader::clauses_from` meets its contract. The invariant: the items before i are read and laid. Assumes nothing.
+use mathlib.Core.Path.{_≡_}
 use native.Mathlib.Omega.{arith}
 use borrow.Author.Needs.{needs}
 use Prim.Native.Nat.{_-_}
-use mathlib.Core.List.{[]}
-use Rattle.sheet.specs.Lists.{pad}
-use Rattle.sheet.specs.Format.{clause, listOf}
-use Rattle.sheet.specs.Decoded.{setsOf, clausesOf}
-use Rattle.sheet.proofs.Reading.{Taken, taken-none, taken-more, taken-fault, taken-all}
+use lib.ListN.{length, length-append, length-take, length-drop}
+use Rattle.sheet.specs.Format.{clause}
+use Rattle.sheet.specs.Rows.{itemsAt, clausesAt}
+use Rattle.sheet.proofs.Reading.{Turns, turns-none, turns-laid, turns-stop, turns-end}
+use Rattle.sheet.proofs.RowLaws.{items-laid}
 use Rattle.sheet.proofs.reader.clauses_from.Statement.{statement}
 use Rattle.sheet.proofs.reader.clauses_from.Tie as tie
 
 abbrev Inv-loop : tie.InvT-loop
-Inv-loop s n k first items₀ next₀ i₀ items next i = Taken s (clause n) setsOf 8 (setsOf []) k first items i next
+Inv-loop s n k first rows₀ next₀ i₀ rows next i = (length rows ≡ 136) × Turns s (clause n) k first (clausesAt i rows) i next
 
 abbrev μ-loop : tie.MeasureT-loop
-μ-loop s n k first items₀ next₀ i₀ items next i = k - i
-
-no-sets-requires : tie.Need-no-sets-requires Inv-loop μ-loop
-no-sets-requires c κs = search needs
+μ-loop s n k first rows₀ next₀ i₀ rows next i = k - i
 
 loop-holds : tie.Need-loop-holds Inv-loop μ-loop
-unfolding pad
-loop-holds c = taken-none _ _ _ _ _ _ _ _ (rw (c .no-sets .ensures))
+unfolding itemsAt
+loop-holds c = (c .before .before .pre .2, turns-none _ _ _ _)
+
+mul-at : tie.Need-mul-at Inv-loop μ-loop
+mul-at c = search needs
+
+add-sets-at : tie.Need-add-sets-at Inv-loop μ-loop
+add-sets-at c = search needs
+
+mul-sets-at : tie.Need-mul-sets-at Inv-loop μ-loop
+mul-sets-at c = search needs
+
+sub-sets-at : tie.Need-sub-sets-at Inv-loop μ-loop
+sub-sets-at c = search needs
+
+part-sets-at-start : tie.Need-part-sets-at-start Inv-loop μ-loop
+part-sets-at-start c = search needs
+
+part-sets-at-end : tie.Need-part-sets-at-end Inv-loop μ-loop
+part-sets-at-end c = search needs
 
 sets-at-requires : tie.Need-sets-at-requires Inv-loop μ-loop
-sets-at-requires c κs = omega arith
+sets-at-requires c κs = (omega arith, simp (length-take, length-drop) (omega (arith, c .before .before .loop .inv .0)))
 
 enum-known-mark : tie.Need-enum-known-mark Inv-loop μ-loop
 enum-known-mark c = search needs
@@ -32,34 +48,34 @@ enum-known-mark c = search needs
 enum-told : tie.Need-enum-told Inv-loop μ-loop
 enum-told c = search needs
 
+same-length : tie.Need-same-length Inv-loop μ-loop
+same-length c = search needs
+
 returns : tie.Need-returns Inv-loop μ-loop
-unfolding clause listOf
+unfolding clause
 returns c =
-    taken-fault _ _ _ _ _ _ _ _ _ _ (c .before .before .before .before .loop .inv) clausesOf (c .before .before .before .loop-test .taken)
-    (c .before .before .sets-at .ensures) (c .enum-told .given .1)
-
-mul-items : tie.Need-mul-items Inv-loop μ-loop
-mul-items c = omega arith
-
-array-set-from-items : tie.Need-array-set-from-items Inv-loop μ-loop
-array-set-from-items c = omega arith
+    turns-stop _ _ _ _ _ _ _ (c .before .before .before .before .before .before .before .loop .inv .1) (c .before .before .before .before .sets-at .ensures) (c .before .before .before .before .before .before .loop-test .taken) (c .enum-told .given .1)
 
 add-i : tie.Need-add-i Inv-loop μ-loop
-add-i c = omega arith
+add-i c = search needs
 
 loop-less : tie.Need-loop-less Inv-loop μ-loop
-loop-less c = omega arith
+loop-less c = search needs
 
 loop-again : tie.Need-loop-again Inv-loop μ-loop
-unfolding clause listOf
+unfolding clause
 loop-again c =
-    taken-more _ _ _ _ _ _ _ _ _ _ (c .before .before .before .before .before .before .loop .inv) (c .before .before .before .before .before .loop-test .taken) (omega arith)
-    (c .before .before .before .before .sets-at .ensures) (c .before .before .mark .given .1)
+    let v = c .before .before .before .before .before .before .before .before .loop in
+    let l = c .before .before .before .before .before .before .before .loop-test .taken in (
+      simp (length-append, length-take, length-drop) (omega (arith, v .inv .0)),
+      turns-laid _ _ _ _ _ _ _ (v .inv .1) (c .before .before .before .before .before .sets-at .ensures) l (c .before .mark .given .1) (items-laid 17 _ (v .i) _ _ (omega (arith, v .inv .0)) (search needs)),
+    )
+
+same-length-2 : tie.Need-same-length-2 Inv-loop μ-loop
+same-length-2 c = search needs
 
 returns-2 : tie.Need-returns-2 Inv-loop μ-loop
-unfolding clausesOf
-returns-2 c =
-    taken-all _ _ _ _ _ _ _ _ _ _ (c .before .loop .inv) clausesOf (c .loop-test .left) (λ xs e h. rw (h, ← e))
+returns-2 c = turns-end _ _ _ _ (λ j. clausesAt j (c .before .loop .rows)) _ _ (c .before .loop .inv .1) (c .loop-test .left)
 
 pub clauses-from-spec : {M : Type 1} → statement M
 clauses-from-spec =
@@ -67,15 +83,20 @@ clauses-from-spec =
     (tie.spec
     Inv-loop
     μ-loop
-    no-sets-requires
     loop-holds
+    mul-at
+    add-sets-at
+    mul-sets-at
+    sub-sets-at
+    part-sets-at-start
+    part-sets-at-end
     sets-at-requires
     enum-known-mark
     enum-told
+    same-length
     returns
-    mul-items
-    array-set-from-items
     add-i
     loop-less
     loop-again
+    same-length-2
     returns-2)

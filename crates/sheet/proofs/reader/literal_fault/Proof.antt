@@ -1,6 +1,6 @@
 -- `sheet::reader::literal_fault` meets its contract: 3 before 4 before 5. Assumes nothing.
 use borrow.Author.Needs.{needs}
-use Rattle.sheet.proofs.Parts.{fault-range, fault-order, fault-complement, fault-none, fault-first}
+use Rattle.sheet.proofs.Parts.{fault-range, fault-order, fault-complement, fault-none}
 use Rattle.sheet.proofs.reader.literal_fault.Statement.{statement}
 use Rattle.sheet.proofs.reader.literal_fault.Tie as tie
 
@@ -13,20 +13,17 @@ returns c = fault-range _ (c .before .args .floor) _ (c .if1 .taken)
 returns-2 : tie.Need-returns-2
 returns-2 c = fault-order _ (c .before .before .args .floor) _ (c .before .if1 .left) (c .if2 .taken)
 
-sub-if4 : tie.Need-sub-if4
-sub-if4 c = search needs
-
 returns-3 : tie.Need-returns-3
 returns-3 c =
-    fault-complement _ (c .before .before .before .before .args .floor) _ (c .before .before .before .if1 .left) (c .before .if3 .taken)
-    (c .before .before .if2 .left) (c .if4 .taken)
+    fault-complement _ (c .before .before .before .before .args .floor) _ (c .before .before .before .if1 .left) (c .before .if3 .taken) (c .if4 .taken)
 
 returns-4 : tie.Need-returns-4
 returns-4 c =
-    fault-none _ (c .before .before .before .before .args .floor) _ (c .before .before .before .if1 .left) (c .before .before .if2 .left) (c .if4 .left)
+    fault-none _ (c .before .before .before .before .args .floor) _ (c .before .before .before .if1 .left) (c .before .before .if2 .left) (λ e. c .if4 .left)
 
 returns-5 : tie.Need-returns-5
-returns-5 c = fault-first _ (c .before .before .before .args .floor) _ (c .before .before .if1 .left) (c .if3 .left)
+returns-5 c =
+    fault-none _ (c .before .before .before .args .floor) _ (c .before .before .if1 .left) (c .before .if2 .left) (λ e o. c .if3 .left e)
 
 pub literal-fault-spec : {M : Type 1} → statement M
-literal-fault-spec = tie.close (tie.spec mul-if1 returns returns-2 sub-if4 returns-3 returns-4 returns-5)
+literal-fault-spec = tie.close (tie.spec mul-if1 returns returns-2 returns-3 returns-4 returns-5)

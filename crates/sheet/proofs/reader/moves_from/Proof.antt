@@ -1,29 +1,46 @@
--- `sheet::reader::moves_from` meets its contract. Assumes nothing.
+-- `sheet::reader::moves_from` meets its contract. The invariant: the items before i are read and laid. Assumes nothing.
+use mathlib.Core.Path.{_≡_}
 use native.Mathlib.Omega.{arith}
 use borrow.Author.Needs.{needs}
 use Prim.Native.Nat.{_-_}
-use Rattle.sheet.specs.Lists.{pad}
+use lib.ListN.{length, length-append, length-take, length-drop}
 use Rattle.sheet.specs.Format.{action}
-use Rattle.sheet.specs.Decoded.{noMove, moveOf, movesOf}
-use Rattle.sheet.proofs.Reading.{Taken, taken-none, taken-more, taken-fault, taken-all}
+use Rattle.sheet.specs.Rows.{itemsAt, actionsAt}
+use Rattle.sheet.proofs.Reading.{Turns, turns-none, turns-laid, turns-stop, turns-end}
+use Rattle.sheet.proofs.RowLaws.{items-laid}
 use Rattle.sheet.proofs.reader.moves_from.Statement.{statement}
 use Rattle.sheet.proofs.reader.moves_from.Tie as tie
 
 abbrev Inv-loop : tie.InvT-loop
-Inv-loop s n k first items₀ next₀ i₀ items next i = Taken s (action n) moveOf 32 noMove k first items i next
+Inv-loop s n k first rows₀ next₀ i₀ rows next i = (length rows ≡ 1120) × Turns s (action n) k first (actionsAt i rows) i next
 
 abbrev μ-loop : tie.MeasureT-loop
-μ-loop s n k first items₀ next₀ i₀ items next i = k - i
-
-no-move-requires : tie.Need-no-move-requires Inv-loop μ-loop
-no-move-requires c κs = search needs
+μ-loop s n k first rows₀ next₀ i₀ rows next i = k - i
 
 loop-holds : tie.Need-loop-holds Inv-loop μ-loop
-unfolding pad
-loop-holds c = taken-none _ _ _ _ _ _ _ _ (rw (c .no-move .ensures))
+unfolding itemsAt
+loop-holds c = (c .before .before .pre .2, turns-none _ _ _ _)
+
+mul-at : tie.Need-mul-at Inv-loop μ-loop
+mul-at c = search needs
+
+add-move-at : tie.Need-add-move-at Inv-loop μ-loop
+add-move-at c = search needs
+
+mul-move-at : tie.Need-mul-move-at Inv-loop μ-loop
+mul-move-at c = search needs
+
+sub-move-at : tie.Need-sub-move-at Inv-loop μ-loop
+sub-move-at c = search needs
+
+part-move-at-start : tie.Need-part-move-at-start Inv-loop μ-loop
+part-move-at-start c = search needs
+
+part-move-at-end : tie.Need-part-move-at-end Inv-loop μ-loop
+part-move-at-end c = search needs
 
 move-at-requires : tie.Need-move-at-requires Inv-loop μ-loop
-move-at-requires c κs = omega arith
+move-at-requires c κs = (omega arith, simp (length-take, length-drop) (omega (arith, c .before .before .loop .inv .0)))
 
 enum-known-mark : tie.Need-enum-known-mark Inv-loop μ-loop
 enum-known-mark c = search needs
@@ -31,32 +48,32 @@ enum-known-mark c = search needs
 enum-told : tie.Need-enum-told Inv-loop μ-loop
 enum-told c = search needs
 
+same-length : tie.Need-same-length Inv-loop μ-loop
+same-length c = search needs
+
 returns : tie.Need-returns Inv-loop μ-loop
 returns c =
-    taken-fault _ _ _ _ _ _ _ _ _ _ (c .before .before .before .before .loop .inv) movesOf (c .before .before .before .loop-test .taken)
-    (c .before .before .move-at .ensures) (c .enum-told .given .1)
-
-mul-items : tie.Need-mul-items Inv-loop μ-loop
-mul-items c = omega arith
-
-array-set-from-items : tie.Need-array-set-from-items Inv-loop μ-loop
-array-set-from-items c = omega arith
+    turns-stop _ _ _ _ _ _ _ (c .before .before .before .before .before .before .before .loop .inv .1) (c .before .before .before .before .move-at .ensures) (c .before .before .before .before .before .before .loop-test .taken) (c .enum-told .given .1)
 
 add-i : tie.Need-add-i Inv-loop μ-loop
-add-i c = omega arith
+add-i c = search needs
 
 loop-less : tie.Need-loop-less Inv-loop μ-loop
-loop-less c = omega arith
+loop-less c = search needs
 
 loop-again : tie.Need-loop-again Inv-loop μ-loop
 loop-again c =
-    taken-more _ _ _ _ _ _ _ _ _ _ (c .before .before .before .before .before .before .loop .inv) (c .before .before .before .before .before .loop-test .taken) (omega arith)
-    (c .before .before .before .before .move-at .ensures) (c .before .before .mark .given .1)
+    let v = c .before .before .before .before .before .before .before .before .loop in
+    let l = c .before .before .before .before .before .before .before .loop-test .taken in (
+      simp (length-append, length-take, length-drop) (omega (arith, v .inv .0)),
+      turns-laid _ _ _ _ _ _ _ (v .inv .1) (c .before .before .before .before .before .move-at .ensures) l (c .before .mark .given .1) (items-laid 35 _ (v .i) _ _ (omega (arith, v .inv .0)) (search needs)),
+    )
+
+same-length-2 : tie.Need-same-length-2 Inv-loop μ-loop
+same-length-2 c = search needs
 
 returns-2 : tie.Need-returns-2 Inv-loop μ-loop
-unfolding movesOf
-returns-2 c =
-    taken-all _ _ _ _ _ _ _ _ _ _ (c .before .loop .inv) movesOf (c .loop-test .left) (λ xs e h. rw (h, ← e))
+returns-2 c = turns-end _ _ _ _ (λ j. actionsAt j (c .before .loop .rows)) _ _ (c .before .loop .inv .1) (c .loop-test .left)
 
 pub moves-from-spec : {M : Type 1} → statement M
 moves-from-spec =
@@ -64,15 +81,20 @@ moves-from-spec =
     (tie.spec
     Inv-loop
     μ-loop
-    no-move-requires
     loop-holds
+    mul-at
+    add-move-at
+    mul-move-at
+    sub-move-at
+    part-move-at-start
+    part-move-at-end
     move-at-requires
     enum-known-mark
     enum-told
+    same-length
     returns
-    mul-items
-    array-set-from-items
     add-i
     loop-less
     loop-again
+    same-length-2
     returns-2)

@@ -1,27 +1,18 @@
 -- `sheet::reader::refused` meets its contract. Assumes nothing.
+use mathlib.Core.Path.{refl, ap}
+use native.Mathlib.Omega.{arith}
 use borrow.Author.Needs.{needs}
-use Rattle.sheet.specs.Literals.{noLiteral}
-use Rattle.sheet.specs.Decoded.{slots, noSheet}
-use Rattle.sheet.specs.Calls.{decodedOf}
+use Rattle.sheet.specs.declared.Plan.{Plan}
+use Rattle.sheet.specs.Decoded.{planOf}
 use Rattle.sheet.proofs.reader.refused.Statement.{statement}
 use Rattle.sheet.proofs.reader.refused.Tie as tie
-
-no-clauses-requires : tie.Need-no-clauses-requires
-no-clauses-requires c κs = search needs
-
-no-moves-requires : tie.Need-no-moves-requires
-no-moves-requires c κs = search needs
-
-no-sets-requires : tie.Need-no-sets-requires
-no-sets-requires c κs = search needs
 
 no-plan-requires : tie.Need-no-plan-requires
 no-plan-requires c κs = search needs
 
 returns : tie.Need-returns
-unfolding decodedOf noSheet slots noLiteral
-returns c =
-    rw (c .no-plan .ensures, c .before .no-sets .ensures, c .before .before .no-moves .ensures, c .before .before .before .no-clauses .ensures)
+unfolding planOf
+returns c = (refl, omega (arith, ap (λ (p : Plan). p .count) (c .no-plan .ensures)))
 
 pub refused-spec : {M : Type 1} → statement M
-refused-spec = tie.close (tie.spec no-clauses-requires no-moves-requires no-sets-requires no-plan-requires returns)
+refused-spec = tie.close (tie.spec no-plan-requires returns)

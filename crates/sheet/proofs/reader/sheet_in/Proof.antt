@@ -1,13 +1,18 @@
 -- `sheet::reader::sheet_in` meets its contract. Assumes nothing.
-use mathlib.Core.Path.{sym, ap, _∙_}
+use mathlib.Core.Path.{sym, _∙_}
 use borrow.Author.Needs.{needs}
-use Rattle.sheet.specs.Calls.{decodedOf}
-use Rattle.sheet.proofs.Sections.{sheet-facts, sheet-moves, moves-most, sheet-goal, sheet-plan, sheet-longer, sheet-whole}
+use Rattle.sheet.specs.Problem.{problemOf}
+use Rattle.sheet.specs.Rows.{actionFrom}
+use Rattle.sheet.specs.Decoded.{problemIn, statementIn, judgementIn}
+use Rattle.sheet.specs.Marks.{factsIn}
+use Rattle.sheet.proofs.RowLaws.{items-length}
+use Rattle.sheet.proofs.SlotLaws.{refused-with, refused-by}
+use Rattle.sheet.proofs.Sections.{sheet-facts, sheet-moves, moves-most, sheet-goal, sheet-plan, plan-most, sheet-longer, sheet-whole}
 use Rattle.sheet.proofs.reader.sheet_in.Statement.{statement}
 use Rattle.sheet.proofs.reader.sheet_in.Tie as tie
 
 facts-at-requires : tie.Need-facts-at-requires
-facts-at-requires c κs = search needs
+facts-at-requires c κs = (c .before .before .before .before .before .before .before .pre .0, c .before .before .before .before .before .before .before .pre .1)
 
 enum-known-mark : tie.Need-enum-known-mark
 enum-known-mark c = search needs
@@ -18,12 +23,20 @@ enum-told c = search needs
 refused-at-requires : tie.Need-refused-at-requires
 refused-at-requires c κs = search needs
 
+same-length : tie.Need-same-length
+same-length c = c .before .before .before .before .before .before .before .facts-at .kept .1 .0
+
+same-length-2 : tie.Need-same-length-2
+same-length-2 c = c .before .before .before .before .before .before .before .facts-at .kept .1 .1 .0
+
 returns : tie.Need-returns
-returns c =
-    c .refused-at .ensures ∙ ap decodedOf (sym (sheet-facts _ (c .before .before .before .facts-at .ensures .0) (c .before .enum-told .given .1)))
+returns c = (
+  refused-by _ _ _ _ _ _ (c .refused-at .ensures .0) ∙ sym (sheet-facts _ (c .before .before .before .before .before .before .before .facts-at .ensures .0) (c .before .enum-told .given .1)),
+  c .refused-at .ensures .1,
+)
 
 moves-at-requires : tie.Need-moves-at-requires
-moves-at-requires c κs = c .before .before .before .before .facts-at .ensures .1
+moves-at-requires c κs = (c .before .before .before .before .before .before .before .before .before .facts-at .ensures .1, c .before .before .before .before .before .before .before .before .before .before .before .before .before .before .before .before .before .pre .3)
 
 enum-known-mark-moves : tie.Need-enum-known-mark-moves
 enum-known-mark-moves c = search needs
@@ -34,12 +47,24 @@ enum-told-2 c = search needs
 refused-at-requires-2 : tie.Need-refused-at-requires-2
 refused-at-requires-2 c κs = search needs
 
+same-length-3 : tie.Need-same-length-3
+same-length-3 c = c .before .before .before .before .before .before .before .before .before .before .before .before .before .before .before .facts-at .kept .1 .0
+
+same-length-4 : tie.Need-same-length-4
+same-length-4 c = c .before .before .before .before .before .before .before .before .before .before .before .before .before .before .before .facts-at .kept .1 .1 .0
+
+same-length-5 : tie.Need-same-length-5
+same-length-5 c = c .before .before .before .before .before .moves-at .kept .1 .1 .1 .0
+
 returns-2 : tie.Need-returns-2
-returns-2 c =
-    c .refused-at2 .ensures ∙ ap decodedOf (sym (sheet-moves _ (c .before .before .before .before .before .before .before .before .facts-at .ensures .0) (c .before .before .before .before .before .before .mark .given .1) (c .before .before .before .moves-at .ensures) (c .before .enum-told2 .given .1)))
+unfolding factsIn
+returns-2 c = (
+  refused-by _ _ _ _ _ _ (c .refused-at2 .ensures .0) ∙ sym (sheet-moves _ (c .before .before .before .before .before .before .before .before .before .before .before .before .before .before .before .facts-at .ensures .0) (c .before .before .before .before .before .before .before .before .before .mark .given .1) (c .before .before .before .before .before .moves-at .ensures) (c .before .enum-told2 .given .1)),
+  c .refused-at2 .ensures .1,
+)
 
 sets-at-requires : tie.Need-sets-at-requires
-sets-at-requires c κs = c .before .before .before .before .before .before .before .before .facts-at .ensures .1
+sets-at-requires c κs = (c .before .before .before .before .before .before .before .before .before .before .before .before .before .before .before .before .facts-at .ensures .1, c .before .before .before .before .before .before .before .before .before .before .before .before .before .before .before .before .before .before .before .before .before .before .before .before .pre .2)
 
 enum-known-mark-goal : tie.Need-enum-known-mark-goal
 enum-known-mark-goal c = search needs
@@ -50,13 +75,30 @@ enum-told-3 c = search needs
 refused-at-requires-3 : tie.Need-refused-at-requires-3
 refused-at-requires-3 c κs = search needs
 
+same-length-6 : tie.Need-same-length-6
+same-length-6 c = c .before .before .before .before .before .before .before .before .before .before .before .before .before .before .before .before .before .before .before .before .before .before .facts-at .kept .1 .0
+
+same-length-7 : tie.Need-same-length-7
+same-length-7 c = c .before .before .before .before .before .before .before .before .before .before .before .before .before .before .before .before .before .before .before .before .before .before .facts-at .kept .1 .1 .0
+
+same-length-8 : tie.Need-same-length-8
+same-length-8 c = c .before .before .before .before .before .sets-at .kept .1 .1 .1 .1 .1 .0
+
+same-length-9 : tie.Need-same-length-9
+same-length-9 c = c .before .before .before .before .before .before .before .before .before .before .before .before .moves-at .kept .1 .1 .1 .0
+
 returns-3 : tie.Need-returns-3
-returns-3 c =
-    c .refused-at3 .ensures ∙ ap decodedOf (sym (sheet-goal _ (c .before .before .before .before .before .before .before .before .before .before .before .before .facts-at .ensures .0) (c .before .before .before .before .before .before .before .before .before .before .mark .given .1) (c .before .before .before .before .before .before .before .moves-at .ensures)
-    (c .before .before .before .before .before .mark-moves .given .1) (c .before .before .before .sets-at .ensures) (c .before .enum-told3 .given .1)))
+unfolding factsIn
+returns-3 c = (
+  refused-by _ _ _ _ _ _ (c .refused-at3 .ensures .0)
+      ∙ sym (sheet-goal _ (c .before .before .before .before .before .before .before .before .before .before .before .before .before .before .before .before .before .before .before .before .before .before .facts-at .ensures .0) (c .before .before .before .before .before .before .before .before .before .before .before .before .before .before .before .before .mark .given .1) (c .before .before .before .before .before .before .before .before .before .before .before .before .moves-at .ensures)
+      (c .before .before .before .before .before .before .before .before .mark-moves .given .1) (c .before .before .before .before .before .sets-at .ensures) (c .before .enum-told3 .given .1)),
+  c .refused-at3 .ensures .1,
+)
 
 plan-at-requires : tie.Need-plan-at-requires
-plan-at-requires c κs = moves-most _ (c .before .before .before .before .before .before .before .before .before .before .before .before .before .facts-at .ensures .0) (c .before .before .before .before .before .before .before .before .before .before .before .mark .given .1) (c .before .before .before .before .before .before .before .before .moves-at .ensures) (c .before .before .before .before .before .before .mark-moves .given .1)
+unfolding factsIn
+plan-at-requires c κs = moves-most _ (c .before .before .before .before .before .before .before .before .before .before .before .before .before .before .before .before .before .before .before .before .before .before .facts-at .ensures .0) (c .before .before .before .before .before .before .before .before .before .before .before .before .before .before .before .before .mark .given .1) (c .before .before .before .before .before .before .before .before .before .before .before .before .moves-at .ensures) (c .before .before .before .before .before .before .before .before .mark-moves .given .1) (items-length 35 actionFrom _ _)
 
 enum-known-mark-plan : tie.Need-enum-known-mark-plan
 enum-known-mark-plan c = search needs
@@ -67,29 +109,78 @@ enum-told-4 c = search needs
 refused-at-requires-4 : tie.Need-refused-at-requires-4
 refused-at-requires-4 c κs = search needs
 
+same-length-10 : tie.Need-same-length-10
+same-length-10 c = c .before .before .before .before .before .before .before .before .before .before .before .before .before .before .before .before .before .before .before .before .before .before .before .before .before .before .facts-at .kept .1 .0
+
+same-length-11 : tie.Need-same-length-11
+same-length-11 c = c .before .before .before .before .before .before .before .before .before .before .before .before .before .before .before .before .before .before .before .before .before .before .before .before .before .before .facts-at .kept .1 .1 .0
+
+same-length-12 : tie.Need-same-length-12
+same-length-12 c = c .before .before .before .before .before .before .before .before .before .sets-at .kept .1 .1 .1 .1 .1 .0
+
+same-length-13 : tie.Need-same-length-13
+same-length-13 c = c .before .before .before .before .before .before .before .before .before .before .before .before .before .before .before .before .moves-at .kept .1 .1 .1 .0
+
 returns-4 : tie.Need-returns-4
-returns-4 c =
-    c .refused-at4 .ensures ∙ ap decodedOf (sym (sheet-plan _ (c .before .before .before .before .before .before .before .before .before .before .before .before .before .before .before .before .before .facts-at .ensures .0) (c .before .before .before .before .before .before .before .before .before .before .before .before .before .before .before .mark .given .1) (c .before .before .before .before .before .before .before .before .before .before .before .before .moves-at .ensures)
-    (c .before .before .before .before .before .before .before .before .before .before .mark-moves .given .1) (c .before .before .before .before .before .before .before .before .sets-at .ensures)
-    (c .before .before .before .before .before .before .mark-goal .given .1) (c .before .before .before .plan-at .ensures) (c .before .enum-told4 .given .1)))
+unfolding factsIn
+returns-4 c = (
+  refused-by _ _ _ _ _ _ (c .refused-at4 .ensures .0)
+      ∙ sym (sheet-plan _ (c .before .before .before .before .before .before .before .before .before .before .before .before .before .before .before .before .before .before .before .before .before .before .before .before .before .before .facts-at .ensures .0) (c .before .before .before .before .before .before .before .before .before .before .before .before .before .before .before .before .before .before .before .before .mark .given .1) (c .before .before .before .before .before .before .before .before .before .before .before .before .before .before .before .before .moves-at .ensures)
+      (c .before .before .before .before .before .before .before .before .before .before .before .before .mark-moves .given .1) (c .before .before .before .before .before .before .before .before .before .sets-at .ensures)
+      (c .before .before .before .before .before .mark-goal .given .1) (items-length 35 actionFrom _ _) (c .before .before .before .plan-at .ensures) (c .before .enum-told4 .given .1)),
+  c .refused-at4 .ensures .1,
+)
 
 refused-requires : tie.Need-refused-requires
 refused-requires c κs = search needs
 
-returns-5 : tie.Need-returns-5
-returns-5 c =
-    c .refused .ensures ∙ ap decodedOf (sym (sheet-longer _ (c .before .before .before .before .before .before .before .before .before .before .before .before .before .before .before .before .before .before .before .facts-at .ensures .0) (c .before .before .before .before .before .before .before .before .before .before .before .before .before .before .before .before .before .mark .given .1) (c .before .before .before .before .before .before .before .before .before .before .before .before .before .before .moves-at .ensures)
-    (c .before .before .before .before .before .before .before .before .before .before .before .before .mark-moves .given .1) (c .before .before .before .before .before .before .before .before .before .before .sets-at .ensures)
-    (c .before .before .before .before .before .before .before .before .mark-goal .given .1) (c .before .before .before .before .before .plan-at .ensures) (c .before .before .before .mark-plan .given .1) (c .before .if1 .taken)))
+same-length-14 : tie.Need-same-length-14
+same-length-14 c = c .before .before .before .before .before .before .before .before .before .before .before .before .before .before .before .before .before .before .before .before .before .before .before .before .before .before .before .before .facts-at .kept .1 .0
 
-accepted-requires : tie.Need-accepted-requires
-accepted-requires c κs = search needs
+same-length-15 : tie.Need-same-length-15
+same-length-15 c = c .before .before .before .before .before .before .before .before .before .before .before .before .before .before .before .before .before .before .before .before .before .before .before .before .before .before .before .before .facts-at .kept .1 .1 .0
+
+same-length-16 : tie.Need-same-length-16
+same-length-16 c = c .before .before .before .before .before .before .before .before .before .before .before .sets-at .kept .1 .1 .1 .1 .1 .0
+
+same-length-17 : tie.Need-same-length-17
+same-length-17 c = c .before .before .before .before .before .before .before .before .before .before .before .before .before .before .before .before .before .before .moves-at .kept .1 .1 .1 .0
+
+returns-5 : tie.Need-returns-5
+unfolding factsIn
+returns-5 c = (
+  refused-with _ _ _ _ _ _ _ (c .refused .ensures .0)
+      ∙ sym (sheet-longer _ (c .before .before .before .before .before .before .before .before .before .before .before .before .before .before .before .before .before .before .before .before .before .before .before .before .before .before .before .before .facts-at .ensures .0) (c .before .before .before .before .before .before .before .before .before .before .before .before .before .before .before .before .before .before .before .before .before .before .mark .given .1) (c .before .before .before .before .before .before .before .before .before .before .before .before .before .before .before .before .before .before .moves-at .ensures)
+      (c .before .before .before .before .before .before .before .before .before .before .before .before .before .before .mark-moves .given .1) (c .before .before .before .before .before .before .before .before .before .before .before .sets-at .ensures)
+      (c .before .before .before .before .before .before .before .mark-goal .given .1) (items-length 35 actionFrom _ _) (c .before .before .before .before .before .plan-at .ensures)
+      (c .before .before .before .mark-plan .given .1) (c .before .if1 .taken)),
+  c .refused .ensures .1,
+)
+
+same-length-18 : tie.Need-same-length-18
+same-length-18 c = c .before .before .before .before .before .before .before .before .before .before .before .before .before .before .before .before .before .before .before .before .before .before .before .before .before .before .before .before .before .facts-at .kept .1 .0
+
+same-length-19 : tie.Need-same-length-19
+same-length-19 c = c .before .before .before .before .before .before .before .before .before .before .before .before .before .before .before .before .before .before .before .before .before .before .before .before .before .before .before .before .before .facts-at .kept .1 .1 .0
+
+same-length-20 : tie.Need-same-length-20
+same-length-20 c = c .before .before .before .before .before .before .before .before .before .before .before .before .sets-at .kept .1 .1 .1 .1 .1 .0
+
+same-length-21 : tie.Need-same-length-21
+same-length-21 c = c .before .before .before .before .before .before .before .before .before .before .before .before .before .before .before .before .before .before .before .moves-at .kept .1 .1 .1 .0
 
 returns-6 : tie.Need-returns-6
-returns-6 c =
-    c .accepted .ensures ∙ sheet-whole _ (c .before .before .before .before .before .before .before .before .before .before .before .before .before .before .before .before .before .before .before .before .before .facts-at .ensures .0) (c .before .before .before .before .before .before .before .before .before .before .before .before .before .before .before .before .before .before .before .mark .given .1) (c .before .before .before .before .before .before .before .before .before .before .before .before .before .before .before .before .moves-at .ensures)
-    (c .before .before .before .before .before .before .before .before .before .before .before .before .before .before .mark-moves .given .1) (c .before .before .before .before .before .before .before .before .before .before .before .before .sets-at .ensures)
-    (c .before .before .before .before .before .before .before .before .before .before .mark-goal .given .1) (c .before .before .before .before .before .before .before .plan-at .ensures) (c .before .before .before .before .before .mark-plan .given .1) (c .before .before .before .if1 .left)
+unfolding judgementIn statementIn problemIn problemOf factsIn
+returns-6 c = (
+  sym (sheet-whole _ (c .before .before .before .before .before .before .before .before .before .before .before .before .before .before .before .before .before .before .before .before .before .before .before .before .before .before .before .before .before .facts-at .ensures .0) (c .before .before .before .before .before .before .before .before .before .before .before .before .before .before .before .before .before .before .before .before .before .before .before .mark .given .1) (c .before .before .before .before .before .before .before .before .before .before .before .before .before .before .before .before .before .before .before .moves-at .ensures)
+      (c .before .before .before .before .before .before .before .before .before .before .before .before .before .before .before .mark-moves .given .1) (c .before .before .before .before .before .before .before .before .before .before .before .before .sets-at .ensures)
+      (c .before .before .before .before .before .before .before .before .mark-goal .given .1) (items-length 35 actionFrom _ _) (c .before .before .before .before .before .before .plan-at .ensures)
+      (c .before .before .before .before .mark-plan .given .1) (c .before .before .if1 .left)),
+  plan-most _ (c .before .before .before .before .before .before .before .before .before .before .before .before .before .before .before .before .before .before .before .before .before .before .before .before .before .before .before .before .before .facts-at .ensures .0) (c .before .before .before .before .before .before .before .before .before .before .before .before .before .before .before .before .before .before .before .before .before .before .before .mark .given .1) (c .before .before .before .before .before .before .before .before .before .before .before .before .before .before .before .before .before .before .before .moves-at .ensures)
+      (c .before .before .before .before .before .before .before .before .before .before .before .before .before .before .before .mark-moves .given .1) (c .before .before .before .before .before .before .before .before .before .before .before .before .sets-at .ensures)
+      (c .before .before .before .before .before .before .before .before .mark-goal .given .1) (items-length 35 actionFrom _ _) (c .before .before .before .before .before .before .plan-at .ensures)
+      (c .before .before .before .before .mark-plan .given .1),
+)
 
 pub sheet-in-spec : {M : Type 1} → statement M
 sheet-in-spec =
@@ -99,23 +190,43 @@ sheet-in-spec =
     enum-known-mark
     enum-told
     refused-at-requires
+    same-length
+    same-length-2
     returns
     moves-at-requires
     enum-known-mark-moves
     enum-told-2
     refused-at-requires-2
+    same-length-3
+    same-length-4
+    same-length-5
     returns-2
     sets-at-requires
     enum-known-mark-goal
     enum-told-3
     refused-at-requires-3
+    same-length-6
+    same-length-7
+    same-length-8
+    same-length-9
     returns-3
     plan-at-requires
     enum-known-mark-plan
     enum-told-4
     refused-at-requires-4
+    same-length-10
+    same-length-11
+    same-length-12
+    same-length-13
     returns-4
     refused-requires
+    same-length-14
+    same-length-15
+    same-length-16
+    same-length-17
     returns-5
-    accepted-requires
+    same-length-18
+    same-length-19
+    same-length-20
+    same-length-21
     returns-6)

@@ -1,11 +1,8 @@
 -- `table::effects::effect_at` meets its contract. Assumes nothing.
-use Rattle.table.specs.Moves.{effectAt}
+use Rattle.sheet.specs.Rows.{effectAt}
 use borrow.Author.Needs.{needs}
 use Rattle.table.proofs.effects.effect_at.Statement.{statement}
 use Rattle.table.proofs.effects.effect_at.Tie as tie
-use Rattle.table.proofs.effects.effect_at.Reads as reads
-use Rattle.table.proofs.effects.effect_at.Lts as lts
-use Rattle.table.proofs.effects.set_from.Reads as set-from-reads
 
 mul-at : tie.Need-mul-at
 mul-at c = search needs

@@ -16,16 +16,16 @@ use Rattle.sheet.proofs.masks.join.Reads as join-reads
 use Rattle.sheet.proofs.masks.literal.Reads as literal-reads
 use Rattle.sheet.proofs.masks.next.Reads as next-reads
 use Rattle.table.specs.declared.slots.Grown.the-variants as grown
-use Rattle.table.specs.Moves.{setsAt}
+use Rattle.sheet.specs.Rows.{setsAt}
 use Rattle.table.specs.Start.{falsify}
 use Rattle.table.proofs.Pads.{holds-trues-long, holds-falses-long, held-own}
 use Rattle.table.proofs.Growing.{nothing-put, puts-is, Going, going-start, going-on, going-full, going-end}
-use Rattle.table.proofs.Rows.{sets-step}
+use Rattle.sheet.proofs.RowLaws.{sets-step}
 use Rattle.table.proofs.Choosing.{chosen-all, puts-later, cut, choicesFrom, choices-start, choices-step, choices-less, choices-end}
 use Rattle.table.proofs.first.choose.Reads as choose
 use Rattle.table.proofs.first.choose.Kinds as choose-kinds
 use Rattle.table.proofs.first.+choose.Lts-choose as choose-lts
-use Rattle.table.proofs.effects.set_from.Reads as set-from-reads
+use Rattle.sheet.proofs.rows.set_from.Reads as set-from-reads
 use Rattle.table.proofs.slots.offer.Reads as offer-reads
 use Rattle.table.proofs.first.+choose.{statement}
 use Rattle.table.proofs.first.+choose.Tie.{close}

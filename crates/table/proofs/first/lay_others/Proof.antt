@@ -1,31 +1,30 @@
--- `first::lay_others` meets its contract. The invariant: the others below j are laid out. Assumes nothing.
-use mathlib.Core.Path.{_≡_, sym, _∙_}
+-- `table::first::lay_others` meets its contract. The invariant: the others below j are laid out. Assumes nothing.
+use mathlib.Core.Path.{_≡_, refl, sym, _∙_}
 use mathlib.Core.Logic.{⊎-elim}
 use Prim.Native.Nat.{_≤_, _-_}
 use native.Mathlib.Omega.{arith}
 use borrow.Author.Needs.{needs}
 use lib.ListN.{length, length-set}
-use Rattle.sheet.specs.Literals.{noLiteral}
-use Rattle.sheet.specs.Decoded.{setsIn}
-use Rattle.sheet.proofs.Prefixes.{part-step, part-end, length-mapped}
+use Rattle.sheet.specs.Rows.{setsRow}
+use Rattle.table.proofs.ClauseRows.{alts-step, alts-end}
 use Rattle.table.proofs.Choosing.{Laying, laying-start, laying-one, laying-none, laying-end}
 use Rattle.table.proofs.first.lay_others.Statement.{statement}
 use Rattle.table.proofs.first.lay_others.Tie as tie
 
 abbrev Inv-loop : tie.InvT-loop
-Inv-loop i row₀ alts count k₀ j₀ row k j = (j ≤ count) × (length row ≡ 16) × Laying (setsIn alts) i j k row
+Inv-loop alts i row₀ count k₀ j₀ row k j = (j ≤ count) × (length row ≡ 16) × Laying (setsRow alts) i j k row
 
 abbrev μ-loop : tie.MeasureT-loop
-μ-loop i row₀ alts count k₀ j₀ row k j = count - j
+μ-loop alts i row₀ count k₀ j₀ row k j = count - j
+
+count-of-requires : tie.Need-count-of-requires Inv-loop μ-loop
+count-of-requires c κs = search needs
 
 loop-holds : tie.Need-loop-holds Inv-loop μ-loop
-loop-holds c = (omega arith, c .pre .1, laying-start _ _ _)
+loop-holds c = (omega arith, c .before .before .before .pre .1, laying-start _ _ _)
 
-mul-a : tie.Need-mul-a Inv-loop μ-loop
-mul-a c = search needs
-
-element-copy-out-a : tie.Need-element-copy-out-a Inv-loop μ-loop
-element-copy-out-a c = search needs
+set-at-requires : tie.Need-set-at-requires Inv-loop μ-loop
+set-at-requires c κs = omega arith
 
 mul-row : tie.Need-mul-row Inv-loop μ-loop
 mul-row c = omega arith
@@ -58,25 +57,21 @@ loop-less : tie.Need-loop-less Inv-loop μ-loop
 loop-less c = omega arith
 
 loop-again : tie.Need-loop-again Inv-loop μ-loop
-unfolding setsIn noLiteral
 loop-again c =
-    let s = c .before .before .before in
+    let alts = c .before .before .before .before .before .before .args .alts .now in
     let j = c .before .before .loop .j in
-    let n : length (s .args .t1 .items) ≡ 8 = search (needs, length-mapped) in
-    let g = c .before .before .loop .inv .2 in
-    let e = part-step (s .args .t1 .count) (s .args .t1 .items) j noLiteral (omega arith) (omega arith) in
-    ⊎-elim (λ w. rw (w .2, w .3) (omega arith, simp length-set (c .before .before .loop .inv .1), laying-one _ _ _ _ _ _ g e (w .0 .taken) (omega arith)))
-    (λ w. rw (w .1, w .2) (omega arith, c .before .before .loop .inv .1, laying-none _ _ _ _ _ _ g e (w .0 .left))) (c .if1 .came)
+    let w = c .before .before .loop .inv in
+    let e = c .before .before .before .count-of .ensures in
+    ⊎-elim (λ v. rw (v .2, v .3) (omega arith, simp length-set (w .1), laying-one _ _ _ _ _ _ (w .2) (alts-step alts j _ e _ (c .before .loop-test .taken) (v .1 .ensures)) (v .0 .taken) (omega (arith, w .2 .few))))
+    (λ v. rw (v .1, v .2) (omega arith, w .1, laying-none _ _ _ _ _ _ (w .2) (alts-step alts j _ e _ (c .before .loop-test .taken) refl) (v .0 .left))) (c .if1 .came)
 
 same-length : tie.Need-same-length Inv-loop μ-loop
-same-length c = c .before .loop .inv .1 ∙ sym (c .before .before .pre .1)
+same-length c = c .before .loop .inv .1 ∙ sym (c .before .before .before .before .before .pre .1)
 
 returns : tie.Need-returns Inv-loop μ-loop
-unfolding setsIn
 returns c =
-    let s = c .before .before in
-    let n : length (s .args .t1 .items) ≡ 8 = search (needs, length-mapped) in
-    (omega arith, laying-end _ _ _ _ _ (c .before .loop .inv .2) (part-end (s .args .t1 .count) (s .args .t1 .items) (c .before .loop .j) (omega arith) (omega arith)))
+    let w = c .before .loop .inv in
+    (omega (arith, w .2 .few), laying-end _ _ _ _ _ (w .2) (alts-end _ _ _ (c .before .before .count-of .ensures) (c .loop-test .left)))
 
 pub lay-others-spec : {M : Type 1} → statement M
 lay-others-spec =
@@ -84,9 +79,9 @@ lay-others-spec =
     (tie.spec
     Inv-loop
     μ-loop
+    count-of-requires
     loop-holds
-    mul-a
-    element-copy-out-a
+    set-at-requires
     mul-row
     mul-row-2
     slice-write-row

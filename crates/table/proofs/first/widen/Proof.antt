@@ -1,13 +1,13 @@
--- `first::widen` meets its contract. Assumes nothing.
+-- `table::first::widen` meets its contract. Assumes nothing.
 use mathlib.Core.Path.{sym, ap}
 use mathlib.Core.Bool.{Bool}
-use borrow.Author.Needs.{needs}
 use Rattle.sheet.specs.Literals as L
 use Rattle.sheet.specs.Lists.{keep}
-use Rattle.sheet.specs.Decoded.{setsIn}
+use Rattle.sheet.specs.Rows.{setsRow}
 use Rattle.table.specs.Start.{candidates}
 use Rattle.table.specs.Reads.{clauseOf}
 use Rattle.table.proofs.Growing.{puts-is}
+use borrow.Author.Needs.{needs}
 use Rattle.table.proofs.first.widen.Statement.{statement}
 use Rattle.table.proofs.first.widen.Tie as tie
 
@@ -22,9 +22,9 @@ same-length-2 c = search needs
 
 returns : tie.Need-returns
 returns c =
-    let s = c .before .before .before .before .before .before .before .before .before .before in
+    let s = c .before .before .before .before .before .before .before .before .before .before .before in
     puts-is _ _ _ _ _ _ _ _
-    (sym (ap (λ (b : Bool). keep L.consistent (candidates (clauseOf b (setsIn (s .args .alts))) (s .args .entry))) (c .before .before .before .before .before .before .before .if1 .taken)))
+    (sym (ap (λ (b : Bool). keep L.consistent (candidates (clauseOf b (setsRow (s .args .alts .now))) (s .args .entry))) (c .before .before .before .before .before .before .before .if1 .taken)))
     (c .before .before .before .before .widen-oneof .ensures)
 
 widen-or-requires : tie.Need-widen-or-requires
@@ -38,9 +38,9 @@ same-length-4 c = search needs
 
 returns-2 : tie.Need-returns-2
 returns-2 c =
-    let s = c .before .before .before .before .before .before .before .before .before .before in
+    let s = c .before .before .before .before .before .before .before .before .before .before .before in
     puts-is _ _ _ _ _ _ _ _
-    (sym (ap (λ (b : Bool). keep L.consistent (candidates (clauseOf b (setsIn (s .args .alts))) (s .args .entry))) (c .before .before .before .before .before .before .before .if1 .left)))
+    (sym (ap (λ (b : Bool). keep L.consistent (candidates (clauseOf b (setsRow (s .args .alts .now))) (s .args .entry))) (c .before .before .before .before .before .before .before .if1 .left)))
     (c .before .before .before .before .widen-or .ensures)
 
 pub widen-spec : {M : Type 1} → statement M

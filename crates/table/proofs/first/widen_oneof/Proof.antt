@@ -1,15 +1,13 @@
--- `first::widen_oneof` meets its contract. The invariant: the alternatives from i on give the whole. Assumes nothing.
-use mathlib.Core.Path.{_≡_, sym, _∙_}
+-- `table::first::widen_oneof` meets its contract. The invariant: the alternatives from i on give the whole. Assumes nothing.
+use mathlib.Core.Path.{sym, _∙_}
 use Prim.Native.Nat.{_≤_, _-_}
 use native.Mathlib.Omega.{arith}
-use lib.ListN.{length}
-use lib.Seq.{length-take-le}
 use borrow.Author.Needs.{needs}
-use Rattle.sheet.proofs.Prefixes.{part-end, length-mapped}
 use Rattle.sheet.specs.Literals as L
 use Rattle.sheet.specs.Lists.{keep}
-use Rattle.sheet.specs.Decoded.{setsIn}
+use Rattle.sheet.specs.Rows.{setsRow}
 use Rattle.table.specs.Start.{candidates, oneOf}
+use Rattle.table.proofs.ClauseRows.{length-alts, alts-end}
 use Rattle.table.proofs.Choosing.{waysFrom, ways-start, ways-step, ways-end}
 use Rattle.table.proofs.Pads.{holds-trues-long, holds-falses-long, held-own}
 use Rattle.table.proofs.Growing.{Going, going-start, going-on, going-full, going-end}
@@ -19,16 +17,19 @@ use Rattle.table.proofs.first.widen_oneof.Tie as tie
 abbrev Inv-loop : tie.InvT-loop
 Inv-loop alts entry trues₀ falses₀ k count sum₀ i₀ trues falses sum i =
     (i ≤ count)
-    × Going (keep L.consistent (candidates (oneOf (setsIn alts)) entry)) k trues₀ falses₀ (keep L.consistent (waysFrom (setsIn alts) entry i)) sum trues falses
+    × Going (keep L.consistent (candidates (oneOf (setsRow alts)) entry)) k trues₀ falses₀ (keep L.consistent (waysFrom (setsRow alts) entry i)) sum trues falses
 
 abbrev μ-loop : tie.MeasureT-loop
 μ-loop alts entry trues₀ falses₀ k count sum₀ i₀ trues falses sum i = count - i
 
+count-of-requires : tie.Need-count-of-requires Inv-loop μ-loop
+count-of-requires c κs = search needs
+
 loop-holds : tie.Need-loop-holds Inv-loop μ-loop
-loop-holds c = (omega arith, going-start _ _ _ _ _ (ways-start _ _) (c .before .before .pre .1))
+loop-holds c = (omega arith, going-start _ _ _ _ _ (ways-start _ _) (c .before .before .before .before .pre .1))
 
 widen-one-requires : tie.Need-widen-one-requires Inv-loop μ-loop
-widen-one-requires c κs = ((c .before .before .before .before .before .before .pre .0, c .before .before .loop-test .taken), held-own _ _ _ _ (c .before .before .before .loop .inv .1 .held))
+widen-one-requires c κs = ((c .before .before .before .before .before .before .before .before .pre .0, omega arith), held-own _ _ _ _ (c .before .before .before .loop .inv .1 .held))
 
 enum-known-m : tie.Need-enum-known-m Inv-loop μ-loop
 enum-known-m c = search needs
@@ -40,14 +41,10 @@ same-length : tie.Need-same-length Inv-loop μ-loop
 same-length c = c .before .before .before .before .before .before .widen-one .kept .1 .1 .1 .0 ∙ holds-trues-long _ _ _ _ _ (c .before .before .before .before .before .before .before .before .before .before .loop .inv .1 .held)
 
 same-length-2 : tie.Need-same-length-2 Inv-loop μ-loop
-same-length-2 c = c .before .before .before .before .before .before .widen-one .kept .1 .1 .1 .1 .0 ∙ holds-falses-long _ _ _ _ _ (c .before .before .before .before .before .before .before .before .before .before .loop .inv .1 .held) ∙ sym (holds-falses-long _ _ _ _ _ (c .before .before .before .before .before .before .before .before .before .before .before .before .before .pre .1))
+same-length-2 c = c .before .before .before .before .before .before .widen-one .kept .1 .1 .1 .1 .0 ∙ holds-falses-long _ _ _ _ _ (c .before .before .before .before .before .before .before .before .before .before .loop .inv .1 .held) ∙ sym (holds-falses-long _ _ _ _ _ (c .before .before .before .before .before .before .before .before .before .before .before .before .before .before .before .pre .1))
 
 returns : tie.Need-returns Inv-loop μ-loop
-unfolding setsIn
-returns c =
-    let s = c .before .before .before .before .before .before .before .before .before .before .before .before .before in
-    let n : length (s .args .alts .items) ≡ 8 = search (needs, length-mapped) in
-    going-full _ _ _ _ _ _ _ _ _ _ _ _ _ (c .before .before .before .before .before .before .before .before .before .before .loop .inv .1) (ways-step _ _ _ (omega (arith, length-take-le (s .args .alts .count) (s .args .alts .items) (omega arith)))) (c .before .before .before .before .before .before .widen-one .ensures) (c .enum-told .given .1)
+returns c = going-full _ _ _ _ _ _ _ _ _ _ _ _ _ (c .before .before .before .before .before .before .before .before .before .before .loop .inv .1) (ways-step _ _ _ (omega (arith, length-alts (c .before .before .before .before .before .before .before .before .before .before .before .before .before .before .before .args .alts .now)))) (c .before .before .before .before .before .before .widen-one .ensures) (c .enum-told .given .1)
 
 add-i : tie.Need-add-i Inv-loop μ-loop
 add-i c = search needs
@@ -56,24 +53,16 @@ loop-less : tie.Need-loop-less Inv-loop μ-loop
 loop-less c = search needs
 
 loop-again : tie.Need-loop-again Inv-loop μ-loop
-unfolding setsIn
-loop-again c =
-    let s = c .before .before .before .before .before .before .before .before .before .before .before .before .before .before in
-    let n : length (s .args .alts .items) ≡ 8 = search (needs, length-mapped) in
-    (omega arith, going-on _ _ _ _ _ _ _ _ _ _ _ _ _ (c .before .before .before .before .before .before .before .before .before .before .before .loop .inv .1) (ways-step _ _ _ (omega (arith, length-take-le (s .args .alts .count) (s .args .alts .items) (omega arith)))) (c .before .before .before .before .before .before .before .widen-one .ensures) _ (c .before .m .given .1))
+loop-again c = (omega arith, going-on _ _ _ _ _ _ _ _ _ _ _ _ _ (c .before .before .before .before .before .before .before .before .before .before .before .loop .inv .1) (ways-step _ _ _ (omega (arith, length-alts (c .before .before .before .before .before .before .before .before .before .before .before .before .before .before .before .before .args .alts .now)))) (c .before .before .before .before .before .before .before .widen-one .ensures) _ (c .before .m .given .1))
 
 same-length-3 : tie.Need-same-length-3 Inv-loop μ-loop
 same-length-3 c = holds-trues-long _ _ _ _ _ (c .before .loop .inv .1 .held)
 
 same-length-4 : tie.Need-same-length-4 Inv-loop μ-loop
-same-length-4 c = holds-falses-long _ _ _ _ _ (c .before .loop .inv .1 .held) ∙ sym (holds-falses-long _ _ _ _ _ (c .before .before .before .before .pre .1))
+same-length-4 c = holds-falses-long _ _ _ _ _ (c .before .loop .inv .1 .held) ∙ sym (holds-falses-long _ _ _ _ _ (c .before .before .before .before .before .before .pre .1))
 
 returns-2 : tie.Need-returns-2 Inv-loop μ-loop
-unfolding setsIn
-returns-2 c =
-    let s = c .before .before .before .before in
-    let n : length (s .args .alts .items) ≡ 8 = search (needs, length-mapped) in
-    going-end _ _ _ _ _ _ _ _ (c .before .loop .inv .1) (ways-end _ _ _ (part-end (s .args .alts .count) (s .args .alts .items) (c .before .loop .i) (omega arith) (omega arith)))
+returns-2 c = going-end _ _ _ _ _ _ _ _ (c .before .loop .inv .1) (ways-end _ _ _ (alts-end _ _ _ (c .before .before .count-of .ensures) (c .loop-test .left)))
 
 pub widen-oneof-spec : {M : Type 1} → statement M
 widen-oneof-spec =
@@ -81,6 +70,7 @@ widen-oneof-spec =
     (tie.spec
     Inv-loop
     μ-loop
+    count-of-requires
     loop-holds
     widen-one-requires
     enum-known-m

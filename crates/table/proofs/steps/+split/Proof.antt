@@ -8,10 +8,10 @@ use borrow.Author.Needs.{needs}
 use Rattle.sheet.specs.declared.Effect.{Effect}
 use Rattle.sheet.specs.Literals.{next as nextOf}
 use Rattle.table.specs.Step.{pieces, image}
-use Rattle.table.specs.Moves.{effectsAt}
+use Rattle.sheet.specs.Rows.{effectsAt}
 use Rattle.table.specs.Carry.{Splits}
 use Rattle.table.proofs.Carrying.{settles-puts, settles-leaf, past-part}
-use Rattle.table.proofs.EffectRows.{effects-step, effects-end}
+use Rattle.sheet.proofs.RowLaws.{effects-step, effects-end}
 use Rattle.table.proofs.Pads.{holds-trues-long, holds-falses-long, held-own}
 use Rattle.table.proofs.Growing.{Going, going-start, going-on, going-full, going-end}
 use Rattle.table.proofs.Walks.{going-at, Turn, turn-start, turn-on, turn-less, turn-most, partsFrom, parts-start, parts-turn, parts-end}

@@ -2,7 +2,7 @@
 use Prim.Native.Nat.{_<_}
 use native.Mathlib.Omega.{arith}
 use Rattle.table.proofs.Carrying.{carried-start, settles-puts, settles-leaf}
-use Rattle.table.proofs.EffectRows.{effects-end}
+use Rattle.sheet.proofs.RowLaws.{effects-end}
 use borrow.Author.Needs.{needs}
 use Rattle.table.proofs.steps.branch.Statement.{statement}
 use Rattle.table.proofs.steps.branch.Tie as tie

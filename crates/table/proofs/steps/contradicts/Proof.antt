@@ -9,8 +9,8 @@ use Rattle.sheet.specs.declared.Literals.{Literals}
 use Rattle.sheet.specs.declared.Effect.{Effect}
 use Rattle.sheet.specs.Lists.{anyOf}
 use Rattle.table.specs.Pairs.{opposed, contradicts as contradictsIn}
-use Rattle.table.specs.Moves.{effectsAt}
-use Rattle.table.proofs.EffectRows.{effects-step, effects-end}
+use Rattle.sheet.specs.Rows.{effectsAt}
+use Rattle.sheet.proofs.RowLaws.{effects-step, effects-end}
 use Rattle.table.proofs.steps.contradicts.Statement.{statement}
 use Rattle.table.proofs.steps.contradicts.Tie as tie
 

@@ -4,16 +4,12 @@ use Prim.Native.Nat.{_-_}
 use borrow.Author.Needs.{needs}
 use lib.ListN.{drop}
 use Rattle.sheet.specs.Lists.{anyOf}
-use Rattle.table.specs.Moves.{effectsAt}
+use Rattle.sheet.specs.Rows.{effectsAt}
 use Rattle.table.specs.Pairs.{opposed as opposedBy}
 use Rattle.table.proofs.Turns.{any-stop, any-on}
-use Rattle.table.proofs.EffectRows.{effects-step, effects-end}
+use Rattle.sheet.proofs.RowLaws.{effects-step, effects-end}
 use Rattle.table.proofs.steps.opposes.Statement.{statement}
 use Rattle.table.proofs.steps.opposes.Tie as tie
-use Rattle.table.proofs.steps.opposes.Reads as reads
-use Rattle.table.proofs.steps.opposes.Lts as lts
-use Rattle.table.proofs.effects.effect_at.Reads as effect-at-reads
-use Rattle.table.proofs.steps.opposed.Reads as opposed-reads
 
 abbrev Inv-loop : tie.InvT-loop
 Inv-loop effects size e from d j₀ j = anyOf (opposedBy e d) (drop from (effectsAt size effects)) ≡ anyOf (opposedBy e d) (drop j (effectsAt size effects))

@@ -6,10 +6,10 @@ use native.Mathlib.Omega.{arith}
 use borrow.Author.Needs.{needs}
 use borrow.Author.Tests.{not-true, not-false}
 use Rattle.sheet.specs.declared.Effect.{Effect}
-use Rattle.table.specs.Moves.{effectsAt}
+use Rattle.sheet.specs.Rows.{effectsAt}
 use Rattle.table.specs.Carry.{Splits, Settles}
 use Rattle.table.proofs.Carrying.{settles-start, on-within, on-clash}
-use Rattle.table.proofs.EffectRows.{effects-step}
+use Rattle.sheet.proofs.RowLaws.{effects-step}
 use Rattle.table.proofs.steps.settle.Statement.{statement}
 use Rattle.table.proofs.steps.settle.Tie as tie
 

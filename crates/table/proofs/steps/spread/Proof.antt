@@ -11,7 +11,7 @@ use Rattle.sheet.specs.Literals.{consistent}
 use Rattle.sheet.specs.Lists.{collect}
 use Rattle.table.specs.Step.{pieces, image}
 use Rattle.table.specs.Slots.{entriesOf}
-use Rattle.table.specs.Moves.{effectsAt}
+use Rattle.sheet.specs.Rows.{effectsAt}
 use Rattle.table.proofs.Pads.{holds-trues-long, holds-falses-long, held-own}
 use Rattle.table.proofs.Growing.{Going, going-start, going-on, going-full, going-end}
 use Rattle.table.proofs.Carrying.{all-here}

@@ -2,15 +2,10 @@
 use mathlib.Core.Path.{sym, _∙_}
 use borrow.Author.Needs.{needs}
 use borrow.Author.Tests.{not-true, not-false}
-use Rattle.table.specs.Moves.{actionBy}
+use Rattle.sheet.specs.Rows.{actionBy}
 use Rattle.table.proofs.Advancing.{fresh-held, lent-steady, lent-unsure, lent-unclear, lent-full, lent-to}
 use Rattle.table.proofs.steps.step_into.Statement.{statement}
 use Rattle.table.proofs.steps.step_into.Tie as tie
-use Rattle.table.proofs.steps.step_into.Reads as reads
-use Rattle.table.proofs.steps.step_into.Lts as lts
-use Rattle.table.proofs.steps.spread.Reads as spread-reads
-use Rattle.table.proofs.steps.sure.Reads as sure-reads
-use Rattle.table.proofs.steps.unclear.Reads as unclear-reads
 
 sure-requires : tie.Need-sure-requires
 sure-requires c κs = search needs

@@ -5,7 +5,7 @@ use native.Mathlib.Omega.{arith}
 use borrow.Author.Needs.{needs}
 use lib.ListN.{drop}
 use Rattle.table.specs.Pairs.{contradicts}
-use Rattle.table.specs.Moves.{effectsAt}
+use Rattle.sheet.specs.Rows.{effectsAt}
 use Rattle.sheet.specs.Lists.{anyOf}
 use Rattle.table.specs.Slots.{entriesOf}
 use Rattle.table.proofs.Turns.{any-stop, any-on, entries-next, entries-done}

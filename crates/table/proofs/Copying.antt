@@ -1,0 +1,30 @@
+-- Numbers copied into others, one after the other. Assumes nothing.
+use mathlib.Core.Path.{_≡_, refl, sym, ap, _∙_}
+use mathlib.Core.List.{List}
+use Prim.Native.Nat.{ℕ, _+_, _≤_, _<_, zero-le}
+use native.Mathlib.Numerals.{add-one}
+use native.Mathlib.Omega.{arith}
+use lib.ListN.{length, set, getD, length-set}
+use lib.Seq.{paste, paste-zero, paste-suc}
+
+-- ---- a copy of the first i members of s, from `at` on
+pub record Copied (d : List ℕ) (at : ℕ) (s : List ℕ) (i : ℕ) (e : List ℕ) : Type 0 where
+  pub upto : i ≤ length s
+  pub long : length e ≡ length d
+  pub is : e ≡ paste d at s i
+
+pub copied-start : (d : List ℕ) (at : ℕ) (s : List ℕ) → Copied d at s 0 d
+copied-start d at s = record { upto = zero-le; long = refl; is = paste-zero d at s }
+
+pub copied-step : (d : List ℕ) (at : ℕ) (s : List ℕ) (i : ℕ) (e : List ℕ) → Copied d at s i e → at + length s ≤ length d → i < length s
+    → Copied d at s (i + 1) (set e (at + i) (getD s i 0))
+copied-step d at s i e h fits lt = record {
+  upto = omega arith;
+  long = length-set e (at + i) (getD s i 0) ∙ h .long;
+  is =
+      ap (λ (z : List ℕ). set z (at + i) (getD s i 0)) (h .is) ∙ paste-suc d at s i 0 (omega arith) lt
+      ∙ ap (λ (k : ℕ). paste d at s k) (sym (add-one i));
+}
+
+pub copied-end : (d : List ℕ) (at : ℕ) (s : List ℕ) (i : ℕ) (e : List ℕ) → Copied d at s i e → length s ≤ i → e ≡ paste d at s (length s)
+copied-end d at s i e h past = let same : i ≡ length s = omega (arith, h .upto) in h .is ∙ ap (λ (k : ℕ). paste d at s k) same
