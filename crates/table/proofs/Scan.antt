@@ -12,7 +12,7 @@ use Rattle.table.specs.declared.slots.Found.the-variants.{At, Nothing}
 use Rattle.sheet.specs.Lists.{anyOf}
 use Rattle.table.specs.Slots.{shifted, lastOf, entriesOf}
 use Rattle.sheet.specs.Literals.{noLiteral}
-use Rattle.table.proofs.Pads.{length-entriesOf, getD-entriesOf}
+use Rattle.table.proofs.Pads.{length-entriesOf, getD-entriesOf, take-entriesOf}
 
 -- one member more at the end
 last-more : (f : Literals → Bool) (xs : List Literals) (x : Literals) → lastOf f (xs ++ x ∷ []) ≡ cond (f x) (At (length xs)) (lastOf f xs)
@@ -70,3 +70,7 @@ scan-start f n ts fs = ap (lastOf f) (take-all n (entriesOf n ts fs) (omega (ari
 pub scan-end : (f : Literals → Bool) (n : ℕ) (ts fs : List ℕ) (i : ℕ) → i ≤ 0 → lastOf f (take i (entriesOf n ts fs)) ≡ Nothing
 unfolding lastOf
 scan-end f n ts fs i h = let z : i ≡ 0 = omega arith in ap (λ (k : ℕ). lastOf f (take k (entriesOf n ts fs))) z
+
+-- none of the first i
+pub none-before : (f : Literals → Bool) (n : ℕ) (ts fs : List ℕ) (i : ℕ) → i ≤ n → lastOf f (take i (entriesOf n ts fs)) ≡ Nothing → anyOf f (entriesOf i ts fs) ≡ false
+none-before f n ts fs i h e = ap (anyOf f) (sym (take-entriesOf i n ts fs h)) ∙ found-none f (take i (entriesOf n ts fs)) Nothing (sym e) refl

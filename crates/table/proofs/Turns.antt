@@ -1,5 +1,5 @@
 -- What a turn of a loop over a list adds to a test of its members; the entries of two arrays, read from the front. Assumes nothing.
-use mathlib.Core.Path.{_≡_, sym, ap, _∙_}
+use mathlib.Core.Path.{_≡_, refl, sym, ap, _∙_}
 use mathlib.Core.Bool.{Bool, true, false, not, _&&_, _||_}
 use mathlib.Core.List.{List, [], _∷_}
 use Prim.Native.Nat.{ℕ, suc, _+_, _≤_, _<_}
@@ -34,6 +34,24 @@ module _ {A : Type 0} (f : A → Bool) (x : A) (xs ys : List A) (b : Bool) (q : 
 
   pub any-on : b ≡ false → anyOf f xs ≡ anyOf f ys
   any-on e = any-is ∙ ap (λ (t : Bool). t || anyOf f ys) e
+
+  -- a scan that goes on to the end, and t what it found before
+  pub any-mark : (t : Bool) → b ≡ true → (t || anyOf f xs) ≡ true
+  any-mark t e = ap (λ (r : Bool). t || r) (sym (any-stop e)) ∙ yes t
+    where
+      yes : (r : Bool) → (r || true) ≡ true
+      yes true = refl
+      yes false = refl
+
+  pub any-keep : (t : Bool) → b ≡ false → (t || anyOf f xs) ≡ (t || anyOf f ys)
+  any-keep t e = ap (λ (r : Bool). t || r) (any-on e)
+
+pub any-end : {A : Type 0} (f : A → Bool) (xs : List A) (t : Bool) → xs ≡ [] → (t || anyOf f xs) ≡ t
+any-end f xs t e = ap (λ (r : List _). t || anyOf f r) e ∙ alone t
+  where
+    alone : (r : Bool) → (r || false) ≡ r
+    alone true = refl
+    alone false = refl
 
 -- ---- the entries from i on
 module _ (n : ℕ) (ts fs : List ℕ) (i : ℕ) where

@@ -49,25 +49,43 @@ pub(crate) fn last_within(trues: &[u32], falses: &[u32], n: usize, l: Literals) 
     Found::Nothing
 }
 
-// None of the entries before the result contains l. The result is the first that does, n if there is none; correct is any before it, and
-// the later it is, the less the pass of `remove` goes over. The scan has no way out before its end.
-pub(crate) fn first_above(trues: &[u32], falses: &[u32], n: usize, l: Literals) -> usize
+// Some of the first n entries contains l. The scan has no way out before its end, so that the compiler can compare several at a time.
+pub(crate) fn some_above(trues: &[u32], falses: &[u32], n: usize, l: Literals) -> bool
     requires { ⌜ (n ≤ length (now trues)) × (n ≤ length (now falses)) ⌝ }
-    ensures { λ r. ⌜ (r ≤ n) × (anyOf (λ e. L.within l e) (entriesOf r (now (trues .entry)) (now (falses .entry))) ≡ false) ⌝ }
+    ensures { λ r. ⌜ r ≡ anyOf (λ e. L.within l e) (entriesOf n (now (trues .entry)) (now (falses .entry))) ⌝ }
 {
-    let mut found = n;
-    let mut i = n;
-    while 0 < i {
-        i -= 1;
+    let mut found = false;
+    let mut i: usize = 0;
+    while i < n {
         let e = Literals {
             trues: trues[i],
             falses: falses[i],
         };
         if within(l, e) {
-            found = i;
+            found = true;
         }
+        i += 1;
     }
     found
+}
+
+// The first of the n entries that contains l, n if there is none. The contract says what `remove` needs: none before it does.
+pub(crate) fn first_above(trues: &[u32], falses: &[u32], n: usize, l: Literals) -> usize
+    requires { ⌜ (n ≤ length (now trues)) × (n ≤ length (now falses)) ⌝ }
+    ensures { λ r. ⌜ (r ≤ n) × (anyOf (λ e. L.within l e) (entriesOf r (now (trues .entry)) (now (falses .entry))) ≡ false) ⌝ }
+{
+    let mut i: usize = 0;
+    while i < n {
+        let e = Literals {
+            trues: trues[i],
+            falses: falses[i],
+        };
+        if within(l, e) {
+            return i;
+        }
+        i += 1;
+    }
+    n
 }
 
 // The entries that contain l go; the others move up in order, and the slots that come free are zero. The result is how many are left.
@@ -75,6 +93,9 @@ pub(crate) fn remove(trues: &mut [u32], falses: &mut [u32], n: usize, l: Literal
     requires { ⌜ Held (length (now trues)) n (now trues) (now falses) ⌝ }
     ensures { λ r. ⌜ Holds (length (now (trues .entry))) (left (entriesOf n (now (trues .entry)) (now (falses .entry))) l) r (now (trues .exit)) (now (falses .exit)) ⌝ }
 {
+    if !some_above(trues, falses, n, l) {
+        return n;
+    }
     let first = first_above(trues, falses, n, l);
     let mut i = first;
     let mut k = first;

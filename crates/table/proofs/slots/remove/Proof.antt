@@ -1,12 +1,16 @@
 -- `table::slots::remove` meets its contract. The invariant: the slots below i are done. Assumes nothing.
-use mathlib.Core.Path.{sym, ap, _∙_}
+use mathlib.Core.Path.{sym, ap, subst, _∙_}
 use mathlib.Core.Bool.{not}
+use mathlib.Core.List.{List}
 use mathlib.Core.Logic.{⊎-elim}
 use Prim.Native.Nat.{_-_}
 use native.Mathlib.Omega.{arith}
-use lib.ListN.{length-set}
+use lib.ListN.{length, length-set}
 use borrow.Author.Needs.{needs}
+use borrow.Author.Tests.{not-true}
+use Rattle.sheet.specs.declared.Literals.{Literals}
 use Rattle.sheet.specs.Literals.{within}
+use Rattle.table.specs.Slots.{Holds}
 use Rattle.table.proofs.Pads.{holds-falses-long}
 use Rattle.table.proofs.Compact.{none-goes, Moved, moved-is, moved-start, moved-gone, moved-kept, moved-end}
 use Rattle.table.proofs.slots.remove.Statement.{statement}
@@ -18,29 +22,48 @@ Inv-loop trues₀ falses₀ n l first i₀ k₀ trues falses i k = Moved (λ e. 
 abbrev μ-loop : tie.MeasureT-loop
 μ-loop trues₀ falses₀ n l first i₀ k₀ trues falses i k = n - i
 
+some-above-requires : tie.Need-some-above-requires Inv-loop μ-loop
+some-above-requires c κs =
+    let h = c .before .before .before .before .pre in
+    let q = holds-falses-long _ _ _ _ _ h in
+    (h .room, omega (arith, h .room))
+
+same-length : tie.Need-same-length Inv-loop μ-loop
+same-length c = search needs
+
+same-length-2 : tie.Need-same-length-2 Inv-loop μ-loop
+same-length-2 c = search needs
+
+returns : tie.Need-returns Inv-loop μ-loop
+returns c =
+    let o = c .before .before .before .before .before .before in
+    let a = o .args in
+    subst (λ (x : List Literals). Holds (length (a .trues .now)) x (a .n) (a .trues .now) (a .falses .now))
+    (sym (none-goes (λ e. within (a .l) e) _ (sym (c .before .some-above .ensures) ∙ not-true _ (c .if1 .taken)))) (o .pre)
+
 first-above-requires : tie.Need-first-above-requires Inv-loop μ-loop
 first-above-requires c κs =
-    let h = c .before .before .before .before .pre in
+    let h = c .before .before .before .before .before .before .before .before .pre in
     let q = holds-falses-long _ _ _ _ _ h in
     (h .room, omega (arith, h .room))
 
 loop-holds : tie.Need-loop-holds Inv-loop μ-loop
 loop-holds c =
-    let o = c .before .before .before .before .before in
+    let o = c .before .before .before .before .before .before .before .before .before in
     let e = c .first-above .ensures in
     moved-start _ _ _ _ (o .pre) _ (e .0) (none-goes (λ e. within (o .args .l) e) _ (e .1))
 
-mul-t14 : tie.Need-mul-t14 Inv-loop μ-loop
-mul-t14 c = omega arith
+mul-t20 : tie.Need-mul-t20 Inv-loop μ-loop
+mul-t20 c = omega arith
 
-slice-read-t16 : tie.Need-slice-read-t16 Inv-loop μ-loop
-slice-read-t16 c = omega arith
+slice-read-t22 : tie.Need-slice-read-t22 Inv-loop μ-loop
+slice-read-t22 c = omega arith
 
-mul-t17 : tie.Need-mul-t17 Inv-loop μ-loop
-mul-t17 c = omega arith
+mul-t23 : tie.Need-mul-t23 Inv-loop μ-loop
+mul-t23 c = omega arith
 
-slice-read-t19 : tie.Need-slice-read-t19 Inv-loop μ-loop
-slice-read-t19 c = omega arith
+slice-read-t25 : tie.Need-slice-read-t25 Inv-loop μ-loop
+slice-read-t25 c = omega arith
 
 mul-trues : tie.Need-mul-trues Inv-loop μ-loop
 mul-trues c = omega arith
@@ -80,22 +103,22 @@ loop-less c = omega arith
 
 loop-again : tie.Need-loop-again Inv-loop μ-loop
 loop-again c =
-    let h = c .before .before .before .before .before .before .before .before .before .before .before .pre in
+    let h = c .before .before .before .before .before .before .before .before .before .before .before .before .before .before .before .pre in
     let g = c .before .before .before .before .before .loop .inv in
     let w = c .before .within .ensures in
     ⊎-elim
     (λ v. moved-is _ _ _ _ _ _ _ _ _ _ _ (v .1) (v .2) (v .3) (moved-kept _ _ _ _ h _ _ _ _ g (omega arith) (ap not (sym w) ∙ v .0 .taken)))
     (λ v. moved-is _ _ _ _ _ _ _ _ _ _ _ (v .1) (v .2) (v .3) (moved-gone _ _ _ _ h _ _ _ _ g (omega arith) (ap not (sym w) ∙ v .0 .left)))
-    (c .if1 .came)
+    (c .if2 .came)
 
-same-length : tie.Need-same-length Inv-loop μ-loop
-same-length c = c .before .loop .inv .trues-long
+same-length-3 : tie.Need-same-length-3 Inv-loop μ-loop
+same-length-3 c = c .before .loop .inv .trues-long
 
-same-length-2 : tie.Need-same-length-2 Inv-loop μ-loop
-same-length-2 c = c .before .loop .inv .falses-long ∙ sym (holds-falses-long _ _ _ _ _ (c .before .before .before .before .before .before .before .pre))
+same-length-4 : tie.Need-same-length-4 Inv-loop μ-loop
+same-length-4 c = c .before .loop .inv .falses-long ∙ sym (holds-falses-long _ _ _ _ _ (c .before .before .before .before .before .before .before .before .before .before .before .pre))
 
-returns : tie.Need-returns Inv-loop μ-loop
-returns c = moved-end _ _ _ _ (c .before .before .before .before .before .before .before .pre) _ _ _ _ (c .before .loop .inv) (c .loop-test .left)
+returns-2 : tie.Need-returns-2 Inv-loop μ-loop
+returns-2 c = moved-end _ _ _ _ (c .before .before .before .before .before .before .before .before .before .before .before .pre) _ _ _ _ (c .before .loop .inv) (c .loop-test .left)
 
 pub remove-spec : {M : Type 1} → statement M
 remove-spec =
@@ -103,12 +126,16 @@ remove-spec =
     (tie.spec
     Inv-loop
     μ-loop
+    some-above-requires
+    same-length
+    same-length-2
+    returns
     first-above-requires
     loop-holds
-    mul-t14
-    slice-read-t16
-    mul-t17
-    slice-read-t19
+    mul-t20
+    slice-read-t22
+    mul-t23
+    slice-read-t25
     mul-trues
     slice-write-trues
     mul-falses
@@ -122,6 +149,6 @@ remove-spec =
     add-i
     loop-less
     loop-again
-    same-length
-    same-length-2
-    returns)
+    same-length-3
+    same-length-4
+    returns-2)
