@@ -1,4 +1,4 @@
-//! Times the proved library beside its plain Rust twin, group by group. An argument names one group or one case.
+//! Times the proved library beside its plain Rust twin, group by group. An argument names one group, one case or one row.
 
 mod cases;
 mod measure;
@@ -66,7 +66,7 @@ fn main() {
     let mut sum = Sum::default();
     for group in &groups() {
         let whole = wanted.as_deref().map_or(true, |name| name == group.name);
-        let chosen = |case: &&Case| whole || wanted.as_deref() == Some(case.name);
+        let chosen = |case: &&Case| whole || wanted.as_deref().map_or(false, |name| name == case.name || name == label(case));
         let cases: Vec<&Case> = group.cases.iter().filter(chosen).collect();
         if !cases.is_empty() {
             show(group, &cases, &mut sum);
