@@ -543,7 +543,7 @@ fn refused_at(mark: Mark) -> Decoded
     }
 }
 
-// The sheet, its clauses and moves laid in the rows, or its first fault.
+// The sheet, its clauses, goal and moves laid in the rows, or its first fault.
 pub fn sheet_in(
     s: &[u8],
     ors: &mut [u32],

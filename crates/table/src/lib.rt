@@ -35,7 +35,7 @@ pub struct Pictured {
     pub clauses: usize,
 }
 
-// What a call on lent arrays gives: the answer, and how many entries the arrays have, 0 if refused.
+// What a call on lent arrays gives: the answer, and, if it is accepted, how many entries the arrays have.
 pub struct Counted {
     pub answer: Answer,
     pub count: usize,
