@@ -10,6 +10,7 @@ use sheet::Effect;
 use sheet::Literals;
 use sheet::masks;
 use sheet::rows::set_from;
+use sheet::rows::wide;
 ghost use mathlib.Core.Path.{_≡_};
 ghost use mathlib.Core.Bool.{true};
 ghost use mathlib.Core.List.{map};
@@ -325,13 +326,6 @@ pub fn step_into<'a, 'b, 'c>(
         Grown::To(k) => Stepped::To(k),
         Grown::Full => Stepped::Refused(21),
     }
-}
-
-// A number as a count.
-fn wide(x: u32) -> usize
-    ensures { λ r. ⌜ r ≡ x ⌝ }
-{
-    x as usize
 }
 
 // The step of a lent table by the move of a number, into arrays of zeros.
