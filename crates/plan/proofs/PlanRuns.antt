@@ -5,37 +5,74 @@ use Prim.Native.Nat.{ℕ, _+_, _≤_, _<_}
 use native.Mathlib.Numerals.{add-one}
 use native.Mathlib.Omega.{arith}
 use lib.Dec.{eqb}
-use lib.ListN.{length, getD, drop, length-append}
+use lib.ListN.{length, getD, drop, replicate, length-append}
 use lib.Seq.{getD-take, length-take-le}
 use Rattle.sheet.specs.declared.Plan.{Plan}
-use Rattle.sheet.specs.Lists.{allOf}
+use Rattle.sheet.specs.Lists.{allOf, pad}
 use Rattle.sheet.specs.Problem.{Action}
 use Rattle.sheet.specs.Decoded.{planIn}
 use Rattle.sheet.specs.Rows.{setsRow}
 use Rattle.sheet.proofs.Prefixes.{part-step, part-end}
 use Rattle.table.specs.declared.Table.{Table}
+use Rattle.table.specs.declared.Tabled.{Tabled}
 use Rattle.table.specs.declared.steps.Stepped.{Stepped}
 use Rattle.table.specs.declared.steps.Stepped.the-variants as moved
+use Rattle.table.specs.Minimal.{Outcome}
 use Rattle.table.specs.Step.{stepTable}
 use Rattle.table.specs.Slots.{entriesOf, entries}
 use Rattle.table.specs.Calls.{orGiven}
 use Rattle.table.specs.Moves.{lent, tabled}
+use Rattle.table.proofs.Pads.{length-pad}
 use Rattle.table.proofs.Started.{all-at}
 use Rattle.plan.specs.declared.Row.{Row}
 use Rattle.plan.specs.declared.Counts.{Counts}
 use Rattle.plan.specs.declared.Course.{Course}
+use Rattle.plan.specs.declared.Went.{Went}
 use Rattle.plan.specs.declared.Verdict as case
 use Rattle.plan.specs.Run.{inGoal, ended, endedBy, rowOf}
 use Rattle.plan.specs.Calls.{verdictOf}
-use Rattle.plan.specs.Course.{countsOf, noted, courseFrom}
+use Rattle.plan.specs.Course.{countsOf, countsIn, courseIn, noted, courseFrom}
 use Rattle.sheet.specs.Rows.{actionOf}
 use Rattle.plan.specs.Walks.{Runnable}
-use Rattle.plan.proofs.Courses.{Ending, note-row, taken, halted}
+use Rattle.plan.proofs.Courses.{Ending, note-row, taken, halted, stopped}
 use Rattle.plan.proofs.Beginning.{ready-after, came, refused-by}
 
+-- ---- what a step gave, as an answer with a table
+pub step-to : (t : Table) {r : Stepped} {us gs vs hs : List ℕ} {s : Tabled} → tabled t r us gs ≡ s → {k : ℕ} → r ≡ moved.To k → vs ≡ us → hs ≡ gs
+    → tabled t (moved.To k) vs hs ≡ s
+step-to t {us = us} {gs = gs} e {k} q p g = (λ j. tabled t (moved.To k) (p j) (g j)) ∙ sym (ap (λ (y : Stepped). tabled t y us gs) q) ∙ e
+
+pub step-stopped : (t : Table) {r : Stepped} (us gs : List ℕ) {s : Tabled} → tabled t r us gs ≡ s → {k : ℕ} → r ≡ moved.Refused k → tabled t (moved.Refused k) us gs ≡ s
+step-stopped t us gs e q = sym (ap (λ (y : Stepped). tabled t y us gs) q) ∙ e
+
+-- ---- a step in its place, on the table t: in the arrays lies the new table, or still t
+module _ (t : Table) (us gs : List ℕ) where
+  -- it gives what a step into other arrays gives
+  told-here : (r : Stepped) (o : Outcome) → tabled (lent (t .count) us gs) r us gs ≡ orGiven t o → tabled t r us gs ≡ orGiven t o
+  unfolding orGiven
+  told-here (moved.To k) o e = e
+  told-here (moved.Refused k) o e = sym (ap (orGiven t) (stopped t o _ k 0 e refl))
+
+  kept-here : (r : Stepped) (o : Outcome) → tabled (lent (t .count) us gs) r us gs ≡ orGiven t o → (k : ℕ) → r ≡ moved.Refused k → lent (t .count) us gs ≡ t
+  unfolding orGiven
+  kept-here r o e k q =
+      let f : tabled (lent (t .count) us gs) (moved.Refused k) us gs ≡ orGiven t o = ap (λ (y : Stepped). tabled (lent (t .count) us gs) y us gs) (sym q) ∙ e in
+      ap (λ (s : Tabled). s .table) f ∙ ap (λ (x : Outcome). orGiven t x .table) (stopped t o _ k 0 f refl)
+
+-- ---- the loop
 -- the moves from place i on
 abbrev pub left : Plan → List ℕ → ℕ → List Action
 left plan moves i = map (actionOf moves) (drop i (planIn plan))
+
+-- no row yet
+pub no-rows : {es cs : List ℕ} → es ≡ replicate 65 0 → cs ≡ replicate 65 0 → countsIn 0 es cs ≡ countsOf []
+unfolding countsOf pad
+no-rows p q = λ j. record { count = 0; entries = p j; clauses = q j }
+
+-- a run in arrays of zeros
+pub in-zeros : (w : Went) {ts fs es cs : List ℕ} → ts ≡ replicate 128 0 → fs ≡ replicate 128 0 → es ≡ replicate 65 0 → cs ≡ replicate 65 0
+    → courseIn w ts fs es cs ≡ courseIn w (replicate 128 0) (replicate 128 0) (replicate 65 0) (replicate 65 0)
+in-zeros w a b d e = λ j. courseIn w (a j) (b j) (d j) (e j)
 
 -- what is left of the plan gives, after the rows so far, what the whole gives
 pub record Going (plan : Plan) (moves goal : List ℕ) (whole : Course) (i : ℕ) (t : Table) (c : Counts) : Type 0 where
@@ -65,6 +102,11 @@ module _ {plan : Plan} {moves goal : List ℕ} {whole : Course} {i : ℕ} {t : T
   unfolding countsOf
   going-room = let e : c .count ≡ length (h .rows) = ap (λ (y : Counts). y .count) (h .counts-are) in omega (arith, h .most, h .can .most)
 
+  -- in arrays of 65
+  pub going-long : (length (c .entries) ≡ 65) × (length (c .clauses) ≡ 65)
+  unfolding countsOf
+  going-long = (ap (λ (y : Counts). length (y .entries)) (h .counts-are) ∙ length-pad 65 0 _, ap (λ (y : Counts). length (y .clauses)) (h .counts-are) ∙ length-pad 65 0 _)
+
   noted-rows : noted c (entries t) ≡ countsOf (h .rows ++ rowOf i (entries t) ∷ [])
   noted-rows = ap (λ (y : Counts). noted y (entries t)) (h .counts-are) ∙ note-row (h .rows) i (entries t) (omega (arith, h .most, h .can .most))
 
@@ -90,8 +132,11 @@ module _ {plan : Plan} {moves goal : List ℕ} {whole : Course} {i : ℕ} {t : T
         sym (ap (λ (p : List ℕ). courseFrom (setsRow goal) (h .rows) i (map (actionOf moves) p) (entries t)) (part-step (plan .count) (plan .numbers) i 0 lt (h .long)))
         ∙ h .onwards
 
-    module _ (r : Stepped) (us gs : List ℕ) (told : tabled t r us gs ≡ orGiven t (stepTable 128 (actionOf moves m) (entriesOf (t .count) (t .trues) (t .falses))))
+    module _ (r : Stepped) (us gs : List ℕ) (here : tabled (lent (t .count) us gs) r us gs ≡ orGiven t (stepTable 128 (actionOf moves m) (entriesOf (t .count) (t .trues) (t .falses))))
         {d : Counts} (ed : d ≡ noted c (entries t)) where
+      told : tabled t r us gs ≡ orGiven t (stepTable 128 (actionOf moves m) (entriesOf (t .count) (t .trues) (t .falses)))
+      told = told-here t us gs r _ here
+
       -- the step gave a table
       pub going-on : {k : ℕ} → r ≡ moved.To k → Going plan moves goal whole (i + 1) (lent k us gs) d
       going-on {k} e = record {
@@ -108,10 +153,10 @@ module _ {plan : Plan} {moves goal : List ℕ} {whole : Course} {i : ℕ} {t : T
       }
 
       -- the step was refused
-      pub going-halt : {k : ℕ} → r ≡ moved.Refused k → {v : case.Verdict} → v ≡ verdictOf (endedBy (eqb k 21) (i + 1) k) → Ending v t d ≡ whole
+      pub going-halt : {k : ℕ} → r ≡ moved.Refused k → {v : case.Verdict} → v ≡ verdictOf (endedBy (eqb k 21) (i + 1) k) → Ending v (lent (t .count) us gs) d ≡ whole
       going-halt {k} e ev =
           (λ j. record {
-            ran = record { verdict = (ev ∙ ap (λ (n : ℕ). verdictOf (endedBy (eqb k 21) n k)) (add-one i)) j; table = h .can .fits .ready .zeros j };
+            ran = record { verdict = (ev ∙ ap (λ (n : ℕ). verdictOf (endedBy (eqb k 21) n k)) (add-one i)) j; table = (kept-here t us gs r _ here k e ∙ h .can .fits .ready .zeros) j };
             counts = (ed ∙ noted-rows) j;
           })
           ∙ sym (halted (setsRow goal) (h .rows) i (actionOf moves m) (left plan moves (i + 1)) (entries t) k (refused-by (h .can .fits) below r us gs told e i 0))

@@ -12,9 +12,11 @@ use Rattle.table.specs.Minimal.{Described, Outcome}
 use Rattle.table.specs.Picture.{picture}
 use Rattle.table.specs.Counts.{sizeOf}
 use Rattle.table.specs.Slots.{entries, tableOf}
+use Rattle.table.specs.Moves as M
 use Rattle.plan.specs.declared.Row.{Row}
 use Rattle.plan.specs.declared.Counts.{Counts}
 use Rattle.plan.specs.declared.Course.{Course}
+use Rattle.plan.specs.declared.Went.{Went}
 use Rattle.plan.specs.Run.{runFrom, lastTable, rowsFrom}
 use Rattle.plan.specs.Calls.{verdictOf, refusedRun, planned, plannedRows, runOf, rowsOf}
 
@@ -25,6 +27,15 @@ countsOf rows = record { count = length rows; entries = pad 65 0 (map (λ r. r .
 -- the run on a sheet with so many rows lent
 unfoldable pub courseOf : Judgement → ℕ → Course
 courseOf sheet lent = record { ran = runOf sheet lent; counts = countsOf (rowsOf sheet lent) }
+
+-- ---- in lent arrays
+-- the numbers of k rows
+abbrev pub countsIn : ℕ → List ℕ → List ℕ → Counts
+countsIn k es cs = record { count = k; entries = es; clauses = cs }
+
+-- a run, with the masks of its last table and the numbers of its rows
+abbrev pub courseIn : Went → List ℕ → List ℕ → List ℕ → List ℕ → Course
+courseIn w ts fs es cs = record { ran = record { verdict = w .verdict; table = M.lent (w .size) ts fs }; counts = countsIn (w .rows) es cs }
 
 -- ---- its parts
 -- one row more, of the table t

@@ -58,6 +58,13 @@ pub struct Counts {
     pub clauses: [usize; 65],
 }
 
+// How a run over lent arrays went: its verdict, how many entries the last table has, and how many rows there are.
+pub struct Went {
+    pub verdict: Verdict,
+    pub size: usize,
+    pub rows: usize,
+}
+
 // A run with the numbers of its rows.
 pub struct Course {
     pub ran: Ran,

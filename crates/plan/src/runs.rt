@@ -3,6 +3,7 @@ use crate::Counts;
 use crate::Course;
 use crate::Ran;
 use crate::Verdict;
+use crate::Went;
 use crate::goals::all_in_goal;
 use sheet::Answer;
 use sheet::Plan;
@@ -10,53 +11,44 @@ use sheet::Sheet;
 use table::Table;
 use table::clauses::clause_count;
 use table::first::first_into;
+use table::slots::copy_masks;
 use table::steps::Stepped;
 use table::steps::step_at;
 ghost use mathlib.Core.Path.{_≡_};
 ghost use mathlib.Core.List.{[], map};
-ghost use Prim.Native.Nat.{_≤_, _<_};
+ghost use Prim.Native.Nat.{_+_, _*_, _≤_, _<_};
 ghost use lib.Dec.{eqb};
-ghost use lib.ListN.{drop};
+ghost use lib.ListN.{length, replicate, drop};
 ghost use Rattle.sheet.specs.Lists.{allOf};
 ghost use Rattle.sheet.specs.Decoded.{planIn, problemIn};
-ghost use Rattle.sheet.specs.Rows.{setsRow, SetsFit, actionOf};
+ghost use Rattle.sheet.specs.Rows.{setsRow, SetsFit, actionOf, countOf};
 ghost use Rattle.sheet.specs.Format.{sheetOf};
-ghost use Rattle.table.specs.Slots.{entries};
+ghost use Rattle.table.specs.Slots.{entriesOf};
 ghost use Rattle.table.specs.Start.{startTable};
-ghost use Rattle.table.specs.Moves.{Filled};
+ghost use Rattle.table.specs.Step.{stepTable};
+ghost use Rattle.table.specs.Calls.{orGiven};
+ghost use Rattle.table.specs.Moves.{lent, tabled, Fits, Filled};
 ghost use Rattle.plan.specs.Run as R;
 ghost use Rattle.plan.specs.Calls.{verdictOf};
 ghost use Rattle.plan.specs.Course as C;
 ghost use Rattle.plan.specs.Walks as W;
 
-// The counts of no row.
-pub(crate) fn no_rows() -> Counts
-    ensures { λ r. ⌜ r ≡ C.countsOf [] ⌝ }
+// One row more: the entries of a lent table and the clauses of its picture.
+pub(crate) fn note<'a, 'b>(
+    sizes: &'a mut [usize],
+    clauses: &'a mut [usize],
+    at: usize,
+    trues: &'b [u32],
+    falses: &'b [u32],
+    n: usize,
+)
+    requires { ⌜ (at < length (now sizes)) × (at < length (now clauses)) ⌝ }
+    requires { ⌜ 1 ≤ n ⌝ }
+    requires { ⌜ (n ≤ length (now trues)) × (n ≤ length (now falses)) ⌝ }
+    ensures { λ _. ⌜ C.countsIn (at + 1) (now (sizes .exit)) (now (clauses .exit)) ≡ C.noted (C.countsIn at (now (sizes .entry)) (now (clauses .entry))) (entriesOf n (now (trues .entry)) (now (falses .entry))) ⌝ }
 {
-    Counts {
-        count: 0,
-        entries: [0; 65],
-        clauses: [0; 65],
-    }
-}
-
-// One row more: the entries of a table and the clauses of its picture.
-pub(crate) fn note(counts: Counts, table: Table) -> Counts
-    requires { ⌜ counts .count < 65 ⌝ }
-    requires { ⌜ (1 ≤ table .count) × (table .count ≤ 128) ⌝ }
-    ensures { λ r. ⌜ r ≡ C.noted counts (entries table) ⌝ }
-{
-    let k = counts.count;
-    let n = table.count;
-    let mut entries = counts.entries;
-    let mut clauses = counts.clauses;
-    entries[k] = n;
-    clauses[k] = clause_count(&table.trues, &table.falses, n);
-    Counts {
-        count: k + 1,
-        entries,
-        clauses,
-    }
+    sizes[at] = n;
+    clauses[at] = clause_count(trues, falses, n);
 }
 
 // What a refused step means for a run: 21 is full, the other numbers stop it.
@@ -70,132 +62,141 @@ pub(crate) fn halt(place: usize, number: u8) -> Verdict
 }
 
 // The verdict after the last move: reached if every entry is in the goal, otherwise short.
-pub(crate) fn end(goal: &[u32], table: Table) -> Verdict
+pub(crate) fn end<'a, 'b>(goal: &'a [u32], trues: &'b [u32], falses: &'b [u32], n: usize) -> Verdict
     requires { ⌜ SetsFit (now goal) ⌝ }
-    requires { ⌜ table .count ≤ 128 ⌝ }
-    ensures { λ r. ⌜ r ≡ verdictOf (R.ended (allOf (R.inGoal (setsRow (now (goal .entry)))) (entries table))) ⌝ }
+    requires { ⌜ (n ≤ length (now trues)) × (n ≤ length (now falses)) ⌝ }
+    ensures { λ r. ⌜ r ≡ verdictOf (R.ended (allOf (R.inGoal (setsRow (now (goal .entry)))) (entriesOf n (now (trues .entry)) (now (falses .entry))))) ⌝ }
 {
-    let n = table.count;
-    if all_in_goal(goal, &table.trues, &table.falses, n) {
+    if all_in_goal(goal, trues, falses, n) {
         return Verdict::Reached;
     }
     Verdict::Short
 }
 
-// The rest of a plan from a table, `place` moves already taken.
-pub(crate) fn run_from<'a>(
+// The step of a lent table by the move of a number, in its place. Refused, the table is left as it was.
+pub(crate) fn step_here<'a, 'b>(
+    moves: &'a [u32],
+    m: usize,
+    trues: &'b mut [u32],
+    falses: &'b mut [u32],
+    n: usize,
+) -> Stepped
+    requires { ⌜ (m * 35 + 35 ≤ length (now moves)) × (countOf (now moves) m ≤ 8) ⌝ }
+    requires { ⌜ Fits (actionOf (now moves) m) (lent n (now trues) (now falses)) ⌝ }
+    requires { ⌜ (length (now trues) ≡ 128) × (length (now falses) ≡ 128) ⌝ }
+    ensures { λ r. ⌜ tabled (lent n (now (trues .exit)) (now (falses .exit))) r (now (trues .exit)) (now (falses .exit)) ≡ orGiven (lent n (now (trues .entry)) (now (falses .entry))) (stepTable 128 (actionOf (now (moves .entry)) m) (entriesOf n (now (trues .entry)) (now (falses .entry)))) ⌝ }
+{
+    let mut us = [0u32; 128];
+    let mut gs = [0u32; 128];
+    match step_at(moves, m, trues, falses, n, &mut us, &mut gs) {
+        Stepped::To(k) => {
+            copy_masks(trues, 0, &us);
+            copy_masks(falses, 0, &gs);
+            Stepped::To(k)
+        }
+        Stepped::Refused(number) => Stepped::Refused(number),
+    }
+}
+
+// The rest of a plan from a lent table, `place` moves already taken: the last table in its place, the rows in arrays of zeros.
+pub(crate) fn run_from<'a, 'b, 'c>(
     plan: Plan,
     goal: &'a [u32],
     moves: &'a [u32],
-    table: Table,
     place: usize,
-) -> Course
-    requires { ⌜ W.Runnable plan (now moves) (now goal) table ⌝ }
-    ensures { λ r. ⌜ r ≡ C.courseFrom (setsRow (now (goal .entry))) [] place (map (actionOf (now (moves .entry))) (drop place (planIn plan))) (entries table) ⌝ }
+    trues: &'b mut [u32],
+    falses: &'b mut [u32],
+    n: usize,
+    sizes: &'c mut [usize],
+    clauses: &'c mut [usize],
+) -> Went
+    requires { ⌜ W.Runnable plan (now moves) (now goal) (lent n (now trues) (now falses)) ⌝ }
+    requires { ⌜ (now sizes ≡ replicate 65 0) × (now clauses ≡ replicate 65 0) ⌝ }
+    ensures { λ r. ⌜ C.courseIn r (now (trues .exit)) (now (falses .exit)) (now (sizes .exit)) (now (clauses .exit)) ≡ C.courseFrom (setsRow (now (goal .entry))) [] place (map (actionOf (now (moves .entry))) (drop place (planIn plan))) (entriesOf n (now (trues .entry)) (now (falses .entry))) ⌝ }
 {
     let count = plan.count;
-    let mut last = table;
-    let mut counts = no_rows();
+    let mut size = n;
+    let mut rows: usize = 0;
     let mut i = place;
     while i < count {
-        counts = note(counts, last);
+        note(sizes, clauses, rows, trues, falses, size);
+        rows += 1;
         let number = plan.numbers[i] as usize;
-        let size = last.count;
-        let mut trues = [0u32; 128];
-        let mut falses = [0u32; 128];
-        match step_at(
-            moves,
-            number,
-            &last.trues,
-            &last.falses,
-            size,
-            &mut trues,
-            &mut falses,
-        ) {
+        match step_here(moves, number, trues, falses, size) {
             Stepped::To(k) => {
-                last = Table {
-                    count: k,
-                    trues,
-                    falses,
-                };
+                size = k;
             }
             Stepped::Refused(fault) => {
-                return Course {
-                    ran: Ran {
-                        verdict: halt(i + 1, fault),
-                        table: last,
-                    },
-                    counts,
+                return Went {
+                    verdict: halt(i + 1, fault),
+                    size,
+                    rows,
                 };
             }
         }
         i += 1;
     }
-    Course {
-        ran: Ran {
-            verdict: end(goal, last),
-            table: last,
-        },
-        counts: note(counts, last),
+    note(sizes, clauses, rows, trues, falses, size);
+    Went {
+        verdict: end(goal, trues, falses, size),
+        size,
+        rows: rows + 1,
     }
 }
 
 // A refusal: no table, and no row.
-pub(crate) fn refused(number: u8, position: usize) -> Course
-    ensures { λ r. ⌜ r ≡ C.refusedCourse number position ⌝ }
+pub(crate) fn refused(number: u8, position: usize) -> Went
+    ensures { λ r. ⌜ C.courseIn r (replicate 128 0) (replicate 128 0) (replicate 65 0) (replicate 65 0) ≡ C.refusedCourse number position ⌝ }
 {
-    Course {
-        ran: Ran {
-            verdict: Verdict::Refused(number, position),
-            table: Table {
-                count: 0,
-                trues: [0u32; 128],
-                falses: [0u32; 128],
-            },
-        },
-        counts: no_rows(),
+    Went {
+        verdict: Verdict::Refused(number, position),
+        size: 0,
+        rows: 0,
     }
 }
 
-// The run of a sheet that was read: 20 or 21 of its start, otherwise its plan from the first table.
-pub(crate) fn run_sheet<'a>(
+// The run of a sheet that was read, into arrays of zeros: 20 or 21 of its start, otherwise its plan from the first table.
+pub(crate) fn run_sheet<'a, 'b, 'c>(
     sheet: Sheet,
     ors: &'a [u32],
     oneofs: &'a [u32],
     goal: &'a [u32],
     moves: &'a [u32],
-) -> Course
+    trues: &'b mut [u32],
+    falses: &'b mut [u32],
+    sizes: &'c mut [usize],
+    clauses: &'c mut [usize],
+) -> Went
     requires { ⌜ Filled sheet (now ors) (now oneofs) (now goal) (now moves) ⌝ }
-    ensures { λ r. ⌜ r ≡ C.plannedCourse (problemIn sheet (now (ors .entry)) (now (oneofs .entry)) (now (goal .entry)) (now (moves .entry))) (planIn (sheet .plan)) (startTable 128 (problemIn sheet (now (ors .entry)) (now (oneofs .entry)) (now (goal .entry)) (now (moves .entry)))) ⌝ }
+    requires { ⌜ (now trues ≡ replicate 128 0) × (now falses ≡ replicate 128 0) ⌝ }
+    requires { ⌜ (now sizes ≡ replicate 65 0) × (now clauses ≡ replicate 65 0) ⌝ }
+    ensures { λ r. ⌜ C.courseIn r (now (trues .exit)) (now (falses .exit)) (now (sizes .exit)) (now (clauses .exit)) ≡ C.plannedCourse (problemIn sheet (now (ors .entry)) (now (oneofs .entry)) (now (goal .entry)) (now (moves .entry))) (planIn (sheet .plan)) (startTable 128 (problemIn sheet (now (ors .entry)) (now (oneofs .entry)) (now (goal .entry)) (now (moves .entry)))) ⌝ }
 {
     let known = sheet.known;
     let plan = sheet.plan;
-    let mut trues = [0u32; 128];
-    let mut falses = [0u32; 128];
-    match first_into(
-        known,
-        ors,
-        sheet.ors,
-        oneofs,
-        sheet.oneofs,
-        &mut trues,
-        &mut falses,
-    ) {
-        Stepped::To(count) => {
-            let table = Table {
-                count,
-                trues,
-                falses,
-            };
-            run_from(plan, goal, moves, table, 0)
+    match first_into(known, ors, sheet.ors, oneofs, sheet.oneofs, trues, falses) {
+        Stepped::To(n) => run_from(plan, goal, moves, 0, trues, falses, n, sizes, clauses),
+        Stepped::Refused(number) => {
+            let zeros = [0u32; 128];
+            copy_masks(trues, 0, &zeros);
+            copy_masks(falses, 0, &zeros);
+            refused(number, 0)
         }
-        Stepped::Refused(number) => refused(number, 0),
     }
 }
 
-// The run of a sheet with so many rows lent: a fault of the sheet, 23 for fewer than 65 rows, then the run.
-pub fn course(bytes: &[u8], lent: usize) -> Course
-    ensures { λ r. ⌜ r ≡ C.courseOf (sheetOf (now (bytes .entry))) lent ⌝ }
+// The run of a sheet with so many rows lent, into arrays of zeros: a fault of the sheet, 23 for fewer than 65 rows, then the run.
+pub fn course_into<'a, 'b, 'c>(
+    bytes: &'a [u8],
+    lent: usize,
+    trues: &'b mut [u32],
+    falses: &'b mut [u32],
+    sizes: &'c mut [usize],
+    clauses: &'c mut [usize],
+) -> Went
+    requires { ⌜ (now trues ≡ replicate 128 0) × (now falses ≡ replicate 128 0) ⌝ }
+    requires { ⌜ (now sizes ≡ replicate 65 0) × (now clauses ≡ replicate 65 0) ⌝ }
+    ensures { λ r. ⌜ C.courseIn r (now (trues .exit)) (now (falses .exit)) (now (sizes .exit)) (now (clauses .exit)) ≡ C.courseOf (sheetOf (now (bytes .entry))) lent ⌝ }
 {
     let mut ors = [0u32; 136];
     let mut oneofs = [0u32; 136];
@@ -210,7 +211,51 @@ pub fn course(bytes: &[u8], lent: usize) -> Course
                 return refused(23, 0);
             }
             let sheet = decoded.sheet;
-            run_sheet(sheet, &ors, &oneofs, &goal, &moves)
+            run_sheet(
+                sheet,
+                &ors,
+                &oneofs,
+                &goal,
+                &moves,
+                trues,
+                falses,
+                sizes,
+                clauses,
+            )
         }
+    }
+}
+
+// The run of a sheet with so many rows lent, by value.
+pub fn course(bytes: &[u8], lent: usize) -> Course
+    ensures { λ r. ⌜ r ≡ C.courseOf (sheetOf (now (bytes .entry))) lent ⌝ }
+{
+    let mut trues = [0u32; 128];
+    let mut falses = [0u32; 128];
+    let mut entries = [0usize; 65];
+    let mut clauses = [0usize; 65];
+    let went = course_into(
+        bytes,
+        lent,
+        &mut trues,
+        &mut falses,
+        &mut entries,
+        &mut clauses,
+    );
+    let verdict = went.verdict;
+    Course {
+        ran: Ran {
+            verdict,
+            table: Table {
+                count: went.size,
+                trues,
+                falses,
+            },
+        },
+        counts: Counts {
+            count: went.rows,
+            entries,
+            clauses,
+        },
     }
 }

@@ -1,11 +1,12 @@
 -- Numbers copied into others, one after the other. Assumes nothing.
-use mathlib.Core.Path.{_≡_, refl, sym, ap, _∙_}
-use mathlib.Core.List.{List}
+use mathlib.Core.Path.{_≡_, refl, sym, ap, ap₂, _∙_}
+use mathlib.Core.List.{List, _++_, append-nil}
 use Prim.Native.Nat.{ℕ, _+_, _≤_, _<_, zero-le}
+use native.Mathlib.Nat.{zero-add, le-of-eq}
 use native.Mathlib.Numerals.{add-one}
 use native.Mathlib.Omega.{arith}
-use lib.ListN.{length, set, getD, length-set}
-use lib.Seq.{paste, paste-zero, paste-suc}
+use lib.ListN.{length, set, getD, drop, length-set, drop-of-length-le}
+use lib.Seq.{paste, paste-zero, paste-suc, take-length}
 
 -- ---- a copy of the first i members of s, from `at` on
 pub record Copied (d : List ℕ) (at : ℕ) (s : List ℕ) (i : ℕ) (e : List ℕ) : Type 0 where
@@ -28,3 +29,11 @@ copied-step d at s i e h fits lt = record {
 
 pub copied-end : (d : List ℕ) (at : ℕ) (s : List ℕ) (i : ℕ) (e : List ℕ) → Copied d at s i e → length s ≤ i → e ≡ paste d at s (length s)
 copied-end d at s i e h past = let same : i ≡ length s = omega (arith, h .upto) in h .is ∙ ap (λ (k : ℕ). paste d at s k) same
+
+-- ---- a copy to the front
+pub front : (d s : List ℕ) → paste d 0 s (length s) ≡ s ++ drop (length s) d
+front d s = ap₂ (λ (x : List ℕ) (k : ℕ). x ++ drop k d) (take-length s) (zero-add (length s))
+
+-- over the whole of a list as long: what was copied
+pub whole : (d s : List ℕ) (e : List ℕ) → length d ≡ length s → e ≡ paste d 0 s (length s) → e ≡ s
+whole d s e h is = is ∙ front d s ∙ ap (λ (r : List ℕ). s ++ r) (drop-of-length-le d (le-of-eq h)) ∙ append-nil s

@@ -1,17 +1,17 @@
 -- Numbers stored one after the other: info, copies, tables. Assumes nothing.
 use mathlib.Core.Path.{_≡_, refl, sym, ap, ap₂, subst, _∙_}
-use mathlib.Core.List.{List, [], _∷_, _++_, append-assoc, append-nil}
+use mathlib.Core.List.{List, [], _∷_, _++_, append-assoc}
 use Prim.Native.Nat.{ℕ, _+_, _≤_, _<_}
-use native.Mathlib.Nat.{zero-add, not-suc-le-zero, le-refl, le-of-eq}
+use native.Mathlib.Nat.{zero-add, not-suc-le-zero, le-refl}
 use native.Mathlib.Omega.{arith}
-use lib.ListN.{length, set, getD, take, drop, length-set, drop-of-length-le, take-append-drop}
+use lib.ListN.{length, set, getD, take, drop, length-set, take-append-drop}
 use lib.Seq.{sets-eq, paste, take-paste, drop-paste, take-length, drop-drop, drop-set-lt}
 use Rattle.sheet.specs.Format.{sheetOf}
 use Rattle.table.specs.declared.Table.{Table}
 use Rattle.table.specs.declared.Counted.{Counted}
 use Rattle.table.specs.Moves.{lent, counted}
 use Rattle.table.specs.Calls.{stepOf}
-use Rattle.table.proofs.Copying.{Copied, copied-step, copied-end}
+use Rattle.table.proofs.Copying.{Copied, copied-step, copied-end, front}
 use Rattle.unit.specs.declared.Told.{Told}
 use Rattle.unit.specs.Numbers.{infoOf, tableIn, tableOut}
 
@@ -27,21 +27,10 @@ pub front-step : (d s : List ℕ) (i : ℕ) (e : List ℕ) → Copied d 0 s i e 
 front-step d s i e h fits lt =
     rw (zero-add i) at (copied-step d 0 s i e h (omega arith) lt)
 
-front : (d s : List ℕ) → paste d 0 s (length s) ≡ s ++ drop (length s) d
-front d s = ap₂ (λ (x : List ℕ) (k : ℕ). x ++ drop k d) (take-length s) (zero-add (length s))
-
 pub front-end : (d s : List ℕ) (i : ℕ) (e : List ℕ) → Copied d 0 s i e → length s ≤ i → e ≡ s ++ drop (length s) d
 front-end d s i e h past = copied-end d 0 s i e h past ∙ front d s
 
 -- ---- tables
--- a copy over the whole
-copied-whole : (d s : List ℕ) → length d ≡ length s → paste d 0 s (length s) ≡ s ++ []
-copied-whole d s h = front d s ∙ ap (λ (r : List ℕ). s ++ r) (drop-of-length-le d (le-of-eq h))
-
--- a copy over the whole of a list as long is what was copied
-pub whole : (d s : List ℕ) (e : List ℕ) → length d ≡ length s → e ≡ paste d 0 s (length s) → e ≡ s
-whole d s e h is = is ∙ copied-whole d s h ∙ append-nil s
-
 -- what is read of a table
 pub table-read : (xs ts fs : List ℕ) → ts ≡ take 128 (drop 1 xs) → fs ≡ take 128 (drop 129 xs)
     → record { count = getD xs 0 0; trues = ts; falses = fs } ≡ tableIn xs

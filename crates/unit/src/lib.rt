@@ -157,14 +157,22 @@ pub extern "C" fn krepuskilo_run(
     if info.len() < 4 {
         return 255;
     }
-    let course = plan::runs::course(sheet, rows.len() / 3);
-    let ran = course.ran;
-    let verdict = ran.verdict;
-    let last = ran.table;
+    let mut trues = [0u32; 128];
+    let mut falses = [0u32; 128];
+    let mut entries = [0usize; 65];
+    let mut clauses = [0usize; 65];
+    let went = plan::runs::course_into(
+        sheet,
+        rows.len() / 3,
+        &mut trues,
+        &mut falses,
+        &mut entries,
+        &mut clauses,
+    );
+    let verdict = went.verdict;
     let told = numbers::told_verdict(verdict);
-    let counts = course.counts;
-    numbers::write_rows(rows, counts);
-    numbers::write_table(table, last);
+    numbers::write_rows(rows, went.rows, &entries, &clauses);
+    numbers::write_entries(table, went.size, &trues, &falses);
     numbers::write_info(info, told);
     told.answer
 }

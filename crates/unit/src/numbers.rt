@@ -1,6 +1,5 @@
 // Values laid out as numbers: answers, tables, rows and plans.
 use crate::Told;
-use plan::Counts;
 use plan::Kind;
 use plan::Verdict;
 use sheet::Answer;
@@ -18,6 +17,7 @@ ghost use Rattle.sheet.specs.Lists.{collect};
 ghost use Rattle.sheet.specs.Format.{sheetOf};
 ghost use Rattle.table.specs.Calls.{stepOf};
 ghost use Rattle.table.specs.Moves.{lent, kept, counted};
+ghost use Rattle.plan.specs.Course.{countsIn};
 ghost use Rattle.plan.specs.Rows.{rowsIn};
 ghost use Rattle.unit.specs.Numbers.{answerTold, verdictTold, kindTold, infoOf, tableIn, tableOut, rowNumbers};
 
@@ -213,18 +213,23 @@ pub(crate) fn write_step<'a, 'b>(
     }
 }
 
-// The rows of the places arrived at, three numbers each. The others are kept.
-pub(crate) fn write_rows(rows: &mut [u64], counts: Counts)
-    requires { ⌜ (counts .count ≤ 65) × (3 * counts .count ≤ length (now rows)) ⌝ }
-    ensures { λ r. ⌜ now (rows .exit) ≡ collect rowNumbers (rowsIn counts) ++ drop (3 * counts .count) (now (rows .entry)) ⌝ }
+// The rows of the first n places, three numbers each: the place, its entries and its clauses. The others are kept.
+pub(crate) fn write_rows<'a, 'b>(
+    rows: &'a mut [u64],
+    n: usize,
+    entries: &'b [usize],
+    clauses: &'b [usize],
+)
+    requires { ⌜ (n ≤ 65) × (3 * n ≤ length (now rows)) ⌝ }
+    requires { ⌜ (length (now entries) ≡ 65) × (length (now clauses) ≡ 65) ⌝ }
+    ensures { λ r. ⌜ now (rows .exit) ≡ collect rowNumbers (rowsIn (countsIn n (now (entries .entry)) (now (clauses .entry)))) ++ drop (3 * n) (now (rows .entry)) ⌝ }
 {
-    let n = counts.count;
     let mut i: usize = 0;
     while i < n {
         let at = 3 * i;
         rows[at] = i as u64;
-        rows[at + 1] = counts.entries[i] as u64;
-        rows[at + 2] = counts.clauses[i] as u64;
+        rows[at + 1] = entries[i] as u64;
+        rows[at + 2] = clauses[i] as u64;
         i += 1;
     }
 }

@@ -2,7 +2,6 @@
 use mathlib.Core.Path.{sym, ap, _∙_}
 use mathlib.Core.Bool.{Bool}
 use borrow.Author.Needs.{needs}
-use Rattle.table.specs.Slots.{entries}
 use Rattle.plan.specs.Run.{ended}
 use Rattle.plan.specs.Calls.{verdictOf}
 use Rattle.plan.proofs.runs.end.Statement.{statement}
@@ -12,11 +11,11 @@ all-in-goal-requires : tie.Need-all-in-goal-requires
 all-in-goal-requires c κs = search needs
 
 returns : tie.Need-returns
-unfolding verdictOf entries
+unfolding verdictOf
 returns c = sym (ap (λ (b : Bool). verdictOf (ended b)) (sym (c .before .all-in-goal .ensures) ∙ c .if1 .taken))
 
 returns-2 : tie.Need-returns-2
-unfolding verdictOf entries
+unfolding verdictOf
 returns-2 c = sym (ap (λ (b : Bool). verdictOf (ended b)) (sym (c .before .all-in-goal .ensures) ∙ c .if1 .left))
 
 pub end-spec : {M : Type 1} → statement M

@@ -3,17 +3,17 @@ use mathlib.Core.Path.{_≡_, sym}
 use Prim.Native.Nat.{_+_}
 use borrow.Author.Needs.{needs}
 use lib.ListN.{length, set}
-use Rattle.table.specs.Slots.{entries}
+use Rattle.table.specs.Slots.{entriesOf}
 use Rattle.table.proofs.Pads.{length-entriesOf}
 use Rattle.plan.specs.Course.{noted}
 use Rattle.plan.proofs.runs.note.Statement.{statement}
 use Rattle.plan.proofs.runs.note.Tie as tie
 
-mul-entries : tie.Need-mul-entries
-mul-entries c = search needs
+mul-sizes : tie.Need-mul-sizes
+mul-sizes c = search needs
 
-array-write-entries : tie.Need-array-write-entries
-array-write-entries c = search needs
+slice-write-sizes : tie.Need-slice-write-sizes
+slice-write-sizes c = search needs
 
 clause-count-requires : tie.Need-clause-count-requires
 clause-count-requires c κs = search needs
@@ -21,28 +21,31 @@ clause-count-requires c κs = search needs
 mul-clauses : tie.Need-mul-clauses
 mul-clauses c = search needs
 
-array-write-clauses : tie.Need-array-write-clauses
-array-write-clauses c = search needs
+slice-write-clauses : tie.Need-slice-write-clauses
+slice-write-clauses c = search needs
 
-add-t8 : tie.Need-add-t8
-add-t8 c = search needs
+same-length : tie.Need-same-length
+same-length c = search needs
+
+same-length-2 : tie.Need-same-length-2
+same-length-2 c = search needs
 
 returns : tie.Need-returns
-unfolding noted entries
+unfolding noted
 returns c =
-    let a = c .before .before .before .before .before .before .before .before .args in
-    let k = a .counts .count in
-    let n : a .t2 .count ≡ length (entries (a .t2)) = sym (length-entriesOf (a .t2 .count) (a .t2 .trues) (a .t2 .falses)) in
-    (λ j. record { count = k + 1; entries = set (a .counts .entries) k (n j); clauses = set (a .counts .clauses) k (c .clause-count .ensures j) })
+    let a = c .before .before .before .before .before .args in
+    let n : a .n ≡ length (entriesOf (a .n) (a .trues .now) (a .falses .now)) = sym (length-entriesOf (a .n) (a .trues .now) (a .falses .now)) in
+    (λ j. record { count = a .at + 1; entries = set (a .sizes .now) (a .at) (n j); clauses = set (a .clauses .now) (a .at) (c .clause-count .ensures j) })
 
 pub note-spec : {M : Type 1} → statement M
 note-spec =
     tie.close
     (tie.spec
-    mul-entries
-    array-write-entries
+    mul-sizes
+    slice-write-sizes
     clause-count-requires
     mul-clauses
-    array-write-clauses
-    add-t8
+    slice-write-clauses
+    same-length
+    same-length-2
     returns)
