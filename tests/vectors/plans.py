@@ -8,7 +8,6 @@ other line is bytes in hexadecimal, the first of them says what to do:
               of all slots), and the rows written (how many, and a digest of their entries and clauses)
   03          the run with 65 rows: the verdict, the table, and a digest of all 65 rows, zeros in those that are not written
   04 LIMIT    the search with this limit (8 bytes): how it ends, the length of the plan and a digest of its eight bytes
-  05 TIMES, 06 LIMIT TIMES   as 03 and 04, made so many times over (4 bytes): to time them
 Beside it, for n up to 10, every world is stepped alone.
 """
 
@@ -167,10 +166,6 @@ class Bench(Lines):
         self.lines_out.append("length %d plan %d" % (len(plan), digest(plan + [0] * (8 - len(plan)))))
         self.calls += 1
 
-    def again(self, line):
-        """The last line, made three times over, gives the same."""
-        self.lines_in[-1] = " ".join("%02x" % b for b in line + (3).to_bytes(4, "big"))
-
     def write(self):
         self.save(self.crate)
         print(self.crate + ":", self.calls, "calls")
@@ -270,10 +265,6 @@ def run_cases():
         b.run()
         for lent in (0, 64, 65, 66, 2 ** 64 - 1):
             b.rows(lent)
-    b.heading("made three times over")
-    b.sheet(PAPER)
-    b.run()
-    b.again(b"\x05")
     b.heading("plans of 0, 1, 63 and 64 moves: 64 rows are too few for each")
     for data in long_plans():
         b.sheet(data)
@@ -298,9 +289,6 @@ def search_cases():
     b.sheet(PAPER)
     for limit in (0, 1, 2, 3, 8, 9, 2 ** 64 - 1):
         b.search(limit)
-    b.heading("made three times over")
-    b.search(2)
-    b.again(b"\x06" + (2).to_bytes(8, "big"))
     b.heading("the empty plan is reached; a limit above 8 comes before a refused start, a fault of the sheet before both")
     b.sheet(LAST_LINES["reached by the empty plan"])
     for limit in (0, 8, 9):

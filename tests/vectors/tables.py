@@ -7,7 +7,6 @@ hexadecimal, the first of them says what to do:
   02 NUMBER         step the current table by the move of this number (8 bytes, high byte first), and go on with what comes back
   03 COUNT MASKS    the current table: its count (8 bytes), then pairs of masks (4 bytes each) for the first slots, zeros in the others
   04 LENGTH         the picture of the current table in a buffer of LENGTH bytes (2 bytes), each 170 before the call
-  05 NUMBER TIMES, 06 TIMES, 07 LENGTH TIMES   as 02, 01 and 04, made so many times over (4 bytes): to time them
 What is due: the answer; for 01 and 02 the count and a digest of all slots of the table that comes back, and, for n up to 10, the number
 of worlds that it stands for; for 04 the number of clauses and a digest of the buffer.
 """
@@ -127,10 +126,6 @@ class Bench(Lines):
         self.line(b"\x03" + count.to_bytes(8, "big") + b"".join(t.to_bytes(4, "big") + f.to_bytes(4, "big") for t, f in masks))
         self.count, self.slots, self.worlds = count, [x for m in masks for x in m] + [0] * (256 - 2 * len(masks)), None
 
-    def again(self, line):
-        """The last line, made three times over, gives the same."""
-        self.lines_in[-1] = " ".join("%02x" % b for b in line + (3).to_bytes(4, "big"))
-
     def picture(self, length):
         self.line(b"\x04" + length.to_bytes(2, "big"))
         buffer, clauses = [170] * length, 0
@@ -223,13 +218,6 @@ def table_cases():
     b.picture(2050)
     b.step(1)
     b.step(2 ** 63)
-    b.heading("calls made several times over")
-    b.start()
-    b.again(b"\x06")
-    b.step(0)
-    b.again(b"\x05" + bytes(8))
-    b.picture(26)
-    b.again(b"\x07" + (26).to_bytes(2, "big"))
     b.heading("a fault of the sheet comes first")
     b.sheet(PAPER[:-1])
     b.start()

@@ -29,21 +29,21 @@ use Rattle.plan.proofs.Pruning.{quiet-after, unchanged}
 use Rattle.plan.proofs.Walking.{written, onward-ended, onward-not, at-stop, at-full}
 
 -- there are 128 slots
-pub slots-long : {packed : List ℕ} {k : ℕ} {goal : List ℕ} {n : ℕ} {ts fs : List ℕ} → Searchable packed k goal (lent n ts fs) → (length ts ≡ 128) × (length fs ≡ 128)
+pub slots-long : {moves : List ℕ} {k : ℕ} {goal : List ℕ} {n : ℕ} {ts fs : List ℕ} → Searchable moves k goal (lent n ts fs) → (length ts ≡ 128) × (length fs ≡ 128)
 unfolding tableOf
 slots-long h =
     let z = h .ready .zeros in
     (ap (λ (t : Table). length (t .trues)) z ∙ length-pad 128 0 _, ap (λ (t : Table). length (t .falses)) z ∙ length-pad 128 0 _)
 
 -- they hold the entries
-pub slots-room : {packed : List ℕ} {k : ℕ} {goal : List ℕ} {n : ℕ} {ts fs : List ℕ} → Searchable packed k goal (lent n ts fs) → (n ≤ length ts) × (n ≤ length fs)
+pub slots-room : {moves : List ℕ} {k : ℕ} {goal : List ℕ} {n : ℕ} {ts fs : List ℕ} → Searchable moves k goal (lent n ts fs) → (n ≤ length ts) × (n ≤ length fs)
 slots-room h = let l = slots-long h in (omega (arith, h .entries-most), omega (arith, h .entries-most))
 
-module _ {packed : List ℕ} {k : ℕ} {goal : List ℕ} {n : ℕ} {ts fs : List ℕ} (h : Searchable packed k goal (lent n ts fs)) {m : ℕ} (lt : m < k) where
+module _ {moves : List ℕ} {k : ℕ} {goal : List ℕ} {n : ℕ} {ts fs : List ℕ} (h : Searchable moves k goal (lent n ts fs)) {m : ℕ} (lt : m < k) where
   abbrev t : Table
   t = lent n ts fs
 
-  pub can-step : Fits (actionOf packed m) t
+  pub can-step : Fits (actionOf moves m) t
   can-step = record {
     n = h .n;
     n-most = h .n-most;
@@ -52,9 +52,9 @@ module _ {packed : List ℕ} {k : ℕ} {goal : List ℕ} {n : ℕ} {ts fs : List
     proper = h .ready .described .proper;
   }
 
-  module _ (r : Stepped) (us gs : List ℕ) (told : tabled t r us gs ≡ orGiven t (stepTable 128 (actionOf packed m) (entriesOf n ts fs))) where
+  module _ (r : Stepped) (us gs : List ℕ) (told : tabled t r us gs ≡ orGiven t (stepTable 128 (actionOf moves m) (entriesOf n ts fs))) where
     abbrev outcome : Outcome
-    outcome = stepTable 128 (actionOf packed m) (entries t)
+    outcome = stepTable 128 (actionOf moves m) (entries t)
 
     step-is : (x : Stepped) → r ≡ x → tabled t x us gs ≡ orGiven t outcome
     unfolding entries
@@ -69,12 +69,12 @@ module _ {packed : List ℕ} {k : ℕ} {goal : List ℕ} {n : ℕ} {ts fs : List
       s = stepped t outcome (tabled t (moved.To j) us gs) (step-is (moved.To j) e) refl
 
       d : Described 128 (h .n) (s .0)
-      d = step-table (h .n) (h .n-most) (actionOf packed m) (h .actions m lt) (entries t) (h .ready .described) 128 (s .0) (s .1) .0
+      d = step-table (h .n) (h .n-most) (actionOf moves m) (h .actions m lt) (entries t) (h .ready .described) 128 (s .0) (s .1) .0
 
       pub came : outcome ≡ table (entries u)
       came = s .1 ∙ ap table (sym (ap entries (s .2) ∙ entries-table (s .0) (d .most)))
 
-      pub ready-after : Searchable packed k goal u
+      pub ready-after : Searchable moves k goal u
       ready-after = let r = subst (Ready (h .n)) (sym (s .2)) (ready-table (h .n) (s .0) d) in record {
         n = h .n;
         n-most = h .n-most;
@@ -89,28 +89,28 @@ module _ {packed : List ℕ} {k : ℕ} {goal : List ℕ} {n : ℕ} {ts fs : List
       }
 
       module _ (at left : ℕ) where
-        module _ (q : Unmet packed k goal t at (left + 1)) where
-          pub unmet-after : Unmet packed k goal u (at + 1) left
-          unmet-after = quiet-after (setsRow goal) (actionOf packed) k at (entries t) m left (entries u) came q lt
+        module _ (q : Unmet moves k goal t at (left + 1)) where
+          pub unmet-after : Unmet moves k goal u (at + 1) left
+          unmet-after = quiet-after (setsRow goal) (actionOf moves) k at (entries t) m left (entries u) came q lt
 
-          pub begun-same : entriesOf j us gs ≡ entriesOf n ts fs → {a : Searched} → a ≡ answered nothing → a ≡ begun packed k goal t at left m
+          pub begun-same : entriesOf j us gs ≡ entriesOf n ts fs → {a : Searched} → a ≡ answered nothing → a ≡ begun moves k goal t at left m
           unfolding answeredAt entries
-          begun-same z {a} w = w ∙ sym (ap (answeredAt at) (unchanged (setsRow goal) (actionOf packed) k at (entries t) m left (entries u) came q z))
+          begun-same z {a} w = w ∙ sym (ap (answeredAt at) (unchanged (setsRow goal) (actionOf moves) k at (entries t) m left (entries u) came q z))
 
-        module _ {a : Searched} (w : a ≡ walked packed k goal u (at + 1) left) where
-          pub begun-ended : endedBy (a .kind) ≡ true → written a at m ≡ begun packed k goal t at left m
-          begun-ended b = onward-ended (setsRow goal) (actionOf packed) k at (entries t) left m (entries u) a came w b
+        module _ {a : Searched} (w : a ≡ walked moves k goal u (at + 1) left) where
+          pub begun-ended : endedBy (a .kind) ≡ true → written a at m ≡ begun moves k goal t at left m
+          begun-ended b = onward-ended (setsRow goal) (actionOf moves) k at (entries t) left m (entries u) a came w b
 
-          pub begun-not : endedBy (a .kind) ≡ false → a ≡ begun packed k goal t at left m
-          begun-not b = onward-not (setsRow goal) (actionOf packed) k at (entries t) left m (entries u) a came w b
+          pub begun-not : endedBy (a .kind) ≡ false → a ≡ begun moves k goal t at left m
+          begun-not b = onward-not (setsRow goal) (actionOf moves) k at (entries t) left m (entries u) a came w b
 
     -- ---- the step was refused
     module _ {code : ℕ} (e : r ≡ moved.Refused code) (at left : ℕ) where
       pub refused-by : outcome ≡ refused code
       refused-by = stopped t outcome (tabled t (moved.Refused code) us gs) code 0 (step-is (moved.Refused code) e) refl
 
-      pub begun-full : code ≡ 21 → {a : Searched} → a ≡ answeredAt at (fullAt (m ∷ replicate left 0) (at + 1)) → a ≡ begun packed k goal t at left m
-      begun-full z {a} w = at-full (setsRow goal) (actionOf packed) k at (entries t) left m a (h .least) (refused-by ∙ ap refused z) w
+      pub begun-full : code ≡ 21 → {a : Searched} → a ≡ answeredAt at (fullAt (m ∷ replicate left 0) (at + 1)) → a ≡ begun moves k goal t at left m
+      begun-full z {a} w = at-full (setsRow goal) (actionOf moves) k at (entries t) left m a (h .least) (refused-by ∙ ap refused z) w
 
-      pub begun-stopped : (code ≡ 21 → ⊥) → {a : Searched} → a ≡ answered nothing → a ≡ begun packed k goal t at left m
-      begun-stopped z {a} w = at-stop (setsRow goal) (actionOf packed) k at (entries t) left m code a refused-by z w
+      pub begun-stopped : (code ≡ 21 → ⊥) → {a : Searched} → a ≡ answered nothing → a ≡ begun moves k goal t at left m
+      begun-stopped z {a} w = at-stop (setsRow goal) (actionOf moves) k at (entries t) left m code a refused-by z w

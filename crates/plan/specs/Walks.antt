@@ -53,35 +53,35 @@ endedBy kind.Nothing = false
 endedBy (kind.Refused number position) = true
 
 -- ---- moves laid out, goal and table over the same n propositions, within their slots
-pub record Searchable (packed : List ℕ) (count : ℕ) (goal : List ℕ) (t : Table) : Type 0 where
+pub record Searchable (moves : List ℕ) (count : ℕ) (goal : List ℕ) (t : Table) : Type 0 where
   pub n : ℕ
   pub n-most : n ≤ 32
   pub least : 1 ≤ count
   pub most : count ≤ 32
-  pub room : count * 35 ≤ length packed
-  pub effects-most : (i : ℕ) → i < count → countOf packed i ≤ 8
-  pub actions : (i : ℕ) → i < count → ProperAction n (actionOf packed i)
+  pub room : count * 35 ≤ length moves
+  pub effects-most : (i : ℕ) → i < count → countOf moves i ≤ 8
+  pub actions : (i : ℕ) → i < count → ProperAction n (actionOf moves i)
   pub goal-fits : SetsFit goal
   pub entries-most : t .count ≤ 128
   pub ready : Ready n t
 
 -- the same with a plan of these moves
-pub record Runnable (plan : Plan) (packed : List ℕ) (goal : List ℕ) (t : Table) : Type 0 where
+pub record Runnable (plan : Plan) (moves : List ℕ) (goal : List ℕ) (t : Table) : Type 0 where
   pub count : ℕ
-  pub fits : Searchable packed count goal t
+  pub fits : Searchable moves count goal t
   pub most : plan .count ≤ 64
   pub numbers : All (λ i. i < count) (planIn plan)
 
 -- no shorter plan from here has an answer
 abbrev pub Unmet : List ℕ → ℕ → List ℕ → Table → ℕ → ℕ → Type 0
-Unmet packed count goal t at left = Quiet (setsRow goal) (actionOf packed) count at (entries t) left
+Unmet moves count goal t at left = Quiet (setsRow goal) (actionOf moves) count at (entries t) left
 
 -- ---- what the inner calls answer
 abbrev pub walked : List ℕ → ℕ → List ℕ → Table → ℕ → ℕ → Searched
-walked packed count goal t at left = answeredAt at (firstFrom (setsRow goal) (actionOf packed) count at (entries t) left)
+walked moves count goal t at left = answeredAt at (firstFrom (setsRow goal) (actionOf moves) count at (entries t) left)
 
 abbrev pub begun : List ℕ → ℕ → List ℕ → Table → ℕ → ℕ → ℕ → Searched
-begun packed count goal t at left m = answeredAt at (firstBy (setsRow goal) (actionOf packed) count at (entries t) left m)
+begun moves count goal t at left m = answeredAt at (firstBy (setsRow goal) (actionOf moves) count at (entries t) left m)
 
 abbrev pub searchedBy : List ℕ → ℕ → List ℕ → Table → ℕ → Searched
-searchedBy packed count goal t limit = answered (firstOf (ranFrom (setsRow goal) (actionOf packed) 0 (entries t)) (plansUpTo count limit))
+searchedBy moves count goal t limit = answered (firstOf (ranFrom (setsRow goal) (actionOf moves) 0 (entries t)) (plansUpTo count limit))

@@ -102,8 +102,8 @@ pub(crate) fn same<'a, 'b>(
 // The plans with the moves taken so far, move m next and `left` moves more. No shorter plan has an answer, so a move that leaves the
 // table as it was is not followed.
 fn begin<'a, 'b>(
-    packed: &'a [u32],
-    moves: usize,
+    moves: &'a [u32],
+    count: usize,
     goal: &'a [u32],
     ts: &'b [u32],
     fs: &'b [u32],
@@ -112,21 +112,21 @@ fn begin<'a, 'b>(
     left: usize,
     m: usize,
 ) -> Searched
-    requires { ⌜ W.Searchable (now packed) moves (now goal) (M.lent n (now ts) (now fs)) ⌝ }
-    requires { ⌜ (at + left < 8) × (m < moves) ⌝ }
-    requires { ⌜ W.Unmet (now packed) moves (now goal) (M.lent n (now ts) (now fs)) at (left + 1) ⌝ }
-    ensures { λ r. ⌜ r ≡ W.begun (now (packed .entry)) moves (now (goal .entry)) (M.lent n (now (ts .entry)) (now (fs .entry))) at left m ⌝ }
+    requires { ⌜ W.Searchable (now moves) count (now goal) (M.lent n (now ts) (now fs)) ⌝ }
+    requires { ⌜ (at + left < 8) × (m < count) ⌝ }
+    requires { ⌜ W.Unmet (now moves) count (now goal) (M.lent n (now ts) (now fs)) at (left + 1) ⌝ }
+    ensures { λ r. ⌜ r ≡ W.begun (now (moves .entry)) count (now (goal .entry)) (M.lent n (now (ts .entry)) (now (fs .entry))) at left m ⌝ }
 {
     let mut us = [0u32; 128];
     let mut gs = [0u32; 128];
-    let stepped = step_at(packed, m, ts, fs, n, &mut us, &mut gs);
+    let stepped = step_at(moves, m, ts, fs, n, &mut us, &mut gs);
     let next = at + 1;
     match stepped {
         Stepped::To(k) => {
             if same(&us, &gs, k, ts, fs, n) {
                 return none();
             }
-            let mut r = walk(packed, moves, goal, &us, &gs, k, next, left);
+            let mut r = walk(moves, count, goal, &us, &gs, k, next, left);
             if ended(r) {
                 r.plan[at] = m as u8;
             }
@@ -143,8 +143,8 @@ fn begin<'a, 'b>(
 
 // The plans with the moves taken so far, which led to the table, and `left` moves more, in ascending order.
 fn walk<'a, 'b>(
-    packed: &'a [u32],
-    moves: usize,
+    moves: &'a [u32],
+    count: usize,
     goal: &'a [u32],
     ts: &'b [u32],
     fs: &'b [u32],
@@ -152,10 +152,10 @@ fn walk<'a, 'b>(
     at: usize,
     left: usize,
 ) -> Searched
-    requires { ⌜ W.Searchable (now packed) moves (now goal) (M.lent n (now ts) (now fs)) ⌝ }
+    requires { ⌜ W.Searchable (now moves) count (now goal) (M.lent n (now ts) (now fs)) ⌝ }
     requires { ⌜ at + left ≤ 8 ⌝ }
-    requires { ⌜ W.Unmet (now packed) moves (now goal) (M.lent n (now ts) (now fs)) at left ⌝ }
-    ensures { λ r. ⌜ r ≡ W.walked (now (packed .entry)) moves (now (goal .entry)) (M.lent n (now (ts .entry)) (now (fs .entry))) at left ⌝ }
+    requires { ⌜ W.Unmet (now moves) count (now goal) (M.lent n (now ts) (now fs)) at left ⌝ }
+    ensures { λ r. ⌜ r ≡ W.walked (now (moves .entry)) count (now (goal .entry)) (M.lent n (now (ts .entry)) (now (fs .entry))) at left ⌝ }
 {
     if left == 0 {
         if all_in_goal(goal, ts, fs, n) {
@@ -169,8 +169,8 @@ fn walk<'a, 'b>(
     }
     let fewer = left - 1;
     let mut m: usize = 0;
-    while m < moves {
-        let r = begin(packed, moves, goal, ts, fs, n, at, fewer, m);
+    while m < count {
+        let r = begin(moves, count, goal, ts, fs, n, at, fewer, m);
         if ended(r) {
             return r;
         }
@@ -181,21 +181,21 @@ fn walk<'a, 'b>(
 
 // Plans of at most `limit` moves, shorter first.
 pub(crate) fn lengths<'a, 'b>(
-    packed: &'a [u32],
-    moves: usize,
+    moves: &'a [u32],
+    count: usize,
     goal: &'a [u32],
     ts: &'b [u32],
     fs: &'b [u32],
     n: usize,
     limit: usize,
 ) -> Searched
-    requires { ⌜ W.Searchable (now packed) moves (now goal) (M.lent n (now ts) (now fs)) ⌝ }
+    requires { ⌜ W.Searchable (now moves) count (now goal) (M.lent n (now ts) (now fs)) ⌝ }
     requires { ⌜ limit ≤ 8 ⌝ }
-    ensures { λ r. ⌜ r ≡ W.searchedBy (now (packed .entry)) moves (now (goal .entry)) (M.lent n (now (ts .entry)) (now (fs .entry))) limit ⌝ }
+    ensures { λ r. ⌜ r ≡ W.searchedBy (now (moves .entry)) count (now (goal .entry)) (M.lent n (now (ts .entry)) (now (fs .entry))) limit ⌝ }
 {
     let mut length: usize = 0;
     while length <= limit {
-        let r = walk(packed, moves, goal, ts, fs, n, 0, length);
+        let r = walk(moves, count, goal, ts, fs, n, 0, length);
         if ended(r) {
             return r;
         }

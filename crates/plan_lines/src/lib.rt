@@ -99,13 +99,8 @@ fn show_course(sheet: &[u8], lent: usize) {
     );
 }
 
-// The run of a sheet with 65 rows, made so many times over.
-fn show_run(sheet: &[u8], times: u64) {
-    let mut i: u64 = 1;
-    while i < times {
-        plan::run_here(sheet);
-        i += 1;
-    }
+// The run of a sheet with 65 rows.
+fn show_run(sheet: &[u8]) {
     let r = plan::run_here(sheet);
     write_ran(r.ran);
     cases::write_pair(b"rows ", 65, b" numbers ", digest_rows(r));
@@ -134,13 +129,8 @@ fn digest_plan(s: Searched) -> u64 {
     value
 }
 
-// The search on a sheet, made so many times over.
-fn show_search(sheet: &[u8], limit: usize, times: u64) {
-    let mut i: u64 = 1;
-    while i < times {
-        plan::search(sheet, limit);
-        i += 1;
-    }
+// The search on a sheet.
+fn show_search(sheet: &[u8], limit: usize) {
     let s = plan::search(sheet, limit);
     let kind = s.kind;
     write_kind(kind);
@@ -157,10 +147,8 @@ fn act(sheet: &[u8], bytes: &[u8]) {
     match what {
         1 => show_report(sheet),
         2 => show_course(sheet, wide as usize),
-        3 => show_run(sheet, 1),
-        4 => show_search(sheet, wide as usize, 1),
-        5 => show_run(sheet, cases::number(bytes, 1, 4)),
-        _ => show_search(sheet, wide as usize, cases::number(bytes, 9, 4)),
+        3 => show_run(sheet),
+        _ => show_search(sheet, wide as usize),
     }
 }
 

@@ -107,18 +107,6 @@ fn buffer() -> [u8; 4096]
     [170u8; 4096]
 }
 
-// The picture of a table, made so many times.
-fn pictures(sheet: &[u8], t: Table, size: usize, times: u64)
-    requires { ⌜ size ≤ 4096 ⌝ }
-{
-    let mut i: u64 = 0;
-    while i < times {
-        let mut spare = buffer();
-        table::picture(sheet, t, &mut spare[..size]);
-        i += 1;
-    }
-}
-
 // The picture in a buffer, and what the buffer then holds.
 fn drawn(sheet: &[u8], t: Table, buffer: &mut [u8]) {
     let r = table::picture(sheet, t, buffer);
@@ -132,33 +120,12 @@ fn drawn(sheet: &[u8], t: Table, buffer: &mut [u8]) {
     );
 }
 
-// The picture in a buffer of so many bytes, made so many times more before it is shown.
-fn show_picture(sheet: &[u8], t: Table, size: usize, times: u64)
+// The picture in a buffer of so many bytes.
+fn show_picture(sheet: &[u8], t: Table, size: usize)
     requires { ⌜ size ≤ 4096 ⌝ }
 {
-    pictures(sheet, t, size, times);
     let mut room = buffer();
     drawn(sheet, t, &mut room[..size]);
-}
-
-// The step of a table, made so many times over.
-fn steps(sheet: &[u8], t: Table, number: usize, times: u64) -> Tabled {
-    let mut i: u64 = 1;
-    while i < times {
-        table::step(sheet, t, number);
-        i += 1;
-    }
-    table::step(sheet, t, number)
-}
-
-// The start, made so many times over.
-fn starts(sheet: &[u8], times: u64) -> Tabled {
-    let mut i: u64 = 1;
-    while i < times {
-        table::start(sheet);
-        i += 1;
-    }
-    table::start(sheet)
 }
 
 // The size of a buffer, in two bytes.
@@ -181,22 +148,8 @@ fn act(sheet: &[u8], t: Table, bytes: &[u8]) -> Table {
             table::step(sheet, t, cases::number(bytes, 1, 8) as usize),
         ),
         3 => table_of(bytes),
-        4 => {
-            show_picture(sheet, t, size_in(bytes), 0);
-            t
-        }
-        5 => told(
-            sheet,
-            steps(
-                sheet,
-                t,
-                cases::number(bytes, 1, 8) as usize,
-                cases::number(bytes, 9, 4),
-            ),
-        ),
-        6 => told(sheet, starts(sheet, cases::number(bytes, 1, 4))),
         _ => {
-            show_picture(sheet, t, size_in(bytes), cases::number(bytes, 3, 4));
+            show_picture(sheet, t, size_in(bytes));
             t
         }
     }

@@ -6,9 +6,6 @@ use borrow.Author.Needs.{needs}
 use Rattle.table_lines.proofs.show_picture.Statement.{statement}
 use Rattle.table_lines.proofs.show_picture.Tie as tie
 
-pictures-requires : tie.Need-pictures-requires
-pictures-requires c κs = search needs
-
 buffer-requires : tie.Need-buffer-requires
 buffer-requires c κs = search needs
 
@@ -16,8 +13,7 @@ array-borrow-prefix-room : tie.Need-array-borrow-prefix-room
 array-borrow-prefix-room c = search needs
 
 slice-aggregate-drawn : tie.Need-slice-aggregate-drawn
-slice-aggregate-drawn c =
-    sym (length-take-le (c .before .before .before .before .args .size) (c .before .buffer .result) (omega (arith, c .before .buffer .ensures)))
+slice-aggregate-drawn c = sym (length-take-le (c .before .before .before .args .size) (c .before .buffer .result) (omega (arith, c .before .buffer .ensures)))
 
 drawn-requires : tie.Need-drawn-requires
 drawn-requires c κs = search needs
@@ -29,7 +25,6 @@ pub show-picture-spec : {M : Type 1} → statement M
 show-picture-spec =
     tie.close
     (tie.spec
-    pictures-requires
     buffer-requires
     array-borrow-prefix-room
     slice-aggregate-drawn

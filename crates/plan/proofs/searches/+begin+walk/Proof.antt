@@ -176,11 +176,11 @@ begin-returns-5 t c =
     begun-stopped (z .pre .1 .0) (z .pre .1 .1 .0 .1) _ _ _ (c .before .before .before .before .before .before .before .step-at .ensures) (c .before .before .before .stepped2 .given .1) (s .at) (s .left) (c .before .if3 .left) (c .none2 .ensures)
 
 abbrev walk-Inv-loop : walk-lts.InvT-loop
-walk-Inv-loop packed moves goal ts fs n at left fewer m₀ m =
-    (firstBelow (firstBy (setsRow goal) (actionOf packed) moves at (entriesOf n ts fs) fewer) m ≡ nothing) × (m ≤ moves)
+walk-Inv-loop moves count goal ts fs n at left fewer m₀ m =
+    (firstBelow (firstBy (setsRow goal) (actionOf moves) count at (entriesOf n ts fs) fewer) m ≡ nothing) × (m ≤ count)
 
 abbrev walk-μ-loop : walk-lts.MeasureT-loop
-walk-μ-loop packed moves goal ts fs n at left fewer m₀ m = moves - m
+walk-μ-loop moves count goal ts fs n at left fewer m₀ m = count - m
 
 walk-all-in-goal-requires : (t : ℕ) → walk-lts.Need-all-in-goal-requires (walk-claims t) (walk-at t) walk.Post walk-Inv-loop walk-μ-loop
 walk-all-in-goal-requires t c κs =
@@ -192,7 +192,7 @@ walk-returns : (t : ℕ) → walk-lts.Need-returns (walk-claims t) (walk-at t) w
 unfolding entries
 walk-returns t c =
     let s = c .before .before .before .before .before .before .before .args in
-    at-goal (setsRow (now (s .goal))) (actionOf (now (s .packed))) (s .moves) (s .at) (entriesOf (s .n) (now (s .ts)) (now (s .fs))) (s .left) (c .before .before .if1 .taken) (sym (c .before .all-in-goal .ensures) ∙ c .if2 .taken)
+    at-goal (setsRow (now (s .goal))) (actionOf (now (s .moves))) (s .count) (s .at) (entriesOf (s .n) (now (s .ts)) (now (s .fs))) (s .left) (c .before .before .if1 .taken) (sym (c .before .all-in-goal .ensures) ∙ c .if2 .taken)
 
 walk-none-requires : (t : ℕ) → walk-lts.Need-none-requires (walk-claims t) (walk-at t) walk.Post walk-Inv-loop walk-μ-loop
 walk-none-requires t c κs = search needs
@@ -201,7 +201,7 @@ walk-returns-2 : (t : ℕ) → walk-lts.Need-returns-2 (walk-claims t) (walk-at 
 unfolding entries
 walk-returns-2 t c =
     let s = c .before .before .before .before .before .before .before .before .args in
-    at-short (setsRow (now (s .goal))) (actionOf (now (s .packed))) (s .moves) (s .at) (entriesOf (s .n) (now (s .ts)) (now (s .fs))) (s .left) (c .before .before .before .if1 .taken) _ (sym (c .before .before .all-in-goal .ensures) ∙ c .before .if2 .left) (c .none .ensures)
+    at-short (setsRow (now (s .goal))) (actionOf (now (s .moves))) (s .count) (s .at) (entriesOf (s .n) (now (s .ts)) (now (s .fs))) (s .left) (c .before .before .before .if1 .taken) _ (sym (c .before .before .all-in-goal .ensures) ∙ c .before .if2 .left) (c .none .ensures)
 
 walk-sub-fewer : (t : ℕ) → walk-lts.Need-sub-fewer (walk-claims t) (walk-at t) walk.Post walk-Inv-loop walk-μ-loop
 walk-sub-fewer t c = search needs
@@ -221,7 +221,7 @@ walk-returns-3 : (t : ℕ) → walk-lts.Need-returns-3 (walk-claims t) (walk-at 
 unfolding entries
 walk-returns-3 t c =
     let s = c .before .before .before .before .before .before .before .before .before .before .args in
-    found-now (setsRow (now (s .goal))) (actionOf (now (s .packed))) (s .moves) (s .at) (entriesOf (s .n) (now (s .ts)) (now (s .fs))) (s .left - 1) (c .before .before .before .before .loop .m) _ (c .before .before .before .before .loop .inv .0) (s .left) (omega arith) (c .before .before .before .loop-test .taken) (c .before .before .begin .ensures) (sym (c .before .ended .ensures) ∙ c .if3 .taken)
+    found-now (setsRow (now (s .goal))) (actionOf (now (s .moves))) (s .count) (s .at) (entriesOf (s .n) (now (s .ts)) (now (s .fs))) (s .left - 1) (c .before .before .before .before .loop .m) _ (c .before .before .before .before .loop .inv .0) (s .left) (omega arith) (c .before .before .before .loop-test .taken) (c .before .before .begin .ensures) (sym (c .before .ended .ensures) ∙ c .if3 .taken)
 
 walk-add-m : (t : ℕ) → walk-lts.Need-add-m (walk-claims t) (walk-at t) walk.Post walk-Inv-loop walk-μ-loop
 walk-add-m t c = search needs
@@ -233,7 +233,7 @@ walk-loop-again : (t : ℕ) → walk-lts.Need-loop-again (walk-claims t) (walk-a
 unfolding entries
 walk-loop-again t c =
     let s = c .before .before .before .before .before .before .before .before .before .before .args in
-    (not-yet (setsRow (now (s .goal))) (actionOf (now (s .packed))) (s .moves) (s .at) (entriesOf (s .n) (now (s .ts)) (now (s .fs))) (s .left - 1) (c .before .before .before .before .loop .m) _ (c .before .before .before .before .loop .inv .0) (c .before .before .begin .ensures) (sym (c .before .ended .ensures) ∙ c .if3 .left), omega arith)
+    (not-yet (setsRow (now (s .goal))) (actionOf (now (s .moves))) (s .count) (s .at) (entriesOf (s .n) (now (s .ts)) (now (s .fs))) (s .left - 1) (c .before .before .before .before .loop .m) _ (c .before .before .before .before .loop .inv .0) (c .before .before .begin .ensures) (sym (c .before .ended .ensures) ∙ c .if3 .left), omega arith)
 
 walk-none-requires-2 : (t : ℕ) → walk-lts.Need-none-requires-2 (walk-claims t) (walk-at t) walk.Post walk-Inv-loop walk-μ-loop
 walk-none-requires-2 t c κs = search needs
@@ -242,7 +242,7 @@ walk-returns-4 : (t : ℕ) → walk-lts.Need-returns-4 (walk-claims t) (walk-at 
 unfolding entries
 walk-returns-4 t c =
     let s = c .before .before .before .before .before .before .before .before .args in
-    none-at-all (setsRow (now (s .goal))) (actionOf (now (s .packed))) (s .moves) (s .at) (entriesOf (s .n) (now (s .ts)) (now (s .fs))) (s .left - 1) (c .before .before .loop .m) _ (c .before .before .loop .inv .0) (s .left) (omega arith) (omega arith) (c .none2 .ensures)
+    none-at-all (setsRow (now (s .goal))) (actionOf (now (s .moves))) (s .count) (s .at) (entriesOf (s .n) (now (s .ts)) (now (s .fs))) (s .left - 1) (c .before .before .loop .m) _ (c .before .before .loop .inv .0) (s .left) (omega arith) (omega arith) (c .none2 .ensures)
 
 pub +begin+walk-spec : {M : Type 1} → statement M
 +begin+walk-spec = close μ-begin μ-walk (λ t. begin-lts.spec (begin-claims t)

@@ -16,10 +16,10 @@ use Rattle.plan.proofs.searches.lengths.Statement.{statement}
 use Rattle.plan.proofs.searches.lengths.Tie as tie
 
 abbrev Inv-loop : tie.InvT-loop
-Inv-loop packed moves goal ts fs n limit length₀ length = (firstBelow (firstFrom (setsRow goal) (actionOf packed) moves 0 (entriesOf n ts fs)) length ≡ nothing) × (length ≤ limit + 1)
+Inv-loop moves count goal ts fs n limit length₀ length = (firstBelow (firstFrom (setsRow goal) (actionOf moves) count 0 (entriesOf n ts fs)) length ≡ nothing) × (length ≤ limit + 1)
 
 abbrev μ-loop : tie.MeasureT-loop
-μ-loop packed moves goal ts fs n limit length₀ length = limit + 1 - length
+μ-loop moves count goal ts fs n limit length₀ length = limit + 1 - length
 
 loop-holds : tie.Need-loop-holds Inv-loop μ-loop
 loop-holds c = (refl, omega arith)
@@ -29,7 +29,7 @@ unfolding entries
 walk-requires c κs =
     let z = c .before .before .before .before .before .before in
     let s = z .args in
-    (z .pre .0, (omega arith, quiet-lengths (setsRow (now (s .goal))) (actionOf (now (s .packed))) (s .moves) (entriesOf (s .n) (now (s .ts)) (now (s .fs))) (c .before .loop .length) (c .before .loop .inv .0)))
+    (z .pre .0, (omega arith, quiet-lengths (setsRow (now (s .goal))) (actionOf (now (s .moves))) (s .count) (entriesOf (s .n) (now (s .ts)) (now (s .fs))) (c .before .loop .length) (c .before .loop .inv .0)))
 
 ended-requires : tie.Need-ended-requires Inv-loop μ-loop
 ended-requires c κs = search needs
@@ -38,7 +38,7 @@ returns : tie.Need-returns Inv-loop μ-loop
 unfolding entries
 returns c =
     let s = c .before .before .before .before .before .before .before .before .before .args in
-    length-found (setsRow (now (s .goal))) (actionOf (now (s .packed))) (s .moves) (entriesOf (s .n) (now (s .ts)) (now (s .fs))) (s .limit) (c .before .before .before .before .loop .length) _ (c .before .before .before .before .loop .inv .0) (c .before .before .before .loop-test .taken) (c .before .before .walk .ensures) (sym (c .before .ended .ensures) ∙ c .if1 .taken)
+    length-found (setsRow (now (s .goal))) (actionOf (now (s .moves))) (s .count) (entriesOf (s .n) (now (s .ts)) (now (s .fs))) (s .limit) (c .before .before .before .before .loop .length) _ (c .before .before .before .before .loop .inv .0) (c .before .before .before .loop-test .taken) (c .before .before .walk .ensures) (sym (c .before .ended .ensures) ∙ c .if1 .taken)
 
 add-length : tie.Need-add-length Inv-loop μ-loop
 add-length c = search needs
@@ -50,7 +50,7 @@ loop-again : tie.Need-loop-again Inv-loop μ-loop
 unfolding entries
 loop-again c =
     let s = c .before .before .before .before .before .before .before .before .before .args in
-    (length-next (setsRow (now (s .goal))) (actionOf (now (s .packed))) (s .moves) (entriesOf (s .n) (now (s .ts)) (now (s .fs))) (s .limit) (c .before .before .before .before .loop .length) _ (c .before .before .before .before .loop .inv .0) (c .before .before .walk .ensures) (sym (c .before .ended .ensures) ∙ c .if1 .left), omega arith)
+    (length-next (setsRow (now (s .goal))) (actionOf (now (s .moves))) (s .count) (entriesOf (s .n) (now (s .ts)) (now (s .fs))) (s .limit) (c .before .before .before .before .loop .length) _ (c .before .before .before .before .loop .inv .0) (c .before .before .walk .ensures) (sym (c .before .ended .ensures) ∙ c .if1 .left), omega arith)
 
 none-requires : tie.Need-none-requires Inv-loop μ-loop
 none-requires c κs = search needs
@@ -59,7 +59,7 @@ returns-2 : tie.Need-returns-2 Inv-loop μ-loop
 unfolding entries
 returns-2 c =
     let s = c .before .before .before .before .before .before .before .args in
-    length-none (setsRow (now (s .goal))) (actionOf (now (s .packed))) (s .moves) (entriesOf (s .n) (now (s .ts)) (now (s .fs))) (s .limit) (c .before .before .loop .length) _ (c .before .before .loop .inv .0) (omega arith) (c .none .ensures)
+    length-none (setsRow (now (s .goal))) (actionOf (now (s .moves))) (s .count) (entriesOf (s .n) (now (s .ts)) (now (s .fs))) (s .limit) (c .before .before .loop .length) _ (c .before .before .loop .inv .0) (omega arith) (c .none .ensures)
 
 pub lengths-spec : {M : Type 1} → statement M
 lengths-spec =
