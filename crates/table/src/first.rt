@@ -90,7 +90,7 @@ pub(crate) fn lay_others(alts: &[u32], i: usize, row: &mut [u32]) -> usize
 
 // Each alternative from `at` on is made false in every way; a branch that is inconsistent is cut.
 pub(crate) fn choose<'a, 'b>(
-    row: &'a [u32],
+    row: &'a [u32; 16],
     size: usize,
     at: usize,
     piece: Literals,

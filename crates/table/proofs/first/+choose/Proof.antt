@@ -51,7 +51,7 @@ abbrev choose-μ-loop : choose-lts.MeasureT-loop
 choose-μ-loop row size at piece trues₀ falses₀ k after a sum₀ l₀ trues falses sum l = 64 - l
 
 choose-offer-requires : (t : ℕ) → choose-lts.Need-offer-requires (claims t) (choose-at t) choose.Post choose-Inv-loop choose-μ-loop
-choose-offer-requires t c κs = c .before .before .before .before .before .before .pre .1 .1 .1
+choose-offer-requires t c κs = c .before .before .before .before .before .pre .1 .1 .1
 
 choose-same-length : (t : ℕ) → choose-lts.Need-same-length (claims t) (choose-at t) choose.Post choose-Inv-loop choose-μ-loop
 choose-same-length t c = search needs
@@ -61,7 +61,7 @@ choose-same-length-2 t c = search needs
 
 choose-returns : (t : ℕ) → choose-lts.Need-returns (claims t) (choose-at t) choose.Post choose-Inv-loop choose-μ-loop
 choose-returns t c =
-    let s = c .before .before .before .before .before .before .before .before .before .before .before in
+    let s = c .before .before .before .before .before .before .before .before .before .before in
     puts-is _ _ _ _ _ _ _ _ (chosen-all (s .args .size) (s .args .row .now) (s .args .at) _ (omega arith) (s .pre .1 .1 .0)) (c .before .before .before .before .offer .ensures)
 
 choose-add-after : (t : ℕ) → choose-lts.Need-add-after (claims t) (choose-at t) choose.Post choose-Inv-loop choose-μ-loop

@@ -42,9 +42,6 @@ slice-aggregate-lay-others c = search needs
 lay-others-requires : tie.Need-lay-others-requires
 lay-others-requires c κs = search needs
 
-slice-aggregate-choose : tie.Need-slice-aggregate-choose
-slice-aggregate-choose c = search needs
-
 choose-requires : tie.Need-choose-requires
 choose-requires c κs = (c .before .before .before .before .lay-others .ensures .0, (sym (c .before .before .before .before .before .before .before .consistent .ensures) ∙ not-false _ (c .before .before .before .before .before .before .if1 .left), c .before .before .before .before .before .before .before .before .before .before .before .before .before .pre .1))
 
@@ -69,7 +66,6 @@ widen-one-spec =
     returns
     slice-aggregate-lay-others
     lay-others-requires
-    slice-aggregate-choose
     choose-requires
     same-length
     same-length-2
