@@ -28,16 +28,14 @@ use Rattle.plan.proofs.Courses.{stepped, stopped, ready-table, ready-co
 use Rattle.plan.proofs.Pruning.{quiet-after, unchanged}
 use Rattle.plan.proofs.Walking.{written, onward-ended, onward-not, at-stop, at-full}
 
--- there are 128 slots
-pub slots-long : {moves : List ℕ} {k : ℕ} {goal : List ℕ} {n : ℕ} {ts fs : List ℕ} → Searchable moves k goal (lent n ts fs) → (length ts ≡ 128) × (length fs ≡ 128)
-unfolding tableOf
-slots-long h =
-    let z = h .ready .zeros in
-    (ap (λ (t : Table). length (t .trues)) z ∙ length-pad 128 0 _, ap (λ (t : Table). length (t .falses)) z ∙ length-pad 128 0 _)
-
--- they hold the entries
+-- the slots hold the entries
 pub slots-room : {moves : List ℕ} {k : ℕ} {goal : List ℕ} {n : ℕ} {ts fs : List ℕ} → Searchable moves k goal (lent n ts fs) → (n ≤ length ts) × (n ≤ length fs)
-slots-room h = let l = slots-long h in (omega (arith, h .entries-most), omega (arith, h .entries-most))
+unfolding tableOf
+slots-room {moves} {k} {goal} {n} {ts} {fs} h =
+    let z = h .ready .zeros in
+    let a : length ts ≡ 128 = ap (λ (t : Table). length (t .trues)) z ∙ length-pad 128 0 _ in
+    let b : length fs ≡ 128 = ap (λ (t : Table). length (t .falses)) z ∙ length-pad 128 0 _ in
+    (omega (arith, h .entries-most), omega (arith, h .entries-most))
 
 module _ {moves : List ℕ} {k : ℕ} {goal : List ℕ} {n : ℕ} {ts fs : List ℕ} (h : Searchable moves k goal (lent n ts fs)) {m : ℕ} (lt : m < k) where
   abbrev t : Table

@@ -22,7 +22,6 @@ use Rattle.table.specs.Step.{stepTable}
 use Rattle.table.specs.Slots.{entriesOf, entries}
 use Rattle.table.specs.Calls.{orGiven}
 use Rattle.table.specs.Moves.{lent, tabled}
-use Rattle.table.proofs.Pads.{length-pad}
 use Rattle.table.proofs.Started.{all-at}
 use Rattle.plan.specs.declared.Row.{Row}
 use Rattle.plan.specs.declared.Counts.{Counts}
@@ -38,12 +37,8 @@ use Rattle.plan.proofs.Courses.{Ending, note-row, taken, halted, stoppe
 use Rattle.plan.proofs.Beginning.{ready-after, came, refused-by}
 
 -- ---- what a step gave, as an answer with a table
-pub step-to : (t : Table) {r : Stepped} {us gs vs hs : List ℕ} {s : Tabled} → tabled t r us gs ≡ s → {k : ℕ} → r ≡ moved.To k → vs ≡ us → hs ≡ gs
-    → tabled t (moved.To k) vs hs ≡ s
-step-to t {us = us} {gs = gs} e {k} q p g = (λ j. tabled t (moved.To k) (p j) (g j)) ∙ sym (ap (λ (y : Stepped). tabled t y us gs) q) ∙ e
-
-pub step-stopped : (t : Table) {r : Stepped} (us gs : List ℕ) {s : Tabled} → tabled t r us gs ≡ s → {k : ℕ} → r ≡ moved.Refused k → tabled t (moved.Refused k) us gs ≡ s
-step-stopped t us gs e q = sym (ap (λ (y : Stepped). tabled t y us gs) q) ∙ e
+pub step-as : (t : Table) {r : Stepped} (us gs : List ℕ) {s : Tabled} → tabled t r us gs ≡ s → {y : Stepped} → r ≡ y → tabled t y us gs ≡ s
+step-as t us gs e q = sym (ap (λ (y : Stepped). tabled t y us gs) q) ∙ e
 
 -- ---- a step in its place, on the table t: in the arrays lies the new table, or still t
 module _ (t : Table) (us gs : List ℕ) where
@@ -56,7 +51,7 @@ module _ (t : Table) (us gs : List ℕ) where
   kept-here : (r : Stepped) (o : Outcome) → tabled (lent (t .count) us gs) r us gs ≡ orGiven t o → (k : ℕ) → r ≡ moved.Refused k → lent (t .count) us gs ≡ t
   unfolding orGiven
   kept-here r o e k q =
-      let f : tabled (lent (t .count) us gs) (moved.Refused k) us gs ≡ orGiven t o = ap (λ (y : Stepped). tabled (lent (t .count) us gs) y us gs) (sym q) ∙ e in
+      let f : tabled (lent (t .count) us gs) (moved.Refused k) us gs ≡ orGiven t o = step-as (lent (t .count) us gs) us gs e q in
       ap (λ (s : Tabled). s .table) f ∙ ap (λ (x : Outcome). orGiven t x .table) (stopped t o _ k 0 f refl)
 
 -- ---- the loop
@@ -101,11 +96,6 @@ module _ {plan : Plan} {moves goal : List ℕ} {whole : Course} {i : ℕ} {t : T
   pub going-room : c .count < 65
   unfolding countsOf
   going-room = let e : c .count ≡ length (h .rows) = ap (λ (y : Counts). y .count) (h .counts-are) in omega (arith, h .most, h .can .most)
-
-  -- in arrays of 65
-  pub going-long : (length (c .entries) ≡ 65) × (length (c .clauses) ≡ 65)
-  unfolding countsOf
-  going-long = (ap (λ (y : Counts). length (y .entries)) (h .counts-are) ∙ length-pad 65 0 _, ap (λ (y : Counts). length (y .clauses)) (h .counts-are) ∙ length-pad 65 0 _)
 
   noted-rows : noted c (entries t) ≡ countsOf (h .rows ++ rowOf i (entries t) ∷ [])
   noted-rows = ap (λ (y : Counts). noted y (entries t)) (h .counts-are) ∙ note-row (h .rows) i (entries t) (omega (arith, h .most, h .can .most))

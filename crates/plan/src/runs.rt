@@ -11,7 +11,6 @@ use sheet::Sheet;
 use table::Table;
 use table::clauses::clause_count;
 use table::first::first_into;
-use table::slots::copy_masks;
 use table::steps::Stepped;
 use table::steps::step_at;
 ghost use mathlib.Core.Path.{_≡_};
@@ -34,16 +33,15 @@ ghost use Rattle.plan.specs.Course as C;
 ghost use Rattle.plan.specs.Walks as W;
 
 // One row more: the entries of a lent table and the clauses of its picture.
-pub(crate) fn note<'a, 'b>(
-    sizes: &'a mut [usize],
-    clauses: &'a mut [usize],
+pub(crate) fn note<'a, 'b, 'c>(
+    sizes: &'a mut [usize; 65],
+    clauses: &'b mut [usize; 65],
     at: usize,
-    trues: &'b [u32],
-    falses: &'b [u32],
+    trues: &'c [u32],
+    falses: &'c [u32],
     n: usize,
 )
-    requires { ⌜ (at < length (now sizes)) × (at < length (now clauses)) ⌝ }
-    requires { ⌜ 1 ≤ n ⌝ }
+    requires { ⌜ (at < 65) × (1 ≤ n) ⌝ }
     requires { ⌜ (n ≤ length (now trues)) × (n ≤ length (now falses)) ⌝ }
     ensures { λ _. ⌜ C.countsIn (at + 1) (now (sizes .exit)) (now (clauses .exit)) ≡ C.noted (C.countsIn at (now (sizes .entry)) (now (clauses .entry))) (entriesOf n (now (trues .entry)) (now (falses .entry))) ⌝ }
 {
@@ -74,24 +72,23 @@ pub(crate) fn end<'a, 'b>(goal: &'a [u32], trues: &'b [u32], falses: &'b [u32], 
 }
 
 // The step of a lent table by the move of a number, in its place. Refused, the table is left as it was.
-pub(crate) fn step_here<'a, 'b>(
+pub(crate) fn step_here<'a, 'b, 'c>(
     moves: &'a [u32],
     m: usize,
-    trues: &'b mut [u32],
-    falses: &'b mut [u32],
+    trues: &'b mut [u32; 128],
+    falses: &'c mut [u32; 128],
     n: usize,
 ) -> Stepped
     requires { ⌜ (m * 35 + 35 ≤ length (now moves)) × (countOf (now moves) m ≤ 8) ⌝ }
     requires { ⌜ Fits (actionOf (now moves) m) (lent n (now trues) (now falses)) ⌝ }
-    requires { ⌜ (length (now trues) ≡ 128) × (length (now falses) ≡ 128) ⌝ }
     ensures { λ r. ⌜ tabled (lent n (now (trues .exit)) (now (falses .exit))) r (now (trues .exit)) (now (falses .exit)) ≡ orGiven (lent n (now (trues .entry)) (now (falses .entry))) (stepTable 128 (actionOf (now (moves .entry)) m) (entriesOf n (now (trues .entry)) (now (falses .entry)))) ⌝ }
 {
     let mut us = [0u32; 128];
     let mut gs = [0u32; 128];
     match step_at(moves, m, trues, falses, n, &mut us, &mut gs) {
         Stepped::To(k) => {
-            copy_masks(trues, 0, &us);
-            copy_masks(falses, 0, &gs);
+            *trues = us;
+            *falses = gs;
             Stepped::To(k)
         }
         Stepped::Refused(number) => Stepped::Refused(number),
@@ -99,16 +96,16 @@ pub(crate) fn step_here<'a, 'b>(
 }
 
 // The rest of a plan from a lent table, `place` moves already taken: the last table in its place, the rows in arrays of zeros.
-pub(crate) fn run_from<'a, 'b, 'c>(
+pub(crate) fn run_from<'a, 'b, 'c, 'd, 'e>(
     plan: Plan,
     goal: &'a [u32],
     moves: &'a [u32],
     place: usize,
-    trues: &'b mut [u32],
-    falses: &'b mut [u32],
+    trues: &'b mut [u32; 128],
+    falses: &'c mut [u32; 128],
     n: usize,
-    sizes: &'c mut [usize],
-    clauses: &'c mut [usize],
+    sizes: &'d mut [usize; 65],
+    clauses: &'e mut [usize; 65],
 ) -> Went
     requires { ⌜ W.Runnable plan (now moves) (now goal) (lent n (now trues) (now falses)) ⌝ }
     requires { ⌜ (now sizes ≡ replicate 65 0) × (now clauses ≡ replicate 65 0) ⌝ }
@@ -156,16 +153,16 @@ pub(crate) fn refused(number: u8, position: usize) -> Went
 }
 
 // The run of a sheet that was read, into arrays of zeros: 20 or 21 of its start, otherwise its plan from the first table.
-pub(crate) fn run_sheet<'a, 'b, 'c>(
+pub(crate) fn run_sheet<'a, 'b, 'c, 'd, 'e>(
     sheet: Sheet,
     ors: &'a [u32],
     oneofs: &'a [u32],
     goal: &'a [u32],
     moves: &'a [u32],
-    trues: &'b mut [u32],
-    falses: &'b mut [u32],
-    sizes: &'c mut [usize],
-    clauses: &'c mut [usize],
+    trues: &'b mut [u32; 128],
+    falses: &'c mut [u32; 128],
+    sizes: &'d mut [usize; 65],
+    clauses: &'e mut [usize; 65],
 ) -> Went
     requires { ⌜ Filled sheet (now ors) (now oneofs) (now goal) (now moves) ⌝ }
     requires { ⌜ (now trues ≡ replicate 128 0) × (now falses ≡ replicate 128 0) ⌝ }
@@ -177,22 +174,21 @@ pub(crate) fn run_sheet<'a, 'b, 'c>(
     match first_into(known, ors, sheet.ors, oneofs, sheet.oneofs, trues, falses) {
         Stepped::To(n) => run_from(plan, goal, moves, 0, trues, falses, n, sizes, clauses),
         Stepped::Refused(number) => {
-            let zeros = [0u32; 128];
-            copy_masks(trues, 0, &zeros);
-            copy_masks(falses, 0, &zeros);
+            *trues = [0u32; 128];
+            *falses = [0u32; 128];
             refused(number, 0)
         }
     }
 }
 
 // The run of a sheet with so many rows lent, into arrays of zeros: a fault of the sheet, 23 for fewer than 65 rows, then the run.
-pub fn course_into<'a, 'b, 'c>(
+pub fn course_into<'a, 'b, 'c, 'd, 'e>(
     bytes: &'a [u8],
     lent: usize,
-    trues: &'b mut [u32],
-    falses: &'b mut [u32],
-    sizes: &'c mut [usize],
-    clauses: &'c mut [usize],
+    trues: &'b mut [u32; 128],
+    falses: &'c mut [u32; 128],
+    sizes: &'d mut [usize; 65],
+    clauses: &'e mut [usize; 65],
 ) -> Went
     requires { ⌜ (now trues ≡ replicate 128 0) × (now falses ≡ replicate 128 0) ⌝ }
     requires { ⌜ (now sizes ≡ replicate 65 0) × (now clauses ≡ replicate 65 0) ⌝ }

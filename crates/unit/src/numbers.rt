@@ -148,11 +148,10 @@ pub(crate) fn table_in(numbers: &[u32]) -> Table
 pub(crate) fn write_entries<'a, 'b>(
     numbers: &'a mut [u32],
     count: usize,
-    trues: &'b [u32],
-    falses: &'b [u32],
+    trues: &'b [u32; 128],
+    falses: &'b [u32; 128],
 )
     requires { ⌜ (257 ≤ length (now numbers)) × (count < 2 ^ 32) ⌝ }
-    requires { ⌜ (length (now trues) ≡ 128) × (length (now falses) ≡ 128) ⌝ }
     ensures { λ r. ⌜ now (numbers .exit) ≡ tableOut (lent count (now (trues .entry)) (now (falses .entry))) (now (numbers .entry)) ⌝ }
 {
     numbers[0] = count as u32;
@@ -196,11 +195,10 @@ pub(crate) fn step_numbers<'a, 'b, 'c>(
 pub(crate) fn write_step<'a, 'b>(
     numbers: &'a mut [u32],
     stepped: Counted,
-    trues: &'b [u32],
-    falses: &'b [u32],
+    trues: &'b [u32; 128],
+    falses: &'b [u32; 128],
 )
     requires { ⌜ (257 ≤ length (now numbers)) × (stepped .answer ≡ Accepted → stepped .count < 2 ^ 32) ⌝ }
-    requires { ⌜ (length (now trues) ≡ 128) × (length (now falses) ≡ 128) ⌝ }
     ensures { λ r. ⌜ now (numbers .exit) ≡ tableOut (kept (stepped .answer) (tableIn (now (numbers .entry))) (lent (stepped .count) (now (trues .entry)) (now (falses .entry)))) (now (numbers .entry)) ⌝ }
 {
     let answer = stepped.answer;
@@ -217,11 +215,10 @@ pub(crate) fn write_step<'a, 'b>(
 pub(crate) fn write_rows<'a, 'b>(
     rows: &'a mut [u64],
     n: usize,
-    entries: &'b [usize],
-    clauses: &'b [usize],
+    entries: &'b [usize; 65],
+    clauses: &'b [usize; 65],
 )
     requires { ⌜ (n ≤ 65) × (3 * n ≤ length (now rows)) ⌝ }
-    requires { ⌜ (length (now entries) ≡ 65) × (length (now clauses) ≡ 65) ⌝ }
     ensures { λ r. ⌜ now (rows .exit) ≡ collect rowNumbers (rowsIn (countsIn n (now (entries .entry)) (now (clauses .entry)))) ++ drop (3 * n) (now (rows .entry)) ⌝ }
 {
     let mut i: usize = 0;

@@ -1,6 +1,4 @@
 -- `krepuskilo_run` meets its contract: the answer of the run in numbers, its rows and its last table, or 255. Assumes nothing.
-use mathlib.Core.Path.{_≡_}
-use lib.ListN.{length}
 use Rattle.sheet.proofs.Bools.{cond-true}
 use Rattle.unit.proofs.Answering.{second, lacks-first, lacks-info, lacks-none, byte, tables, numbers, run-told, run-table}
 use Rattle.unit.proofs.Sizes.{run-fits}
@@ -21,49 +19,17 @@ returns-2 c =
     let e = lacks-info 257 (a .table .now) (a .info .now) (c .before .if1 .left) (c .if2 .taken) in
     (cond-true _ _ e, (cond-true _ _ e, (cond-true _ _ e, cond-true _ _ e)))
 
-slice-aggregate-course-into : tie.Need-slice-aggregate-course-into
-slice-aggregate-course-into c = search needs
-
-slice-aggregate-course-into-2 : tie.Need-slice-aggregate-course-into-2
-slice-aggregate-course-into-2 c = search needs
-
-slice-aggregate-course-into-3 : tie.Need-slice-aggregate-course-into-3
-slice-aggregate-course-into-3 c = search needs
-
-slice-aggregate-course-into-4 : tie.Need-slice-aggregate-course-into-4
-slice-aggregate-course-into-4 c = search needs
-
 course-into-requires : tie.Need-course-into-requires
 course-into-requires c κs = search needs
 
 told-verdict-requires : tie.Need-told-verdict-requires
 told-verdict-requires c κs = search needs
 
-slice-aggregate-write-rows : tie.Need-slice-aggregate-write-rows
-slice-aggregate-write-rows c = search needs
-
-slice-aggregate-write-rows-2 : tie.Need-slice-aggregate-write-rows-2
-slice-aggregate-write-rows-2 c = search needs
-
 write-rows-requires : tie.Need-write-rows-requires
-write-rows-requires c κs =
-    let d = c .before .before .before .before .before .before .before .before .course-into in
-    let k : length (d .last .1 .1 .1 .1 .0) ≡ 65 = search needs in
-    let l : length (d .last .1 .1 .1 .1 .1 .0) ≡ 65 = search needs in
-    (rows-room _ (c .before .before .before .before .before .before .before .before .before .before .before .before .before .before .before .before .before .before .before .args .rows .now) _ (d .ensures), (k, l))
-
-slice-aggregate-write-entries : tie.Need-slice-aggregate-write-entries
-slice-aggregate-write-entries c = search needs
-
-slice-aggregate-write-entries-2 : tie.Need-slice-aggregate-write-entries-2
-slice-aggregate-write-entries-2 c = search needs
+write-rows-requires c κs = rows-room _ (c .before .before .before .before .before .before .before .before .before .before .before .before .before .before .before .args .rows .now) _ (c .before .before .before .before .course-into .ensures)
 
 write-entries-requires : tie.Need-write-entries-requires
-write-entries-requires c κs =
-    let d = c .before .before .before .before .before .before .before .before .before .before .before .before .before .before .course-into in
-    let k : length (d .last .1 .1 .0) ≡ 128 = search needs in
-    let l : length (d .last .1 .1 .1 .0) ≡ 128 = search needs in
-    ((c .before .before .before .before .before .before .before .before .before .before .before .before .before .before .before .before .before .before .before .before .if1 .left, run-fits _ _ _ (d .ensures)), (k, l))
+write-entries-requires c κs = (c .before .before .before .before .before .before .before .before .before .before .before .before .before .before .before .before .if1 .left, run-fits _ _ _ (c .before .before .before .before .before .before .before .before .before .before .course-into .ensures))
 
 write-info-requires : tie.Need-write-info-requires
 write-info-requires c κs = search needs
@@ -79,9 +45,9 @@ same-length-3 c = search needs
 
 returns-3 : tie.Need-returns-3
 returns-3 c =
-    let a = c .before .before .before .before .before .before .before .before .before .before .before .before .before .before .before .before .before .before .before .before .before .before .before .before .before .before .before .before .before .before .before .before .args in
-    let e = lacks-none 257 (a .table .now) (a .info .now) (c .before .before .before .before .before .before .before .before .before .before .before .before .before .before .before .before .before .before .before .before .before .before .before .before .before .before .before .if1 .left) (c .before .before .before .before .before .before .before .before .before .before .before .before .before .before .before .before .before .before .before .before .before .before .before .before .before .before .if2 .left) in
-    let d = c .before .before .before .before .before .before .before .before .before .before .before .before .before .before .before .before .before .before .before .before .before .course-into in
+    let a = c .before .before .before .before .before .before .before .before .before .before .before .before .before .before .before .before .before .before .before .before .before .before .before .before .before .before .before .before .args in
+    let e = lacks-none 257 (a .table .now) (a .info .now) (c .before .before .before .before .before .before .before .before .before .before .before .before .before .before .before .before .before .before .before .before .before .before .before .if1 .left) (c .before .before .before .before .before .before .before .before .before .before .before .before .before .before .before .before .before .before .before .before .before .before .if2 .left) in
+    let d = c .before .before .before .before .before .before .before .before .before .before .before .before .before .before .before .before .before .course-into in
     let same = run-told _ (a .rows .now) _ _ (d .ensures) (c .before .before .before .before .before .before .before .before .before .before .before .before .before .before .before .before .told-verdict .ensures) in (
       byte e _ _ same,
       (
@@ -99,17 +65,9 @@ krepuskilo-run-spec =
     (tie.spec
     returns
     returns-2
-    slice-aggregate-course-into
-    slice-aggregate-course-into-2
-    slice-aggregate-course-into-3
-    slice-aggregate-course-into-4
     course-into-requires
     told-verdict-requires
-    slice-aggregate-write-rows
-    slice-aggregate-write-rows-2
     write-rows-requires
-    slice-aggregate-write-entries
-    slice-aggregate-write-entries-2
     write-entries-requires
     write-info-requires
     same-length

@@ -1,11 +1,10 @@
 -- `krepuskilo_step` meets its contract: the answer of `step` in numbers and its table, or 255. Assumes nothing.
-use mathlib.Core.Path.{_≡_, ap}
-use lib.ListN.{length}
-use borrow.Author.Needs.{needs}
+use mathlib.Core.Path.{ap}
 use Rattle.sheet.proofs.Bools.{cond-true}
 use Rattle.table.specs.declared.Tabled.{Tabled}
 use Rattle.unit.proofs.Answering.{lacks-first, lacks-info, lacks-none, byte, tables, numbers, step-told}
 use Rattle.unit.proofs.Sizes.{step-fits}
+use borrow.Author.Needs.{needs}
 use Rattle.unit.proofs.krepuskilo_step.Statement.{statement}
 use Rattle.unit.proofs.krepuskilo_step.Tie as tie
 
@@ -33,18 +32,10 @@ step-numbers-requires c κs = search needs
 told-requires : tie.Need-told-requires
 told-requires c κs = search needs
 
-slice-aggregate-write-step : tie.Need-slice-aggregate-write-step
-slice-aggregate-write-step c = search needs
-
-slice-aggregate-write-step-2 : tie.Need-slice-aggregate-write-step-2
-slice-aggregate-write-step-2 c = search needs
-
 write-step-requires : tie.Need-write-step-requires
 write-step-requires c κs =
     let d = c .before .before .before .before .before .before .step-numbers in
-    let k : length (d .last .1 .1 .1 .0) ≡ 128 = search needs in
-    let l : length (d .last .1 .1 .1 .1 .0) ≡ 128 = search needs in
-    ((c .before .before .before .before .before .before .before .before .before .before .before .if1 .left, step-fits _ _ _ _ _ _ (c .before .before .before .before .before .before .before .before .before .before .before .before .before .slice-known .given 0 .fits) (d .ensures)), (k, l))
+    (c .before .before .before .before .before .before .before .before .before .before .before .if1 .left, step-fits _ _ _ _ _ _ (c .before .before .before .before .before .before .before .before .before .before .before .before .before .slice-known .given 0 .fits) (d .ensures))
 
 write-info-requires : tie.Need-write-info-requires
 write-info-requires c κs = search needs
@@ -74,8 +65,6 @@ krepuskilo-step-spec =
     slice-aggregate-step-numbers-2
     step-numbers-requires
     told-requires
-    slice-aggregate-write-step
-    slice-aggregate-write-step-2
     write-step-requires
     write-info-requires
     same-length

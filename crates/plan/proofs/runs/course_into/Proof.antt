@@ -38,7 +38,7 @@ refused-requires-2 c κs = search needs
 
 returns : tie.Need-returns
 returns c =
-    let z = c .before .before .before .before .before .before .before .before .before .before .before .before .before .before .before .before .before .before .pre in
+    let z = c .before .before .before .before .before .before .before .before .before .before .before .before .before .before .pre in
     in-zeros (c .refused2 .result) (z .0 .0) (z .0 .1) (z .1 .0) (z .1 .1)
     ∙ c .refused2 .ensures
     ∙ course-few _ _ (accepted-says _ _ _ _ _ _ (c .before .before .before .before .before .before .before .before .decode .ensures .0) (c .before .before .enum-told .given .1)) _ (c .before .if1 .taken)
@@ -58,32 +58,20 @@ slice-aggregate-run-sheet-4 c = search needs
 run-sheet-requires : tie.Need-run-sheet-requires
 run-sheet-requires c κs =
     let d = c .before .before .before .before .before .before .before .before .before .before .before .before .before .before .before .before .decode in
-    (filled _ _ _ _ _ _ (d .ensures) (c .before .before .before .before .before .before .before .before .before .before .enum-told .given .1) (search needs) (search needs) (search needs) (search needs), c .before .before .before .before .before .before .before .before .before .before .before .before .before .before .before .before .before .before .before .before .before .before .before .before .before .before .pre)
+    (filled _ _ _ _ _ _ (d .ensures) (c .before .before .before .before .before .before .before .before .before .before .enum-told .given .1) (search needs) (search needs) (search needs) (search needs), c .before .before .before .before .before .before .before .before .before .before .before .before .before .before .before .before .before .before .before .before .before .before .pre)
 
 returns-2 : tie.Need-returns-2
 returns-2 c =
-    let z = c .before .before .before .before .before .before .before .before .before .before .before .before .before .before .before .before .before .before .pre in
+    let z = c .before .before .before .before .before .before .before .before .before .before .before .before .before .before .pre in
     in-zeros (c .refused .result) (z .0 .0) (z .0 .1) (z .1 .0) (z .1 .1)
     ∙ c .refused .ensures
     ∙ course-fault _ _ _ _ (refused-says _ _ _ _ _ _ (c .before .before .before .before .before .before .before .before .decode .ensures .0) _ _ (c .before .before .answer .given .1))
 
-same-length : tie.Need-same-length
-same-length c = search needs
-
-same-length-2 : tie.Need-same-length-2
-same-length-2 c = search needs
-
-same-length-3 : tie.Need-same-length-3
-same-length-3 c = search needs
-
-same-length-4 : tie.Need-same-length-4
-same-length-4 c = search needs
-
 returns-3 : tie.Need-returns-3
 unfolding statementIn
 returns-3 c =
-    c .before .before .before .before .before .before .before .before .run-sheet .ensures
-    ∙ course-run _ _ (accepted-says _ _ _ _ _ _ (c .before .before .before .before .before .before .before .before .before .before .before .before .before .before .before .before .before .before .before .before .before .before .before .before .before .decode .ensures .0) (c .before .before .before .before .before .before .before .before .before .before .before .before .before .before .before .before .before .before .before .enum-told .given .1)) _ (c .before .before .before .before .before .before .before .before .before .before .before .before .before .before .before .before .before .before .if1 .left)
+    c .run-sheet .ensures
+    ∙ course-run _ _ (accepted-says _ _ _ _ _ _ (c .before .before .before .before .before .before .before .before .before .before .before .before .before .before .before .before .before .decode .ensures .0) (c .before .before .before .before .before .before .before .before .before .before .before .enum-told .given .1)) _ (c .before .before .before .before .before .before .before .before .before .before .if1 .left)
 
 pub course-into-spec : {M : Type 1} → statement M
 course-into-spec =
@@ -105,8 +93,4 @@ course-into-spec =
     slice-aggregate-run-sheet-4
     run-sheet-requires
     returns-2
-    same-length
-    same-length-2
-    same-length-3
-    same-length-4
     returns-3)

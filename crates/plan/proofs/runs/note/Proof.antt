@@ -1,19 +1,19 @@
 -- `plan::runs::note` meets its contract. Assumes nothing.
 use mathlib.Core.Path.{_≡_, sym}
 use Prim.Native.Nat.{_+_}
-use borrow.Author.Needs.{needs}
 use lib.ListN.{length, set}
 use Rattle.table.specs.Slots.{entriesOf}
 use Rattle.table.proofs.Pads.{length-entriesOf}
 use Rattle.plan.specs.Course.{noted}
+use borrow.Author.Needs.{needs}
 use Rattle.plan.proofs.runs.note.Statement.{statement}
 use Rattle.plan.proofs.runs.note.Tie as tie
 
 mul-sizes : tie.Need-mul-sizes
 mul-sizes c = search needs
 
-slice-write-sizes : tie.Need-slice-write-sizes
-slice-write-sizes c = search needs
+element-write-sizes : tie.Need-element-write-sizes
+element-write-sizes c = search needs
 
 clause-count-requires : tie.Need-clause-count-requires
 clause-count-requires c κs = search needs
@@ -21,19 +21,13 @@ clause-count-requires c κs = search needs
 mul-clauses : tie.Need-mul-clauses
 mul-clauses c = search needs
 
-slice-write-clauses : tie.Need-slice-write-clauses
-slice-write-clauses c = search needs
-
-same-length : tie.Need-same-length
-same-length c = search needs
-
-same-length-2 : tie.Need-same-length-2
-same-length-2 c = search needs
+element-write-clauses : tie.Need-element-write-clauses
+element-write-clauses c = search needs
 
 returns : tie.Need-returns
 unfolding noted
 returns c =
-    let a = c .before .before .before .before .before .args in
+    let a = c .before .before .before .args in
     let n : a .n ≡ length (entriesOf (a .n) (a .trues .now) (a .falses .now)) = sym (length-entriesOf (a .n) (a .trues .now) (a .falses .now)) in
     (λ j. record { count = a .at + 1; entries = set (a .sizes .now) (a .at) (n j); clauses = set (a .clauses .now) (a .at) (c .clause-count .ensures j) })
 
@@ -42,10 +36,8 @@ note-spec =
     tie.close
     (tie.spec
     mul-sizes
-    slice-write-sizes
+    element-write-sizes
     clause-count-requires
     mul-clauses
-    slice-write-clauses
-    same-length
-    same-length-2
+    element-write-clauses
     returns)

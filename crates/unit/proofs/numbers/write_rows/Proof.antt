@@ -14,7 +14,7 @@ abbrev μ-loop : tie.MeasureT-loop
 μ-loop rows₀ n entries clauses i₀ rows i = n - i
 
 loop-holds : tie.Need-loop-holds Inv-loop μ-loop
-loop-holds c = rowed-start _ _ (c .pre .0 .1)
+loop-holds c = rowed-start _ _ (c .pre .1)
 
 mul-at : tie.Need-mul-at Inv-loop μ-loop
 mul-at c = omega arith
@@ -28,8 +28,8 @@ slice-write-rows c = omega arith
 mul-rows-2 : tie.Need-mul-rows-2 Inv-loop μ-loop
 mul-rows-2 c = omega arith
 
-shared-slice-read-rows : tie.Need-shared-slice-read-rows Inv-loop μ-loop
-shared-slice-read-rows c = omega arith
+element-copy-out-rows : tie.Need-element-copy-out-rows Inv-loop μ-loop
+element-copy-out-rows c = omega arith
 
 add-rows : tie.Need-add-rows Inv-loop μ-loop
 add-rows c = omega arith
@@ -43,8 +43,8 @@ slice-write-rows-2 c = simp length-set (omega arith)
 mul-rows-4 : tie.Need-mul-rows-4 Inv-loop μ-loop
 mul-rows-4 c = omega arith
 
-shared-slice-read-rows-2 : tie.Need-shared-slice-read-rows-2 Inv-loop μ-loop
-shared-slice-read-rows-2 c = omega arith
+element-copy-out-rows-2 : tie.Need-element-copy-out-rows-2 Inv-loop μ-loop
+element-copy-out-rows-2 c = omega arith
 
 add-rows-2 : tie.Need-add-rows-2 Inv-loop μ-loop
 add-rows-2 c = omega arith
@@ -81,12 +81,12 @@ write-rows-spec =
     mul-rows
     slice-write-rows
     mul-rows-2
-    shared-slice-read-rows
+    element-copy-out-rows
     add-rows
     mul-rows-3
     slice-write-rows-2
     mul-rows-4
-    shared-slice-read-rows-2
+    element-copy-out-rows-2
     add-rows-2
     mul-rows-5
     slice-write-rows-3
