@@ -145,10 +145,8 @@ fn compare(case: &Case) -> Result<f64, String> {
     Ok(longest)
 }
 
-/// A call that takes longer than this, in seconds, is timed alone, in three rounds.
+/// A call that takes longer than this, in seconds, is timed alone, in fewer rounds.
 const LONG: f64 = 0.15;
-/// One that takes less than this is timed in more rounds, since what else the machine does disturbs it most.
-const SHORT: f64 = 20e-6;
 /// A batch of shorter calls takes at least about this.
 const BATCH: f64 = 0.04;
 
@@ -157,11 +155,11 @@ pub fn measure(case: &Case) -> Result<Times, String> {
     let longest = compare(case)?;
     let mut lent = Lent::new(case);
     let (rounds, times) = if longest > LONG {
-        (3, 1)
+        (7, 1)
     } else {
         let tries = 1 + (0.002 / longest.max(1e-9)) as u64;
         let one = SIDES[1].batch(case, &mut lent, tries) / tries as f64;
-        (if one < SHORT { 31 } else { 11 }, 1 + (BATCH / one.max(1e-9)) as u64)
+        (31, 1 + (BATCH / one.max(1e-9)) as u64)
     };
     let mut least = [f64::INFINITY; 2];
     for round in 0..rounds {

@@ -4,8 +4,8 @@ use mathlib.Core.List.{List, [], _∷_, _++_, map, map-append}
 use Prim.Native.Nat.{ℕ, zero, suc, _+_, _≤_, _<_}
 use native.Mathlib.Omega.{arith}
 use native.Mathlib.Nat.{le-of-suc-le-suc, not-suc-le-zero, suc-ne-zero, suc-inj}
-use lib.ListN.{length, getD, set, take, drop, replicate, length-map, length-append, length-drop}
-use lib.Seq.{length-take-le, getD-take, getD-drop, ext-getD}
+use lib.ListN.{length, getD, set, take, drop, replicate, length-map, length-append}
+use lib.Seq.{length-take-le, getD-take, ext-getD}
 use Rattle.sheet.specs.declared.Literals.{Literals}
 use Rattle.sheet.specs.Literals.{noLiteral}
 use Rattle.sheet.specs.Lists.{pad}
@@ -107,21 +107,6 @@ take-entriesOf i n ts fs le =
     (λ j h.
     let lt : j < i = omega (arith, long) in
     getD-take i (entriesOf n ts fs) j noLiteral lt ∙ getD-entriesOf n ts fs j (omega arith) ∙ sym (getD-entriesOf i ts fs j lt))
-
--- the w entries from i on are those of the parts there, at least w long
-pub drop-entriesOf : (i w m : ℕ) (ts fs : List ℕ) → w ≤ m → drop i (entriesOf (i + w) ts fs) ≡ entriesOf w (take m (drop i ts)) (take m (drop i fs))
-drop-entriesOf i w m ts fs le =
-    let long : length (drop i (entriesOf (i + w) ts fs)) ≡ w = omega (arith, length-drop i (entriesOf (i + w) ts fs), length-entriesOf (i + w) ts fs) in
-    ext-getD noLiteral (drop i (entriesOf (i + w) ts fs)) (entriesOf w (take m (drop i ts)) (take m (drop i fs)))
-    (long ∙ sym (length-entriesOf w (take m (drop i ts)) (take m (drop i fs))))
-    (λ j h.
-    let lt : j < w = omega (arith, long) in
-    getD-drop i (entriesOf (i + w) ts fs) j noLiteral
-    ∙ getD-entriesOf (i + w) ts fs (i + j) (omega arith)
-    ∙ sym (getD-entriesOf w (take m (drop i ts)) (take m (drop i fs)) j lt ∙ (λ k. record { trues = there ts j lt k; falses = there fs j lt k })))
-  where
-    there : (xs : List ℕ) (j : ℕ) → j < w → getD (take m (drop i xs)) j 0 ≡ getD xs (i + j) 0
-    there xs j lt = getD-take m (drop i xs) j 0 (omega arith) ∙ getD-drop i xs j 0
 
 pairs-of : (es : List Literals) → pairs (trues-of es) (falses-of es) ≡ es
 unfolding pairs

@@ -1,10 +1,10 @@
--- A scan from the last member to the first, and one from the first entry on. Assumes nothing.
+-- A scan from the last member to the first. Assumes nothing.
 use mathlib.Core.Path.{_≡_, refl, sym, ap, _∙_}
 use mathlib.Core.Bool.{Bool, true, false, _||_, cond}
 use mathlib.Core.List.{List, [], _∷_, _++_}
-use Prim.Native.Nat.{ℕ, suc, _+_, _≤_, _<_}
+use Prim.Native.Nat.{ℕ, suc, _≤_, _<_}
 use native.Mathlib.Omega.{arith}
-use lib.ListN.{length, getD, take, drop, take-append-drop}
+use lib.ListN.{length, getD, take}
 use lib.Seq.{take-suc, take-all, length-take-le}
 use Rattle.sheet.specs.declared.Literals.{Literals}
 use Rattle.table.specs.declared.slots.Found.{Found}
@@ -12,9 +12,7 @@ use Rattle.table.specs.declared.slots.Found.the-variants.{At, Nothing}
 use Rattle.sheet.specs.Lists.{anyOf}
 use Rattle.table.specs.Slots.{shifted, lastOf, entriesOf}
 use Rattle.sheet.specs.Literals.{noLiteral}
-use Rattle.table.specs.Moves.{slot}
-use Rattle.table.proofs.Pads.{length-entriesOf, getD-entriesOf, take-entriesOf, drop-entriesOf}
-use Rattle.table.proofs.Turns.{any-on, entries-next, entries-done}
+use Rattle.table.proofs.Pads.{length-entriesOf, getD-entriesOf, take-entriesOf}
 
 -- one member more at the end
 last-more : (f : Literals → Bool) (xs : List Literals) (x : Literals) → lastOf f (xs ++ x ∷ []) ≡ cond (f x) (At (length xs)) (lastOf f xs)
@@ -73,28 +71,6 @@ pub scan-end : (f : Literals → Bool) (n : ℕ) (ts fs : List ℕ) (i : ℕ) �
 unfolding lastOf
 scan-end f n ts fs i h = let z : i ≡ 0 = omega arith in ap (λ (k : ℕ). lastOf f (take k (entriesOf n ts fs))) z
 
--- ---- none of the first i passes
-none-append : (f : Literals → Bool) (xs ys : List Literals) → anyOf f xs ≡ false → anyOf f ys ≡ false → anyOf f (xs ++ ys) ≡ false
-none-append f [] ys h k = k
-none-append f (x ∷ xs) ys h k = at (f x) h (λ q. none-append f xs ys q k)
-  where
-    at : (b : Bool) → (b || anyOf f xs) ≡ false → (anyOf f xs ≡ false → anyOf f (xs ++ ys) ≡ false) → (b || anyOf f (xs ++ ys)) ≡ false
-    at true q rec = q
-    at false q rec = rec q
-
-module _ (f : Literals → Bool) (ts fs : List ℕ) (i : ℕ) (none : anyOf f (entriesOf i ts fs) ≡ false) where
-  none-upto : (n : ℕ) → i ≤ n → anyOf f (drop i (entriesOf n ts fs)) ≡ false → anyOf f (entriesOf n ts fs) ≡ false
-  none-upto n le h =
-      ap (anyOf f) (sym (take-append-drop i (entriesOf n ts fs)))
-      ∙ none-append f (take i (entriesOf n ts fs)) (drop i (entriesOf n ts fs)) (ap (anyOf f) (take-entriesOf i n ts fs le) ∙ none) h
-
-  -- nor of the next w, read in parts of the arrays
-  pub none-part : (w m : ℕ) → w ≤ m → anyOf f (entriesOf w (take m (drop i ts)) (take m (drop i fs))) ≡ false → anyOf f (entriesOf (i + w) ts fs) ≡ false
-  none-part w m le h = none-upto (i + w) (omega arith) (ap (anyOf f) (drop-entriesOf i w m ts fs le) ∙ h)
-
-  -- nor the next one
-  pub none-next : f (slot ts fs i) ≡ false → anyOf f (entriesOf (i + 1) ts fs) ≡ false
-  none-next h =
-      none-upto (i + 1) (omega arith)
-      (any-on f (slot ts fs i) _ _ (f (slot ts fs i)) (entries-next (i + 1) ts fs i (slot ts fs i) (omega arith) refl) refl h
-      ∙ ap (anyOf f) (entries-done (i + 1) ts fs (i + 1) (omega arith)))
+-- none of the first i
+pub none-before : (f : Literals → Bool) (n : ℕ) (ts fs : List ℕ) (i : ℕ) → i ≤ n → lastOf f (take i (entriesOf n ts fs)) ≡ Nothing → anyOf f (entriesOf i ts fs) ≡ false
+none-before f n ts fs i h e = ap (anyOf f) (sym (take-entriesOf i n ts fs h)) ∙ found-none f (take i (entriesOf n ts fs)) Nothing (sym e) refl

@@ -69,28 +69,12 @@ pub(crate) fn some_above(trues: &[u32], falses: &[u32], n: usize, l: Literals) -
     found
 }
 
-// Entries before the result do not contain l. Eight at a time, so that the compiler compares several at once: the result is the start of
-// eight among which some does, or of the last entries, fewer than eight.
-pub(crate) fn first_eight(trues: &[u32], falses: &[u32], n: usize, l: Literals) -> usize
-    requires { ⌜ (n ≤ length (now trues)) × (n ≤ length (now falses)) ⌝ }
-    ensures { λ r. ⌜ (r ≤ n) × (anyOf (λ e. L.within l e) (entriesOf r (now (trues .entry)) (now (falses .entry))) ≡ false) ⌝ }
-{
-    let mut i: usize = 0;
-    while 8 <= n - i {
-        if some_above(&trues[i..i + 8], &falses[i..i + 8], 8, l) {
-            return i;
-        }
-        i += 8;
-    }
-    i
-}
-
 // The first of the n entries that contains l, n if there is none. The contract says what `remove` needs: none before it does.
 pub(crate) fn first_above(trues: &[u32], falses: &[u32], n: usize, l: Literals) -> usize
     requires { ⌜ (n ≤ length (now trues)) × (n ≤ length (now falses)) ⌝ }
     ensures { λ r. ⌜ (r ≤ n) × (anyOf (λ e. L.within l e) (entriesOf r (now (trues .entry)) (now (falses .entry))) ≡ false) ⌝ }
 {
-    let mut i = first_eight(trues, falses, n, l);
+    let mut i: usize = 0;
     while i < n {
         let e = Literals {
             trues: trues[i],
