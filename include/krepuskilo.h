@@ -63,7 +63,7 @@ extern "C" {
 #define KREPUSKILO_STACK_START 11264
 #define KREPUSKILO_STACK_STEP 10240
 #define KREPUSKILO_STACK_PICTURE 18432
-#define KREPUSKILO_STACK_RUN 20480
+#define KREPUSKILO_STACK_RUN 16384
 #define KREPUSKILO_STACK_SEARCH 21504
 
 /* Judges a sheet. Answers 0, or 1 to 7 with the position of the first fault. */

@@ -75,9 +75,9 @@ fn main() -> ExitCode {
             }
         }
     }
-    // The sheets at the limits, once for each thousand small sheets; the slowest of them once, if there are large sheets at all.
+    // The sheets at the limits, once for each ten thousand small sheets; the slowest of them once, if there are large sheets at all.
     let (small_count, large_count) = (numbers[1], numbers[2]);
-    for _ in 0..small_count.div_ceil(1000) {
+    for _ in 0..small_count.div_ceil(10_000) {
         for case in limits::limits(&mut c.random) {
             c.sheet(&case.bytes, &case.tables, 0, 20);
         }
