@@ -20,6 +20,17 @@ pub mod PlanRuns
 pub mod SearchCalls
 pub mod SheetStarts
 pub mod Demands
+pub mod TableCalls
+pub mod PaperWorlds
+pub mod Roles
+pub mod Unread
+pub mod DemandTwo
+pub mod Touching
+pub mod ExchangeMet
+pub mod DemandThree
+pub mod DemandOne
+pub mod RunPlaces
+pub mod DemandProofs
 pub mod PaperRuns
 pub mod Relending
 pub mod LentCalls

@@ -58,7 +58,7 @@ unfolding actionsOf
 plan-proper p hp q h = all-imaged (actionAt p) (ProperAction (p .n)) q (all-map (λ i. i < length (p .actions)) (λ i. ProperAction (p .n) (actionAt p i)) (at-proper p hp) q h)
 
 -- ---- the moves taken, by the verdict alone
-taken-is : (cap : ℕ) (goal : List Literals) (plan : List Action) (t : List Literals) → takenBy (verdictOf (runFrom cap goal 0 plan t)) plan ≡ take (movesTaken cap plan t) plan
+pub taken-is : (cap : ℕ) (goal : List Literals) (plan : List Action) (t : List Literals) → takenBy (verdictOf (runFrom cap goal 0 plan t)) plan ≡ take (movesTaken cap plan t) plan
 unfolding takenBy verdictOf
 taken-is cap goal plan t = go (story cap plan t)
   where

@@ -7,6 +7,8 @@ pub mod Weak
 pub mod Places
 pub mod Meaning
 pub mod Demand3
+pub mod DemandWords
+pub mod Demands
 pub mod Order
 pub mod Course
 pub mod Rows
