@@ -1,4 +1,4 @@
--- Laws of forms: what is due after some bytes, reading from a position, how many bytes a form takes and which faults its rules give.
+-- Laws of forms: what is due after some bytes, reading from a position, how many bytes a form takes.
 -- Assumes nothing.
 use mathlib.Core.Path.{_≡_, refl, ap, _∙_}
 use mathlib.Core.Bool.{Bool, true, false, cond}
@@ -9,12 +9,12 @@ use Prim.Native.Nat.{ℕ, zero, suc, _+_, _*_, _/_, _≤_, _<_}
 use native.Mathlib.Nat.{add-zero, zero-mul, suc-mul, mul-le-mul-right}
 use native.Mathlib.Numerals.{add-one}
 use native.Mathlib.Omega.{arith}
-use lib.Dec.{ltb, leb, eqb}
+use lib.Dec.{ltb}
 use lib.ListN.{length, getD, drop, length-append}
 use lib.Seq.{drop-append-seam}
 use borrow.Author.Tests.{ltb-false, lt-ltb, le-ltb}
 use Rattle.sheet.specs.Form.{Form, done, byte, _>>=_, judged, times, Read, item, fault, after, admit, byteAt, read, passed, due, faultOf}
-use Rattle.sheet.specs.Format.{countFault, literalFault, numberFault, listOf, ascending, literals, setOf, clause, effect, action, clauses, actions, goal, plan, facts, sheet}
+use Rattle.sheet.specs.Format.{countFault, literalFault, listOf, ascending, literals, setOf}
 
 -- ---- what is due after some bytes
 
@@ -277,94 +277,3 @@ bounded-literals n low high =
     bounded-then (judged (countFault low high)) _ 1 high (bounded-judged (countFault low high))
     (λ k bs p. bounded-le _ _ _ (omega (arith, count-range low high k (due-judged _ bs p .1) .1))
     (bounded-then (ascending n none k) _ k 0 (bounded-ascending n none k) (λ xs cs q. bounded-done (setOf xs))))
-
--- ---- the numbers of the faults that the rules of a form give
-
--- 0, 2, 3, 4, 5 or 7
-pub record Known (k : ℕ) : Type 0 where
-  pub most : k ≤ 7
-  pub not-one : k ≡ 1 → ⊥
-  pub not-six : k ≡ 6 → ⊥
-
--- each rule of f gives only these
-abbrev pub Numbered : {A : Type 0} → Form A → Type 0
-Numbered (done a) = Unit {0}
-Numbered (byte rule next) = ((b : ℕ) → Known (rule b)) × ((b : ℕ) → Numbered (next b))
-
-pub numbered-due : {A : Type 0} (f : Form A) (bs : List ℕ) {g : Form A} → Numbered f → due f bs ≡ some g → Numbered g
-unfolding due
-numbered-due f [] {g} h e = let q : f ≡ g = cc in rw q at h
-numbered-due (done a) (b ∷ bs) h e = let z : _≡_ {A = ℕ} 0 1 = cc in absurd (omega arith)
-numbered-due (byte rule next) (b ∷ bs) h e = numbered-due (next b) bs (h .1 b) (passed-some (rule b) e .1)
-
-pub numbered-judged : (rule : ℕ → ℕ) → ((b : ℕ) → Known (rule b)) → Numbered (judged rule)
-unfolding judged
-numbered-judged rule h = (h, λ b. tt)
-
-pub numbered-then : {A B : Type 0} (f : Form A) (g : A → Form B) → Numbered f → ((a : A) → Numbered (g a)) → Numbered (f >>= g)
-unfolding _>>=_
-numbered-then (done a) g h k = k a
-numbered-then (byte rule next) g h k = (h .0, λ b. numbered-then (next b) g (h .1 b) k)
-
-pub numbered-times : {A : Type 0} (one : Form A) → Numbered one → (k : ℕ) → Numbered (times k one)
-unfolding times
-numbered-times one h zero = tt
-numbered-times one h (suc k) = numbered-then one _ h (λ x. numbered-then (times k one) _ (numbered-times one h k) (λ xs. tt))
-
--- the rules of the format
-known-cond : (t : Bool) {x y : ℕ} → Known x → Known y → Known (cond t x y)
-known-cond true p q = p
-known-cond false p q = q
-
-numbered-count : (low high : ℕ) → Numbered (judged (countFault low high))
-unfolding countFault
-numbered-count low high = numbered-judged _ (λ b. known-cond (ltb b low) (omega arith) (known-cond (ltb high b) (omega arith) (omega arith)))
-
-known-literal : (n : ℕ) (last : Option ℕ) (b : ℕ) → Known (literalFault n last b)
-unfolding literalFault
-known-literal n none b = known-cond (leb (2 * n) b) (omega arith) (omega arith)
-known-literal n (some l) b =
-    known-cond (leb (2 * n) b) (omega arith)
-    (known-cond (leb b l) (omega arith) (known-cond (eqb (b / 2) (l / 2)) (omega arith) (omega arith)))
-
-pub numbered-list : {A : Type 0} (low high : ℕ) (one : Form A) → Numbered one → Numbered (listOf low high one)
-unfolding listOf
-numbered-list low high one h = numbered-then _ _ (numbered-count low high) (numbered-times one h)
-
-pub numbered-ascending : (n : ℕ) (last : Option ℕ) (k : ℕ) → Numbered (ascending n last k)
-unfolding ascending
-numbered-ascending n last zero = tt
-numbered-ascending n last (suc k) =
-    numbered-then _ _ (numbered-judged _ (known-literal n last)) (λ b. numbered-then _ _ (numbered-ascending n (some b) k) (λ bs. tt))
-
-pub numbered-literals : (n low high : ℕ) → Numbered (literals n low high)
-unfolding literals
-numbered-literals n low high =
-    numbered-then _ _ (numbered-count low high) (λ k. numbered-then _ _ (numbered-ascending n none k) (λ bs. tt))
-
--- the sections
-numbered-clauses : (n : ℕ) → Numbered (clauses n)
-unfolding clauses clause
-numbered-clauses n = numbered-list 0 8 _ (numbered-list 1 8 _ (numbered-literals n 1 4))
-
-numbered-actions : (n : ℕ) → Numbered (actions n)
-unfolding actions action effect
-numbered-actions n =
-    numbered-list 1 32 _
-    (numbered-then _ _ (numbered-literals n 0 8) (λ p.
-    numbered-then _ _ (numbered-list 0 8 _ (numbered-then _ _ (numbered-literals n 0 4) (λ c. numbered-then _ _ (numbered-literals n 1 4) (λ r. tt)))) (λ es. tt)))
-
-numbered-facts : Numbered facts
-unfolding facts
-numbered-facts =
-    numbered-then _ _ (numbered-count 1 32) (λ n.
-    numbered-then _ _ (numbered-literals n 0 32) (λ known.
-    numbered-then _ _ (numbered-clauses n) (λ ors. numbered-then _ _ (numbered-clauses n) (λ oneofs. tt))))
-
-pub numbered-sheet : Numbered sheet
-unfolding sheet goal plan numberFault
-numbered-sheet =
-    numbered-then _ _ numbered-facts (λ f.
-    numbered-then _ _ (numbered-actions (f .n)) (λ moves.
-    numbered-then _ _ (numbered-list 0 8 _ (numbered-literals (f .n) 1 8)) (λ g.
-    numbered-then _ _ (numbered-list 0 64 _ (numbered-judged _ (λ b. known-cond (leb (length moves) b) (omega arith) (omega arith)))) (λ p. tt))))

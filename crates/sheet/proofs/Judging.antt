@@ -15,17 +15,11 @@ use borrow.Author.Tests.{lt-ltb, le-ltb}
 use Rattle.sheet.specs.Problem.{Statement}
 use Rattle.sheet.specs.Form.{Form, done, byte, read, due, faultOf}
 use Rattle.sheet.specs.Format.{sheet, accepted, refused, ended, sheetOf, clause, effect, action, clauses, actions, goal, plan, facts}
-use Rattle.sheet.proofs.Forms.{due-append, due-prefix, due-fine, Stop, stop, read-due, read-stop, Bounded, bounded-done, bounded-judged, bounded-then, bounded-list, bounded-literals, Numbered, numbered-due, numbered-sheet}
+use Rattle.sheet.specs.Faults.{FirstFault}
+use Rattle.sheet.proofs.Forms.{due-append, due-prefix, due-fine, Stop, stop, read-due, read-stop, Bounded, bounded-done, bounded-judged, bounded-then, bounded-list, bounded-literals}
+use Rattle.sheet.proofs.Roles.{not-one, Roles, roles-due, roles-sheet}
 
 -- ---- the judgement by what is due
-
--- the first p bytes have no fault, and the fault k stands at p
-pub record FirstFault (s : List ℕ) (k p : ℕ) : Type 0 where
-  pub within : p ≤ length s
-  pub form : Form Statement
-  pub before : due sheet (take p s) ≡ some form
-  pub number : faultOf form (drop p s) ≡ k
-  pub wrong : k ≡ 0 → ⊥
 
 -- after bytes without fault, what is due decides
 judged-at : (bs rest : List ℕ) {g : Form Statement} → due sheet bs ≡ some g
@@ -99,16 +93,16 @@ accepted-iff s x = (λ e. go e (judgement s), accepted-at s)
 
 -- nothing but the end of the bytes is too early
 pub early : (s : List ℕ) (p : ℕ) → sheetOf s ≡ refused 1 p → p ≡ length s
-early s p e = go (r .form) (drop p s) refl (numbered-due sheet (take p s) numbered-sheet (r .before)) (r .number)
+early s p e = go (r .form) (drop p s) refl (roles-due sheet (take p s) roles-sheet (r .before)) (r .number)
   where
     r : FirstFault s 1 p
     r = refused-iff s 1 p .0 e
 
-    go : (g : Form Statement) (l : List ℕ) → drop p s ≡ l → Numbered g → faultOf g l ≡ 1 → p ≡ length s
+    go : (g : Form Statement) (l : List ℕ) → drop p s ≡ l → Roles g → faultOf g l ≡ 1 → p ≡ length s
     go (done x) [] d n q = absurd (omega arith)
     go (done x) (c ∷ cs) d n q = absurd (omega arith)
     go (byte rule next) [] d n q = omega (arith, r .within, length-drop p s, ap length d)
-    go (byte rule next) (c ∷ cs) d n q = absurd (n .0 c .not-one q)
+    go (byte rule next) (c ∷ cs) d n q = absurd (not-one (n .0 c) q)
 
 -- ---- the bytes after the first fault do not matter
 

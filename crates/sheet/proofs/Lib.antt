@@ -9,6 +9,7 @@ pub mod Lowest
 pub mod Results
 pub mod Worlds
 pub mod Forms
+pub mod Roles
 pub mod Runs
 pub mod Ascending
 pub mod Encoded
@@ -20,4 +21,6 @@ pub mod SlotLaws
 pub mod Sections
 pub mod Rules
 pub mod Members
+pub mod Faults
+pub mod Alike
 pub mod Demands

@@ -1,14 +1,42 @@
--- The rule of a literal byte, case by case. Assumes nothing.
+-- The rules of single bytes, case by case: when a count, a literal or a move number is at fault. Assumes nothing.
 use mathlib.Core.Path.{_≡_, refl, sym, ap, _∙_}
 use mathlib.Core.Bool.{Bool, true, false, cond}
-use mathlib.Core.Logic.{_↔_}
+use mathlib.Core.Logic.{_⊎_, inl, inr, _↔_}
 use mathlib.Core.Option.{Option, none, some}
 use Prim.Native.Nat.{ℕ, _*_, _/_, _≤_, _<_}
 use native.Mathlib.Omega.{arith}
-use lib.Dec.{leb, eqb}
-use borrow.Author.Tests.{leb-true, leb-false, le-leb, lt-leb, eq-eqb, eqb-true}
-use Rattle.sheet.specs.Format.{literalFault}
+use lib.Dec.{ltb, leb, eqb}
+use borrow.Author.Tests.{ltb-true, ltb-false, leb-true, leb-false, le-leb, lt-leb, eq-eqb, eqb-true}
+use Rattle.sheet.specs.Format.{countFault, literalFault, numberFault}
 
+-- ---- a count
+pub count-2 : (low high b : ℕ) → (countFault low high b ≡ 2) ↔ ((b < low) ⊎ (high < b))
+count-2 low high b = go (ltb b low) refl (ltb high b) refl
+  where
+    go : (c : Bool) → ltb b low ≡ c → (d : Bool) → ltb high b ≡ d → (countFault low high b ≡ 2) ↔ ((b < low) ⊎ (high < b))
+    go true e d f = (λ q. inl (ltb-true b low e), λ h. unfold countFault in rw e)
+    go false e true f = (λ q. inr (ltb-true high b f), λ h. unfold countFault in rw (e, f))
+    go false e false f = (λ q. absurd (omega (arith, sym clear ∙ q)), λ h. absurd (no h))
+      where
+        clear : countFault low high b ≡ 0
+        clear = unfold countFault in rw (e, f)
+
+        no : (b < low) ⊎ (high < b) → ⊥
+        no (inl l) = omega (arith, ltb-false b low e)
+        no (inr l) = omega (arith, ltb-false high b f)
+
+-- ---- a move number
+pub number-7 : (m b : ℕ) → (numberFault m b ≡ 7) ↔ (m ≤ b)
+number-7 m b = (λ q. go (leb m b) refl q, λ h. unfold numberFault in rw (le-leb m b h))
+  where
+    go : (c : Bool) → leb m b ≡ c → numberFault m b ≡ 7 → m ≤ b
+    go true e q = leb-true m b e
+    go false e q = absurd (omega (arith, sym clear ∙ q))
+      where
+        clear : numberFault m b ≡ 0
+        clear = unfold numberFault in rw e
+
+-- ---- a literal
 -- a chain of three tests, with three numbers that differ and none 0
 chain : Bool → Bool → Bool → ℕ
 chain a b c = cond a 3 (cond b 4 (cond c 5 0))

@@ -8,4 +8,5 @@ pub mod Encoding
 pub mod Rows
 pub mod Decoded
 pub mod Calls
+pub mod Faults
 pub mod Marks
