@@ -23,7 +23,7 @@ use Rattle.plan.specs.Calls.{answered}
 use Rattle.sheet.specs.Rows.{actionOf}
 use Rattle.plan.specs.Walks.{answeredAt, endedBy, Searchable, Unmet, walked, begun}
 use Rattle.plan.specs.Course.{Ready}
-use Rattle.plan.proofs.TableRuns.{entries-table}
+use Rattle.table.proofs.CallTables.{entries-table}
 use Rattle.plan.proofs.Courses.{stepped, stopped, ready-table, ready-count}
 use Rattle.plan.proofs.Pruning.{quiet-after, unchanged}
 use Rattle.plan.proofs.Walking.{written, onward-ended, onward-not, at-stop, at-full}

@@ -9,15 +9,14 @@ use borrow.Author.Tests.{le-ltb}
 use Rattle.sheet.specs.declared.Literals.{Literals}
 use Rattle.sheet.specs.Problem.{Action, Problem, Statement}
 use Rattle.sheet.specs.Format.{Judgement, accepted, sheetOf}
-use Rattle.sheet.specs.Encoding.{ProperStatement}
-use Rattle.sheet.proofs.Encoded.{encoded-iff}
-use Rattle.sheet.proofs.Judging.{accepted-iff}
+use Rattle.sheet.proofs.Demands.{statement-proper}
 use Rattle.table.specs.Worlds.{runWorld, Starting}
 use Rattle.table.specs.Minimal.{Described, refused, table}
 use Rattle.table.specs.Start.{startTable}
 use Rattle.table.specs.Picture.{picture, pictureBytes}
 use Rattle.table.specs.Slots.{entries, tableOf}
 use Rattle.table.proofs.Demands.{start-20, start-kind}
+use Rattle.table.proofs.CallTables.{entries-table}
 use Rattle.table.proofs.ClausePut.{then-some}
 use Rattle.plan.specs.declared.Ran.{Ran}
 use Rattle.plan.specs.declared.Verdict as case
@@ -26,10 +25,7 @@ use Rattle.plan.specs.Calls.{verdictOf, refusedRun, planned, runOf, plan
 use Rattle.plan.specs.Meaning.{Comes}
 use Rattle.plan.specs.Demand3.{classOf, takenBy, fullVerdict, refusedVerdict, runFull, runRefused, finalClauses, finalPicture, SameEnd}
 use Rattle.plan.proofs.Exactly.{Exact, same-bytes, same-class}
-use Rattle.plan.proofs.TableRuns.{entries-table, last-arrives, table-exact}
-
-pub statement-proper : (s : List ℕ) (x : Statement) → sheetOf s ≡ accepted x → ProperStatement x
-statement-proper s x e = encoded-iff s x .0 (accepted-iff s x .0 e) .0
+use Rattle.plan.proofs.TableRuns.{last-arrives, table-exact}
 
 -- an answer of the call as an exact run
 pub record Called (p : Problem) (plan : List Action) (r : Ran) : Type 0 where

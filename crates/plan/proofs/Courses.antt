@@ -31,7 +31,7 @@ use Rattle.plan.specs.declared.Verdict as case
 use Rattle.plan.specs.Run.{actionsOf, endedBy, onward, runFrom, tableOr, lastTable, rowOf, rowsOr, rowsFrom}
 use Rattle.plan.specs.Calls.{verdictOf, refusedRun, planned, runOf, plannedRows, rowsOf}
 use Rattle.plan.specs.Course.{countsOf, courseOf, noted, refusedCourse, courseFrom, plannedCourse, Ready}
-use Rattle.plan.proofs.TableRuns.{entries-table}
+use Rattle.table.proofs.CallTables.{entries-table}
 
 -- ---- one row more
 pub note-row : (rows : List Row) (place : ℕ) (t : List Literals) → length rows < 65 → noted (countsOf rows) t ≡ countsOf (rows ++ rowOf place t ∷ [])

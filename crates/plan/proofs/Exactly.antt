@@ -13,9 +13,8 @@ use Rattle.sheet.specs.Lists.{All}
 use Rattle.sheet.specs.Problem.{Action, Problem}
 use Rattle.sheet.proofs.Members.{all-members}
 use Rattle.table.specs.Worlds.{runWorld, Starting}
-use Rattle.table.specs.Picture.{pictureBytes}
+use Rattle.table.specs.Picture.{Ascending, pictureBytes}
 use Rattle.table.proofs.Primes.{PrimeList, list-exactly, primeList-same}
-use Rattle.table.proofs.Order.{Ascending}
 use Rattle.table.proofs.Pictures.{prime-unique}
 use Rattle.table.proofs.PictureBytes.{Fit, bytes-injective}
 use Rattle.plan.specs.Run.{Verdict, reached, short, stopped, full}

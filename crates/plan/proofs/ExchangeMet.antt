@@ -10,6 +10,7 @@ use Rattle.sheet.specs.Lists.{pad}
 use Rattle.sheet.specs.Problem.{Problem, Statement, problemOf}
 use Rattle.sheet.specs.Form.{_>>=_, judged, times, byteAt, read}
 use Rattle.sheet.specs.Format.{countFault, literalFault, numberFault, listOf, ascending, setOf, literals, clause, effect, action, clauses, actions, goal, plan, facts, sheet, ended, accepted, sheetOf}
+use Rattle.sheet.specs.Faults.{Says}
 use Rattle.table.specs.Worlds.{andThen}
 use Rattle.table.specs.Minimal.{put, table}
 use Rattle.table.specs.Start.{clausesOf, grow, startTable}
@@ -17,18 +18,21 @@ use Rattle.table.specs.Step.{missing, split, image, stepTable}
 use Rattle.table.specs.Picture.{units, unions, fold, primes, before, insert, sortOnto, sort, picture, pictureBytes}
 use Rattle.table.specs.Slots.{pairs, entriesOf, entries, tableOf}
 use Rattle.table.specs.Calls.{actionAt}
+use Rattle.table.specs.CallWords.{Starts}
 use Rattle.table.proofs.Examples.{set, when, always}
 use Rattle.plan.specs.declared.Ran.{Ran}
 use Rattle.plan.specs.declared.Verdict.the-variants as ran
 use Rattle.plan.specs.Run.{actionsOf, inGoal, Verdict, reached, runFrom, lastTable}
 use Rattle.plan.specs.Calls.{verdictOf, runOf}
 use Rattle.plan.specs.Exchange.{changed, reads, named, touch, exchanges}
-use Rattle.plan.specs.Demand3.{refusedVerdict, runRefused, finalClauses, finalPicture, SamePlanSheet}
-use Rattle.plan.specs.DemandWords.{twoMoves, Starts}
+use Rattle.plan.specs.Demand3.{refusedVerdict, runRefused, finalClauses, finalPicture}
+use Rattle.plan.specs.DemandWords.{finalOf, twoMoves}
+use Rattle.plan.specs.Demands.{Met}
 use Rattle.plan.proofs.CallRuns.{run-call}
+use Rattle.plan.proofs.ExchangeDemands.{final-is}
 
 -- what the sheet says
-abbrev pub two : Problem
+abbrev two : Problem
 two = record {
   n = 2;
   known = set 0 0;
@@ -38,14 +42,14 @@ two = record {
   goal = set 1 0 ∷ set 2 0 ∷ [];
 }
 
-abbrev pub with-plan : ℕ → ℕ → Statement
+abbrev with-plan : ℕ → ℕ → Statement
 with-plan a b = record { problem = two; plan = a ∷ b ∷ [] }
 
-pub says-01 : sheetOf (twoMoves 0 1) ≡ accepted (with-plan 0 1)
+says-01 : sheetOf (twoMoves 0 1) ≡ accepted (with-plan 0 1)
 unfolding sheetOf ended read byteAt sheet facts plan goal actions clauses action effect clause literals setOf ascending listOf numberFault literalFault countFault times judged _>>=_ problemOf noLiteral join literal single sign
 says-01 = refl
 
-pub says-10 : sheetOf (twoMoves 1 0) ≡ accepted (with-plan 1 0)
+says-10 : sheetOf (twoMoves 1 0) ≡ accepted (with-plan 1 0)
 unfolding sheetOf ended read byteAt sheet facts plan goal actions clauses action effect clause literals setOf ascending listOf numberFault literalFault countFault times judged _>>=_ problemOf noLiteral join literal single sign
 says-10 = refl
 
@@ -61,12 +65,12 @@ came-10 : (runFrom 128 (two .goal) 0 (actionsOf two (1 ∷ 0 ∷ [])) (set 0 0 �
 unfolding actionsOf actionAt stepTable split missing image put within join clash consistent flip literal single sign replace noLiteral members membersFrom contains mem has inGoal meets
 came-10 = (refl, refl)
 
-pub given-01 : runOf (sheetOf (twoMoves 0 1)) 65 ≡ record { verdict = verdictOf reached; table = tableOf (set 3 0 ∷ []) }
+given-01 : runOf (sheetOf (twoMoves 0 1)) 65 ≡ record { verdict = verdictOf reached; table = tableOf (set 3 0 ∷ []) }
 given-01 =
     run-call (twoMoves 0 1) (with-plan 0 1) says-01 65 (omega arith) (set 0 0 ∷ []) starts
     ∙ ap₂ {C = Ran} (λ (v : Verdict) (u : List Literals). record { verdict = verdictOf v; table = tableOf u }) (came-01 .0) (came-01 .1)
 
-pub given-10 : runOf (sheetOf (twoMoves 1 0)) 65 ≡ record { verdict = verdictOf reached; table = tableOf (set 3 0 ∷ []) }
+given-10 : runOf (sheetOf (twoMoves 1 0)) 65 ≡ record { verdict = verdictOf reached; table = tableOf (set 3 0 ∷ []) }
 given-10 =
     run-call (twoMoves 1 0) (with-plan 1 0) says-10 65 (omega arith) (set 0 0 ∷ []) starts
     ∙ ap₂ {C = Ran} (λ (v : Verdict) (u : List Literals). record { verdict = verdictOf v; table = tableOf u }) (came-10 .0) (came-10 .1)
@@ -76,25 +80,38 @@ unfolding entries tableOf entriesOf pairs pad has mem within consistent join sin
 shown = refl
 
 -- both are reached
-pub reached-by : (r : Ran) → r ≡ record { verdict = verdictOf reached; table = tableOf (set 3 0 ∷ []) } → r .verdict ≡ ran.Reached
+reached-by : (r : Ran) → r ≡ record { verdict = verdictOf reached; table = tableOf (set 3 0 ∷ []) } → r .verdict ≡ ran.Reached
 unfolding verdictOf
 reached-by r e = ap (λ (q : Ran). q .verdict) e
 
 -- the final picture of a run with this table
-pub final : (r : Ran) → r ≡ record { verdict = verdictOf reached; table = tableOf (set 3 0 ∷ []) } → finalPicture r ≡ some (pictureBytes (set 1 0 ∷ set 2 0 ∷ []))
+final : (r : Ran) → r ≡ record { verdict = verdictOf reached; table = tableOf (set 3 0 ∷ []) } → finalPicture r ≡ some (pictureBytes (set 1 0 ∷ set 2 0 ∷ []))
 unfolding finalPicture finalClauses runRefused refusedVerdict verdictOf
 final r e = ap finalPicture e ∙ ap (λ (o : Option (List Literals)). andThen o (λ c. some (pictureBytes c))) shown
 
-pub same : SamePlanSheet (twoMoves 0 1) (twoMoves 1 0) (with-plan 0 1) (with-plan 1 0)
-same = record { first = says-01; second = says-10; alike = refl }
+final-of : (a b : ℕ) → Says (twoMoves a b) (with-plan a b) → runOf (sheetOf (twoMoves a b)) 65 ≡ record { verdict = verdictOf reached; table = tableOf (set 3 0 ∷ []) }
+    → finalOf (twoMoves a b) 65 ≡ some (pictureBytes (set 1 0 ∷ set 2 0 ∷ []))
+final-of a b says e = final-is (twoMoves a b) (with-plan a b) says 65 ∙ final (runOf (sheetOf (twoMoves a b)) 65) e
 
-pub world : (w : ℕ) × Starts two w
+world : (w : ℕ) × Starts two w
 unfolding within state
 world = (0, (omega arith, record { known = tt; ors = tt; oneofs = tt }))
 
-pub swapped : with-plan 1 0 .plan ≡ exchanges (actionAt two) (1 ∷ []) (with-plan 0 1 .plan)
+swapped : with-plan 1 0 .plan ≡ exchanges (actionAt two) (1 ∷ []) (with-plan 0 1 .plan)
 unfolding actionAt touch named reads changed names
 swapped = refl
 
-pub differ : _≡_ {A = List ℕ} (0 ∷ 1 ∷ []) (1 ∷ 0 ∷ []) → ⊥
+pub met : Met (twoMoves 0 1) (twoMoves 1 0) (1 ∷ [])
+met = record {
+  first = with-plan 0 1;
+  second = with-plan 1 0;
+  sheets = record { first = says-01; second = says-10; alike = refl };
+  world = world;
+  exchanged = swapped;
+  reached = (reached-by (runOf (sheetOf (twoMoves 0 1)) 65) given-01, reached-by (runOf (sheetOf (twoMoves 1 0)) 65) given-10);
+  pictures = (pictureBytes (set 1 0 ∷ set 2 0 ∷ []), final-of 0 1 says-01 given-01, final-of 1 0 says-10 given-10);
+}
+
+-- the two sheets differ
+pub differ : twoMoves 0 1 ≡ twoMoves 1 0 → ⊥
 differ e = let z : _≡_ {A = ℕ} 0 1 = cc in omega arith

@@ -8,20 +8,11 @@ use lib.ListN.{length}
 use Rattle.sheet.specs.Lists.{All}
 use Rattle.sheet.specs.Problem.{Action}
 use Rattle.sheet.specs.Encoding.{ProperAction}
-use Rattle.sheet.proofs.Bools.{true-T}
-use Rattle.table.specs.Worlds.{takes, after, when, stepWorld, andThen, runWorld}
-use Rattle.table.proofs.Stepping.{after-world}
+use Rattle.table.specs.Worlds.{stepWorld, andThen, runWorld}
+use Rattle.table.proofs.Stepping.{step-below}
 use Rattle.plan.specs.Exchange.{swap, exchangeBy, exchangesBy}
 
 -- ---- worlds step to worlds
-pub step-below : (n : ℕ) (a : Action) → ProperAction n a → (w v : ℕ) → w < 2 ^ n → stepWorld n a w ≡ some v → v < 2 ^ n
-unfolding stepWorld
-step-below n a ha w v l e = go (takes n a w) refl e
-  where
-    go : (t : Bool) → takes n a w ≡ t → when t (after n a w) ≡ some v → v < 2 ^ n
-    go true k q = rw (← Option·some-injective (after n a w) v q) (after-world n a ha w l (true-T (takes n a w) k) .0)
-    go false k q = absurd (Option·none-ne-some v q)
-
 pub run-below : (n : ℕ) (plan : List Action) → All (ProperAction n) plan → (w v : ℕ) → w < 2 ^ n → runWorld n plan w ≡ some v → v < 2 ^ n
 run-below n [] h w v l e = rw (← Option·some-injective w v e) l
 run-below n (a ∷ plan) h w v l e = go (stepWorld n a w) refl e (λ u. run-below n plan (h .1) u v)

@@ -25,7 +25,8 @@ use Rattle.plan.specs.declared.Ran.{Ran}
 use Rattle.plan.specs.Run.{actionsOf, lastTable}
 use Rattle.plan.specs.Calls.{runOf}
 use Rattle.plan.specs.Demand3.{finalClauses, finalPicture}
-use Rattle.plan.proofs.CallRuns.{statement-proper, final-bytes, last-described, last-entries, last-clauses}
+use Rattle.sheet.proofs.Demands.{statement-proper}
+use Rattle.plan.proofs.CallRuns.{final-bytes, last-described, last-entries, last-clauses}
 
 pub bytes-length : (s : List Literals) → length (pictureBytes s) ≡ 2 + 8 * length s
 unfolding pictureBytes

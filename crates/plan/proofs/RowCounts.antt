@@ -24,7 +24,7 @@ use Rattle.plan.specs.Calls.{plannedRows, rowsOf, rowsAfter}
 use Rattle.plan.specs.Course.{countsOf, courseOf}
 use Rattle.plan.specs.Rows.{rowAt, rowsBelow, rowsIn, noRow}
 use Rattle.plan.proofs.Running.{story, taken-all, taken-refused, refuses-within, arrived, rows-length, row-at}
-use Rattle.plan.proofs.CallRuns.{statement-proper}
+use Rattle.sheet.proofs.Demands.{statement-proper}
 
 -- rows of the places 0, 1, 2, .., at most 65, where m are lent
 pub record Placed (m : ℕ) (ws : List Row) : Type 0 where

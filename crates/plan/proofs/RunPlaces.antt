@@ -16,7 +16,10 @@ use Rattle.sheet.specs.declared.Answer.the-variants.{Accepted, Refused}
 use Rattle.sheet.specs.Lists.{All, allOf}
 use Rattle.sheet.specs.Problem.{Action, Problem, Statement}
 use Rattle.sheet.specs.Format.{Judgement, accepted, refused, sheetOf}
+use Rattle.sheet.specs.Faults.{Says}
 use Rattle.sheet.specs.Encoding.{ProperProblem}
+use Rattle.sheet.proofs.ListFacts.{map-take, map-drop, all-drop}
+use Rattle.sheet.proofs.Demands.{statement-proper}
 use Rattle.table.specs.declared.Table.{Table}
 use Rattle.table.specs.declared.Tabled.{Tabled}
 use Rattle.table.specs.declared.Pictured.{Pictured}
@@ -30,40 +33,26 @@ use Rattle.table.specs.Slots.{entries, tableOf}
 use Rattle.table.specs.Calls.{orGiven, startOf, actionAt, stepOf}
 use Rattle.table.specs.PictureCalls.{refusal, tooLong, pictureOf}
 use Rattle.table.specs.PictureCalls as pictured
+use Rattle.table.specs.CallWords.{OnSheet, WorldOf}
 use Rattle.table.proofs.Demands as tables
+use Rattle.table.proofs.Started.{at-proper}
+use Rattle.table.proofs.CallTables.{entries-table}
 use Rattle.plan.specs.declared.Row.{Row}
 use Rattle.plan.specs.declared.Ran.{Ran}
 use Rattle.plan.specs.declared.Verdict as case
 use Rattle.plan.specs.declared.Verdict.the-variants as ran
-use Rattle.plan.specs.Run.{actionsOf, inGoal, Verdict, reached, short, stopped, full, ended, endedBy, runFrom, lastTable, movesTaken, rowsFrom}
+use Rattle.plan.specs.Run.{actionsOf, inGoal, Verdict, reached, short, stopped, full, ended, endedBy, runFrom, lastTable, movesTaken, rowOf, rowsFrom}
 use Rattle.plan.specs.Calls.{verdictOf, runOf, rowsOf, rowsAfter}
 use Rattle.plan.specs.Places.{thenTable, tableAt, Refuses}
 use Rattle.plan.specs.Demand3.{takenBy, runRefused}
-use Rattle.plan.specs.DemandWords.{Says, OnSheet, WorldOf, taken, given, stepped, arrived, StepRefused, clausesOr}
+use Rattle.plan.specs.DemandWords.{taken, given, stepped, arrived, StepRefused, clausesOr}
 use Rattle.plan.proofs.Running.{Story, story, run-ended, run-refused, last-at, taken-all, taken-refused}
 use Rattle.plan.proofs.Running as running
-use Rattle.plan.proofs.TableRuns.{entries-table, at-proper, place-arrives}
+use Rattle.plan.proofs.TableRuns.{taken-by, place-arrives, by-stopped, by-full, by-reached, by-short}
 use Rattle.plan.proofs.Verdicts.{all-take}
-use Rattle.plan.proofs.CallRuns.{statement-proper, run-call, rows-call}
+use Rattle.plan.proofs.CallRuns.{run-call, rows-call}
 use Rattle.plan.proofs.CallAnswers.{run-fault-rows, run-number, run-rows-kept}
-use Rattle.plan.proofs.Demands as plans
-use Rattle.plan.proofs.TableCalls.{verdict-injective, refused-is, rows-enough, run-starts}
-
--- ---- lists
-map-take : {A B : Type 0} (f : A → B) (k : ℕ) (xs : List A) → map f (take k xs) ≡ take k (map f xs)
-map-take f zero xs = refl
-map-take f (suc k) [] = refl
-map-take {A} {B} f (suc k) (x ∷ xs) = ap {B = List B} (λ r. f x ∷ r) (map-take f k xs)
-
-map-drop : {A B : Type 0} (f : A → B) (k : ℕ) (xs : List A) → map f (drop k xs) ≡ drop k (map f xs)
-map-drop f zero xs = refl
-map-drop f (suc k) [] = refl
-map-drop f (suc k) (x ∷ xs) = map-drop f k xs
-
-all-drop : {A : Type 0} (P : A → Type 0) (j : ℕ) (xs : List A) → All P xs → All P (drop j xs)
-all-drop P zero xs h = h
-all-drop P (suc j) [] h = tt
-all-drop P (suc j) (x ∷ xs) h = all-drop P j xs (h .1)
+use Rattle.plan.proofs.RunAnswers.{verdict-injective, refused-is, rows-enough, run-starts, Outcomes, outcomes}
 
 -- ---- the table at place i of a plan is that of its first i moves
 at-take : (i : ℕ) (plan : List Action) (t : List Literals) → tableAt 128 i (take i plan) t ≡ tableAt 128 i plan t
@@ -75,29 +64,6 @@ at-take (suc i) (a ∷ plan) t = go (stepTable 128 a t) (at-take i plan)
         → thenTable o (λ u. tableAt 128 i (take i plan) u) ≡ thenTable o (λ u. tableAt 128 i plan u)
     go (Outcome.refused k) ih = refl
     go (Outcome.table u) ih = ih u
-
--- ---- the moves taken, of any list as long as the plan
-module _ {A : Type 0} (goal : List Literals) (plan : List Action) (t : List Literals) (q : List A) (same : length q ≡ length plan) where
-  taken-by : takenBy (verdictOf (runFrom 128 goal 0 plan t)) q ≡ take (movesTaken 128 plan t) q
-  unfolding takenBy verdictOf
-  taken-by = go (story 128 plan t)
-    where
-      all : (b : Bool) → takenBy (verdictOf (ended b)) q ≡ q
-      all true = refl
-      all false = refl
-
-      some-of : (b : Bool) (k N : ℕ) → takenBy (verdictOf (endedBy b (suc k) N)) q ≡ take k q
-      some-of true k N = let i : suc k - 1 ≡ k = omega arith in ap (λ (j : ℕ). take j q) i
-      some-of false k N = let i : suc k - 1 ≡ k = omega arith in ap (λ (j : ℕ). take j q) i
-
-      go : Story 128 plan t → takenBy (verdictOf (runFrom 128 goal 0 plan t)) q ≡ take (movesTaken 128 plan t) q
-      go (inl x) =
-          ap (λ (v : Verdict). takenBy (verdictOf v) q) (run-ended 128 goal 0 plan t (x .0) (x .1)) ∙ all (allOf (inGoal goal) (x .0))
-          ∙ sym (ap (λ (i : ℕ). take i q) (taken-all 128 plan t (x .0) (x .1) ∙ sym same) ∙ take-length q)
-      go (inr x) =
-          let i : 0 + x .0 ≡ x .0 = omega arith in
-          ap (λ (v : Verdict). takenBy (verdictOf v) q) (run-refused 128 goal 0 plan t (x .0) (x .1) (x .2)) ∙ some-of (eqb (x .1) 21) (0 + x .0) (x .1)
-          ∙ ap (λ (j : ℕ). take j q) (i ∙ sym (taken-refused 128 plan t (x .0) (x .1) (x .2)))
 
 taken-most : (plan : List Action) (t : List Literals) → movesTaken 128 plan t ≤ length plan
 taken-most plan t = go (story 128 plan t)
@@ -269,48 +235,48 @@ module _ (s : List ℕ) (x : Statement) (says : Says s x) where
       unfolding verdictOf
       stopped-is k N = (
         λ e.
-            let r = plans.run-stopped-by s x says t starts k N .0 (verdict-injective verdict (stopped k N) (sym call-verdict ∙ e)) in
+            let r = by-stopped p hp t starts (x .plan) hq k N .0 (verdict-injective verdict (stopped k N) (sym call-verdict ∙ e)) in
             (subst (λ (i : ℕ). StepRefused s (x .plan) i N) (sym (r .1)) (refuses-call (r .0) N (r .2)), r .3),
-        λ h. let r = call-refuses k N (h .0) in call-verdict ∙ ap verdictOf (plans.run-stopped-by s x says t starts k N .1 (r .0, r .1, r .2, h .1)),
+        λ h. let r = call-refuses k N (h .0) in call-verdict ∙ ap verdictOf (by-stopped p hp t starts (x .plan) hq k N .1 (r .0, r .1, r .2, h .1)),
       )
 
       full-is : (k : ℕ) → (runOf (sheetOf s) rows .verdict ≡ ran.Full k) ↔ StepRefused s (x .plan) k 21
       unfolding verdictOf
       full-is k = (
         λ e.
-            let r = plans.run-full-by s x says t starts k .0 (verdict-injective verdict (full k) (sym call-verdict ∙ e)) in
+            let r = by-full p hp t starts (x .plan) hq k .0 (verdict-injective verdict (full k) (sym call-verdict ∙ e)) in
             subst (λ (i : ℕ). StepRefused s (x .plan) i 21) (sym (r .1)) (refuses-call (r .0) 21 (r .2)),
-        λ h. let r = call-refuses k 21 h in call-verdict ∙ ap verdictOf (plans.run-full-by s x says t starts k .1 (r .0, r .1, r .2)),
+        λ h. let r = call-refuses k 21 h in call-verdict ∙ ap verdictOf (by-full p hp t starts (x .plan) hq k .1 (r .0, r .1, r .2)),
       )
 
       reached-is : (runOf (sheetOf s) rows .verdict ≡ ran.Reached) ↔ ((u : Table) × (arrived s (x .plan) ≡ some u) × ((w : ℕ) → WorldOf x u w → InGoal (p .n) (p .goal) w))
       unfolding verdictOf
       reached-is = (
         λ e.
-            let r = plans.run-reached-by s x says t starts .0 (verdict-injective verdict reached (sym call-verdict ∙ e)) in
+            let r = by-reached p hp t starts (x .plan) hq .0 (verdict-injective verdict reached (sym call-verdict ∙ e)) in
             (tableOf (r .0), arrived-end (r .0) (r .1), λ w h. r .2 w (h .0) (subst (λ (es : List Literals). In (p .n) es w) (held (r .0) (r .1)) (h .1))),
         λ h.
             let r = end-arrived (h .0) (h .1) in
-            call-verdict ∙ ap verdictOf (plans.run-reached-by s x says t starts .1 (r .0, r .1, λ w l i. h .2 w (l, subst (λ (es : List Literals). In (p .n) es w) (sym (ap entries (sym (r .2)) ∙ held (r .0) (r .1))) i))),
+            call-verdict ∙ ap verdictOf (by-reached p hp t starts (x .plan) hq .1 (r .0, r .1, λ w l i. h .2 w (l, subst (λ (es : List Literals). In (p .n) es w) (sym (ap entries (sym (r .2)) ∙ held (r .0) (r .1))) i))),
       )
 
       short-is : (runOf (sheetOf s) rows .verdict ≡ ran.Short) ↔ ((u : Table) × (arrived s (x .plan) ≡ some u) × ((w : ℕ) × WorldOf x u w × (InGoal (p .n) (p .goal) w → ⊥)))
       unfolding verdictOf
       short-is = (
         λ e.
-            let r = plans.run-short-by s x says t starts .0 (verdict-injective verdict short (sym call-verdict ∙ e)) in
+            let r = by-short p hp t starts (x .plan) hq .0 (verdict-injective verdict short (sym call-verdict ∙ e)) in
             let k = r .2 in
             (tableOf (r .0), arrived-end (r .0) (r .1), (k .0, (k .1, subst (λ (es : List Literals). In (p .n) es (k .0)) (sym (held (r .0) (r .1))) (k .2)), k .3)),
         λ h.
             let r = end-arrived (h .0) (h .1) in
             let k = h .2 in
             call-verdict
-            ∙ ap verdictOf (plans.run-short-by s x says t starts .1 (r .0, r .1, (k .0, k .1 .0, subst (λ (es : List Literals). In (p .n) es (k .0)) (ap entries (sym (r .2)) ∙ held (r .0) (r .1)) (k .1 .1), k .2))),
+            ∙ ap verdictOf (by-short p hp t starts (x .plan) hq .1 (r .0, r .1, (k .0, k .1 .0, subst (λ (es : List Literals). In (p .n) es (k .0)) (ap entries (sym (r .2)) ∙ held (r .0) (r .1)) (k .1 .1), k .2))),
       )
 
       -- ---- the moves taken
       taken-first : taken s x rows ≡ take (movesTaken 128 plan t) (x .plan)
-      taken-first = ap (λ (v : case.Verdict). takenBy v (x .plan)) call-verdict ∙ taken-by (x .problem .goal) plan t (x .plan) size
+      taken-first = ap (λ (v : case.Verdict). takenBy v (x .plan)) call-verdict ∙ taken-by 128 (x .problem .goal) plan t (x .plan) size
 
       taken-count : length (taken s x rows) ≡ movesTaken 128 plan t
       taken-count = ap length taken-first ∙ length-take-le (movesTaken 128 plan t) (x .plan) (omega (arith, size, taken-most plan t))
@@ -367,9 +333,10 @@ module _ (s : List ℕ) (x : Statement) (says : Says s x) where
           inside = unfold rowsAfter in List·getD-append wrote (drop (length wrote) rows) d i (omega (arith, l, taken-count (length rows) enough, rows-many (length rows) enough))
 
           row : getD wrote i d ≡ record { place = i; entries = tableOf (k .0) .count; clauses = clausesOr (pictureOf (sheetOf s) (tableOf (k .0)) 2050 .answer) (pictureOf (sheetOf s) (tableOf (k .0)) 2050 .clauses) }
-          row = unfold tableOf in
+          row = unfold tableOf rowOf in
               ap (λ (r : List Row). getD r i d) (rows-are (length rows) enough)
-              ∙ plans.run-row s x says t starts i (k .0) d (k .1)
+              ∙ running.row-at 128 0 plan t i (k .0) d (k .1)
+              ∙ ap (λ (j : ℕ). rowOf j (k .0)) (omega arith)
               ∙ ap {B = Row} (λ (c : ℕ). record { place = i; entries = length (k .0); clauses = c }) (sym (row-clauses (k .0) (place-described i (k .0) (k .1))))
 
       rest-is : (i : ℕ) → length (taken s x (length rows)) < i → (d : Row) → getD (rowsAfter (sheetOf s) rows) i d ≡ getD rows i d
@@ -399,36 +366,25 @@ module _ (s : List ℕ) (x : Statement) (says : Says s x) where
     no-verdict rows h = run-number s x says rows h N 0 .1 (refl, starts)
 
   -- ---- both together
-  abbrev Outcomes : Type 0
-  Outcomes = ((N : ℕ) × (startTable 128 (x .problem) ≡ Outcome.refused N)) ⊎ ((t : List Literals) × (startTable 128 (x .problem) ≡ Outcome.table t))
-
-  outcomes : Outcomes
-  outcomes = go (tables.start-kind 128 (x .problem))
-    where
-      go : (startTable 128 (x .problem) ≡ Outcome.refused 20) ⊎ ((startTable 128 (x .problem) ≡ Outcome.refused 21) ⊎ ((t : List Literals) × (startTable 128 (x .problem) ≡ Outcome.table t))) → Outcomes
-      go (inl e) = inl (20, e)
-      go (inr (inl e)) = inl (21, e)
-      go (inr (inr e)) = inr e
-
   pub run-stopped-at : (rows : ℕ) → 65 ≤ rows → (k N : ℕ) → (runOf (sheetOf s) rows .verdict ≡ ran.Stopped k N) ↔ (StepRefused s (x .plan) k N × ((N ≡ 24) ⊎ (N ≡ 25)))
-  run-stopped-at rows h k N = go outcomes
+  run-stopped-at rows h k N = go (outcomes (x .problem))
     where
-      go : Outcomes → (runOf (sheetOf s) rows .verdict ≡ ran.Stopped k N) ↔ (StepRefused s (x .plan) k N × ((N ≡ 24) ⊎ (N ≡ 25)))
+      go : Outcomes (x .problem) → (runOf (sheetOf s) rows .verdict ≡ ran.Stopped k N) ↔ (StepRefused s (x .plan) k N × ((N ≡ 24) ⊎ (N ≡ 25)))
       go (inl r) = (λ e. absurd (let z : _≡_ {A = ℕ} 0 1 = cc (no-verdict (r .0) (r .1) rows h, e) in omega arith), λ e. no-step (r .0) (r .1) k N (e .0))
       go (inr r) = stopped-is (r .0) (r .1) rows h k N
 
   pub run-full-at : (rows : ℕ) → 65 ≤ rows → (k : ℕ) → (runOf (sheetOf s) rows .verdict ≡ ran.Full k) ↔ StepRefused s (x .plan) k 21
-  run-full-at rows h k = go outcomes
+  run-full-at rows h k = go (outcomes (x .problem))
     where
-      go : Outcomes → (runOf (sheetOf s) rows .verdict ≡ ran.Full k) ↔ StepRefused s (x .plan) k 21
+      go : Outcomes (x .problem) → (runOf (sheetOf s) rows .verdict ≡ ran.Full k) ↔ StepRefused s (x .plan) k 21
       go (inl r) = (λ e. absurd (let z : _≡_ {A = ℕ} 0 1 = cc (no-verdict (r .0) (r .1) rows h, e) in omega arith), λ e. no-step (r .0) (r .1) k 21 e)
       go (inr r) = full-is (r .0) (r .1) rows h k
 
   pub run-reached-at : (rows : ℕ) → 65 ≤ rows
       → (runOf (sheetOf s) rows .verdict ≡ ran.Reached) ↔ ((u : Table) × (arrived s (x .plan) ≡ some u) × ((w : ℕ) → WorldOf x u w → InGoal (p .n) (p .goal) w))
-  run-reached-at rows h = go outcomes
+  run-reached-at rows h = go (outcomes (x .problem))
     where
-      go : Outcomes → (runOf (sheetOf s) rows .verdict ≡ ran.Reached) ↔ ((u : Table) × (arrived s (x .plan) ≡ some u) × ((w : ℕ) → WorldOf x u w → InGoal (p .n) (p .goal) w))
+      go : Outcomes (x .problem) → (runOf (sheetOf s) rows .verdict ≡ ran.Reached) ↔ ((u : Table) × (arrived s (x .plan) ≡ some u) × ((w : ℕ) → WorldOf x u w → InGoal (p .n) (p .goal) w))
       go (inl r) = (
         λ e. absurd (let z : _≡_ {A = ℕ} 0 1 = cc (no-verdict (r .0) (r .1) rows h, e) in omega arith),
         λ e. absurd (Option·none-ne-some (e .0) (sym (nowhere (r .0) (r .1) (x .plan)) ∙ e .1)),
@@ -437,9 +393,9 @@ module _ (s : List ℕ) (x : Statement) (says : Says s x) where
 
   pub run-short-at : (rows : ℕ) → 65 ≤ rows
       → (runOf (sheetOf s) rows .verdict ≡ ran.Short) ↔ ((u : Table) × (arrived s (x .plan) ≡ some u) × ((w : ℕ) × WorldOf x u w × (InGoal (p .n) (p .goal) w → ⊥)))
-  run-short-at rows h = go outcomes
+  run-short-at rows h = go (outcomes (x .problem))
     where
-      go : Outcomes → (runOf (sheetOf s) rows .verdict ≡ ran.Short) ↔ ((u : Table) × (arrived s (x .plan) ≡ some u) × ((w : ℕ) × WorldOf x u w × (InGoal (p .n) (p .goal) w → ⊥)))
+      go : Outcomes (x .problem) → (runOf (sheetOf s) rows .verdict ≡ ran.Short) ↔ ((u : Table) × (arrived s (x .plan) ≡ some u) × ((w : ℕ) × WorldOf x u w × (InGoal (p .n) (p .goal) w → ⊥)))
       go (inl r) = (
         λ e. absurd (let z : _≡_ {A = ℕ} 0 1 = cc (no-verdict (r .0) (r .1) rows h, e) in omega arith),
         λ e. absurd (Option·none-ne-some (e .0) (sym (nowhere (r .0) (r .1) (x .plan)) ∙ e .1)),

@@ -30,7 +30,7 @@ use Rattle.plan.specs.Calls.{refusedSearch, answered, searchedFrom, sear
 use Rattle.plan.specs.Course.{courseFrom, Ready}
 use Rattle.plan.specs.Walks.{ranFrom, Searchable, Runnable, searchedBy}
 use Rattle.sheet.proofs.RowLaws.{sets-long, effects-long, item-at}
-use Rattle.plan.proofs.TableRuns.{at-proper}
+use Rattle.table.proofs.Started.{at-proper}
 use Rattle.plan.proofs.Searching.{out-plans}
 use Rattle.plan.proofs.Courses.{stopped, ready-count, started}
 use Rattle.plan.proofs.FirstAnswers.{same-first}

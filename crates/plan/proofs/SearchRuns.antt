@@ -1,7 +1,8 @@
--- The search from a start table: a full plan is full at its last move, and what failing means for the starting worlds. Assumes nothing.
+-- The search from a start table: the first plan that is reached or full; a full plan is full at its last move; what failing means for the
+-- starting worlds. Assumes nothing.
 use mathlib.Core.Path.{_≡_, refl, sym, ap, subst, _∙_}
 use mathlib.Core.List.{List, [], _∷_, map}
-use mathlib.Core.Logic.{inl}
+use mathlib.Core.Logic.{inl, _↔_}
 use mathlib.Core.Option.{Option·some-ne-none}
 use Prim.Native.Nat.{ℕ, zero, suc, _≤_, _<_}
 use native.Mathlib.Omega.{arith}
@@ -12,37 +13,46 @@ use Rattle.sheet.specs.declared.Literals.{Literals}
 use Rattle.sheet.specs.Lists.{All}
 use Rattle.sheet.specs.Problem.{Action, Problem}
 use Rattle.sheet.specs.Encoding.{ProperProblem}
+use Rattle.sheet.proofs.ListFacts.{map-take}
 use Rattle.table.specs.Worlds.{runWorld, Starting}
 use Rattle.table.specs.Minimal.{table}
 use Rattle.table.specs.Start.{startTable}
 use Rattle.table.specs.Calls.{actionAt}
 use Rattle.plan.specs.Run.{actionsOf, Verdict, reached, short, stopped, full, runFrom}
-use Rattle.plan.specs.Search.{fullAt}
+use Rattle.plan.specs.Search.{found, fullAt, nothing}
 use Rattle.plan.specs.Calls.{searchedFrom}
 use Rattle.plan.specs.Places.{Refuses}
-use Rattle.plan.specs.Meaning.{Inside, Some, Means}
-use Rattle.plan.specs.Order.{Fails, FirstPlan}
+use Rattle.plan.specs.Meaning.{Means}
+use Rattle.plan.specs.Order.{Earlier, PlanOf, Fails, FirstPlan}
+use Rattle.plan.specs.DemandWords.{Solves, Spoiled}
 use Rattle.plan.proofs.Running.{refuses-within, refuses-prefix}
 use Rattle.plan.proofs.Verdicts.{all-take, one-end, stop-class}
 use Rattle.plan.proofs.TableRuns.{by-full, verdict-means}
-use Rattle.plan.proofs.Searching.{search-full}
-
-map-take : {A B : Type 0} (f : A → B) (k : ℕ) (xs : List A) → map f (take k xs) ≡ take k (map f xs)
-map-take f zero xs = refl
-map-take f (suc k) [] = refl
-map-take {A} {B} f (suc k) (x ∷ xs) = ap {B = List B} (λ r. f x ∷ r) (map-take f k xs)
+use Rattle.plan.proofs.Searching as searching
 
 module _ (p : Problem) (hp : ProperProblem p) (t : List Literals) (starts : startTable 128 p ≡ table t) where
   abbrev run : List ℕ → Verdict
   run q = runFrom 128 (p .goal) 0 (actionsOf p q) t
 
+  -- ---- reached: this plan is, and every earlier one fails; full: this plan is, and every earlier one fails; none: every one fails
+  pub search-found : (limit : ℕ) (q : List ℕ) → (searchedFrom p limit t ≡ found q) ↔ FirstPlan run (length (p .actions)) limit q reached
+  unfolding searchedFrom
+  search-found = searching.search-found run (length (p .actions))
+
+  pub search-full : (limit : ℕ) (q : List ℕ) (k : ℕ) → (searchedFrom p limit t ≡ fullAt q k) ↔ FirstPlan run (length (p .actions)) limit q (full k)
+  unfolding searchedFrom
+  search-full = searching.search-full run (length (p .actions))
+
+  pub search-nothing : (limit : ℕ) → (searchedFrom p limit t ≡ nothing) ↔ ((q : List ℕ) → PlanOf (length (p .actions)) limit q → Fails (run q))
+  unfolding searchedFrom
+  search-nothing = searching.search-nothing run (length (p .actions))
+
   -- ---- a plan that is full is full before its end only where a shorter one is full
   pub full-at-end : (limit : ℕ) (q : List ℕ) (k : ℕ) → searchedFrom p limit t ≡ fullAt q k → k ≡ length q
-  unfolding searchedFrom
   full-at-end limit q k e = go (ℕ-discrete k (length q))
     where
       f : FirstPlan run (length (p .actions)) limit q (full k)
-      f = search-full run (length (p .actions)) limit q k .0 e
+      f = search-full limit q k .0 e
 
       x : (j : ℕ) × (k ≡ suc j) × Refuses 128 (actionsOf p q) t j 21
       x = by-full p hp t starts q (f .plan .0) k .0 (f .gives)
@@ -67,13 +77,10 @@ module _ (p : Problem) (hp : ProperProblem p) (t : List Literals) (starts : star
           (f .earlier (take (suc (x .0)) q) (numbers, omega (arith, size, inside, f .plan .1)) (inl (omega (arith, size, inside, x .1)))))
 
   -- ---- a plan that fails does so for some starting world: it cannot take some move, or ends outside the goal
-  abbrev pub Spoiled : List ℕ → Type 0
-  Spoiled q = Some (p .n) (Starting p) (λ o. Inside (p .n) (p .goal) o → ⊥) (actionsOf p q)
-
-  pub fails-world : (q : List ℕ) → All (λ i. i < length (p .actions)) q → Fails (run q) → Spoiled q
+  pub fails-world : (q : List ℕ) → All (λ i. i < length (p .actions)) q → Fails (run q) → Spoiled p q
   fails-world q hq f = go (run q) f (verdict-means p hp t starts q hq)
     where
-      go : (v : Verdict) → Fails v → Means (p .n) (p .goal) (Starting p) (actionsOf p q) v → Spoiled q
+      go : (v : Verdict) → Fails v → Means (p .n) (p .goal) (Starting p) (actionsOf p q) v → Spoiled p q
       go reached f m = absurd f
       go short f m = let x = m .1 in (x .0, x .1, x .2, λ i. one-end (p .n) (p .goal) (runWorld (p .n) (actionsOf p q) (x .0)) i (x .3))
       go (stopped k N) f m =
@@ -82,7 +89,7 @@ module _ (p : Problem) (hp : ProperProblem p) (t : List Literals) (starts : star
       go (full k) f m = absurd f
 
   -- and one that is not full fails exactly then
-  pub world-fails : (q : List ℕ) → All (λ i. i < length (p .actions)) q → ((k : ℕ) → run q ≡ full k → ⊥) → Spoiled q → Fails (run q)
+  pub world-fails : (q : List ℕ) → All (λ i. i < length (p .actions)) q → ((k : ℕ) → run q ≡ full k → ⊥) → Spoiled p q → Fails (run q)
   world-fails q hq h x = go (run q) refl (verdict-means p hp t starts q hq)
     where
       go : (v : Verdict) → run q ≡ v → Means (p .n) (p .goal) (Starting p) (actionsOf p q) v → Fails v
@@ -90,3 +97,20 @@ module _ (p : Problem) (hp : ProperProblem p) (t : List Literals) (starts : star
       go short e m = tt
       go (stopped k N) e m = tt
       go (full k) e m = h k e
+
+  -- ---- by the starting worlds: a found plan takes them all to the goal, and every earlier one fails for some
+  pub found-worlds : (limit : ℕ) (q : List ℕ) → searchedFrom p limit t ≡ found q
+      → Solves p q × ((r : List ℕ) → PlanOf (length (p .actions)) limit r → Earlier r q → Spoiled p r)
+  found-worlds limit q e =
+      let f = search-found limit q .0 e in (
+        subst (Means (p .n) (p .goal) (Starting p) (actionsOf p q)) (f .gives) (verdict-means p hp t starts q (f .plan .0)),
+        λ r h l. fails-world r (h .0) (f .earlier r h l),
+      )
+
+  -- none exactly if every plan within the limit does so and no run is full
+  pub nothing-worlds : (limit : ℕ)
+      → (searchedFrom p limit t ≡ nothing) ↔ ((q : List ℕ) → PlanOf (length (p .actions)) limit q → Spoiled p q × ((k : ℕ) → run q ≡ full k → ⊥))
+  nothing-worlds limit = (
+    λ e q h. let f = search-nothing limit .0 e q h in (fails-world q (h .0) f, λ k i. subst Fails i f),
+    λ f. search-nothing limit .1 (λ q h. world-fails q (h .0) (f q h .1) (f q h .0)),
+  )

@@ -20,14 +20,13 @@ use Rattle.table.specs.Worlds.{Starting, InGoal}
 use Rattle.table.specs.Minimal.{In, Described, refused, table}
 use Rattle.table.specs.Start.{startTable}
 use Rattle.table.specs.Picture.{picture}
-use Rattle.table.specs.Slots.{entries, tableOf}
 use Rattle.table.specs.Calls.{actionAt}
 use Rattle.table.proofs.Demands.{start-table}
 use Rattle.table.proofs.Stepping as stepping
 use Rattle.table.proofs.Stepping.{code-is, table-refused}
 use Rattle.table.proofs.Primes.{primeList-same}
 use Rattle.table.proofs.Pictures.{picture-list, picture-ascending, picture-worlds}
-use Rattle.table.proofs.Pads.{entriesOf-pad}
+use Rattle.table.proofs.Started.{at-proper}
 use Rattle.plan.specs.Run.{actionsOf, inGoal, Verdict, reached, short, stopped, full, ended, endedBy, runFrom, lastTable, movesTaken}
 use Rattle.plan.specs.Calls.{verdictOf}
 use Rattle.plan.specs.Places.{tableAt, Refuses}
@@ -38,46 +37,33 @@ use Rattle.plan.proofs.Running.{Story, story, run-ended, run-refused, l
 use Rattle.plan.proofs.Verdicts.{Arrives, all-next, arrives, run-means, one-verdict}
 use Rattle.plan.proofs.Exactly.{Exact}
 
--- ---- a table in its slots
-pub entries-table : (es : List Literals) → length es ≤ 128 → entries (tableOf es) ≡ es
-unfolding entries tableOf
-entries-table es h = entriesOf-pad 128 es h
-
 -- ---- the moves of a plan are the sheet's
-all-at : {A : Type 0} (P : A → Type 0) (xs : List A) (d : A) (i : ℕ) → All P xs → i < length xs → P (getD xs i d)
-all-at P [] d i h l = absurd (omega arith)
-all-at P (x ∷ xs) d zero h l = h .0
-all-at P (x ∷ xs) d (suc i) h l = all-at P xs d i (h .1) (omega arith)
-
-pub at-proper : (p : Problem) → ProperProblem p → (i : ℕ) → i < length (p .actions) → ProperAction (p .n) (actionAt p i)
-unfolding actionAt
-at-proper p hp i l = all-at (ProperAction (p .n)) (p .actions) _ i (hp .actions .each) l
-
 pub plan-proper : (p : Problem) → ProperProblem p → (q : List ℕ) → All (λ i. i < length (p .actions)) q → All (ProperAction (p .n)) (actionsOf p q)
 unfolding actionsOf
 plan-proper p hp q h = all-imaged (actionAt p) (ProperAction (p .n)) q (all-map (λ i. i < length (p .actions)) (λ i. ProperAction (p .n) (actionAt p i)) (at-proper p hp) q h)
 
--- ---- the moves taken, by the verdict alone
-pub taken-is : (cap : ℕ) (goal : List Literals) (plan : List Action) (t : List Literals) → takenBy (verdictOf (runFrom cap goal 0 plan t)) plan ≡ take (movesTaken cap plan t) plan
+-- ---- the moves taken, by the verdict alone: of any list as long as the plan
+pub taken-by : {A : Type 0} (cap : ℕ) (goal : List Literals) (plan : List Action) (t : List Literals) (q : List A) → length q ≡ length plan
+    → takenBy (verdictOf (runFrom cap goal 0 plan t)) q ≡ take (movesTaken cap plan t) q
 unfolding takenBy verdictOf
-taken-is cap goal plan t = go (story cap plan t)
+taken-by cap goal plan t q same = go (story cap plan t)
   where
-    all : (b : Bool) → takenBy (verdictOf (ended b)) plan ≡ plan
+    all : (b : Bool) → takenBy (verdictOf (ended b)) q ≡ q
     all true = refl
     all false = refl
 
-    some-of : (b : Bool) (k N : ℕ) → takenBy (verdictOf (endedBy b (suc k) N)) plan ≡ take k plan
-    some-of true k N = let q : suc k - 1 ≡ k = omega arith in ap (λ (i : ℕ). take i plan) q
-    some-of false k N = let q : suc k - 1 ≡ k = omega arith in ap (λ (i : ℕ). take i plan) q
+    some-of : (b : Bool) (k N : ℕ) → takenBy (verdictOf (endedBy b (suc k) N)) q ≡ take k q
+    some-of true k N = let i : suc k - 1 ≡ k = omega arith in ap (λ (j : ℕ). take j q) i
+    some-of false k N = let i : suc k - 1 ≡ k = omega arith in ap (λ (j : ℕ). take j q) i
 
-    go : Story cap plan t → takenBy (verdictOf (runFrom cap goal 0 plan t)) plan ≡ take (movesTaken cap plan t) plan
+    go : Story cap plan t → takenBy (verdictOf (runFrom cap goal 0 plan t)) q ≡ take (movesTaken cap plan t) q
     go (inl x) =
-        ap (λ (v : Verdict). takenBy (verdictOf v) plan) (run-ended cap goal 0 plan t (x .0) (x .1)) ∙ all (allOf (inGoal goal) (x .0))
-        ∙ sym (ap (λ (i : ℕ). take i plan) (taken-all cap plan t (x .0) (x .1)) ∙ take-length plan)
+        ap (λ (v : Verdict). takenBy (verdictOf v) q) (run-ended cap goal 0 plan t (x .0) (x .1)) ∙ all (allOf (inGoal goal) (x .0))
+        ∙ sym (ap (λ (i : ℕ). take i q) (taken-all cap plan t (x .0) (x .1) ∙ sym same) ∙ take-length q)
     go (inr x) =
-        let q : 0 + x .0 ≡ x .0 = omega arith in
-        ap (λ (v : Verdict). takenBy (verdictOf v) plan) (run-refused cap goal 0 plan t (x .0) (x .1) (x .2)) ∙ some-of (eqb (x .1) 21) (0 + x .0) (x .1)
-        ∙ ap (λ (i : ℕ). take i plan) (q ∙ sym (taken-refused cap plan t (x .0) (x .1) (x .2)))
+        let i : 0 + x .0 ≡ x .0 = omega arith in
+        ap (λ (v : Verdict). takenBy (verdictOf v) q) (run-refused cap goal 0 plan t (x .0) (x .1) (x .2)) ∙ some-of (eqb (x .1) 21) (0 + x .0) (x .1)
+        ∙ ap (λ (j : ℕ). take j q) (i ∙ sym (taken-refused cap plan t (x .0) (x .1) (x .2)))
 
 -- ---- any plan q of a problem with a start table
 module _ (p : Problem) (hp : ProperProblem p) (t : List Literals) (starts : startTable 128 p ≡ table t) (q : List ℕ) (hq : All (λ i. i < length (p .actions)) q) where
@@ -209,7 +195,7 @@ module _ (p : Problem) (hp : ProperProblem p) (t : List Literals) (starts : star
   }
     where
       taken : takenBy (verdictOf verdict) plan ≡ take (movesTaken 128 plan t) plan
-      taken = taken-is 128 (p .goal) plan t
+      taken = taken-by 128 (p .goal) plan t plan refl
 
       same : (w : ℕ) → w < 2 ^ p .n → In (p .n) (lastTable 128 plan t) w ↔ Comes (p .n) (Starting p) (takenBy (verdictOf verdict) plan) w
       same w l = subst (λ (a : List Action). In (p .n) (lastTable 128 plan t) w ↔ Comes (p .n) (Starting p) a w) (sym taken) (last-arrives .worlds w l)

@@ -4,6 +4,7 @@ use mathlib.Core.List.{List, [], _∷_}
 use Prim.Native.Nat.{ℕ}
 use native.Mathlib.Omega.{arith}
 use Rattle.sheet.specs.Literals.{has, noLiteral, mem, within, clash, consistent, join, flip, replace, single, sign, literal, contains, membersFrom, members}
+use Rattle.sheet.specs.Printed.{printed}
 use Rattle.sheet.specs.Format.{sheetOf}
 use Rattle.table.specs.Minimal.{put}
 use Rattle.table.specs.Step.{missing, split, image, stepTable}
@@ -11,7 +12,7 @@ use Rattle.table.specs.Picture.{units, unions, fold, primes, before, insert, so
 use Rattle.table.specs.Calls.{actionAt}
 use Rattle.table.specs.Counts.{sizeOf}
 use Rattle.table.specs.Slots.{tableOf}
-use Rattle.table.proofs.Examples.{bytes, paper, bench}
+use Rattle.table.proofs.Examples.{paper, bench}
 use Rattle.plan.specs.declared.Row.{Row}
 use Rattle.plan.specs.declared.Ran.{Ran}
 use Rattle.plan.specs.declared.Verdict.{Verdict}
@@ -20,7 +21,7 @@ use Rattle.plan.specs.Text.{ascii, decimal, clausesText, rowText, rowsTe
 use Rattle.plan.specs.Run.{actionsOf, rowOf, rowsFrom}
 use Rattle.plan.specs.Calls.{verdictOf}
 use Rattle.plan.specs.Demand3.{refusedVerdict, runRefused}
-use Rattle.plan.proofs.Demands.{run-call}
+use Rattle.plan.proofs.CallRuns.{rows-call}
 use Rattle.plan.proofs.PaperRuns.{first, given}
 
 abbrev row : ℕ → ℕ → ℕ → Row
@@ -67,6 +68,6 @@ unfolding rowOf actionsOf actionAt stepTable split missing image put within join
 paper-rows = refl
 
 -- its whole output
-pub paper-output : outputOf (sheetOf bytes) ≡ ascii "place entries clauses\n0 3 4\n1 2 3\n2 1 3\nreached\n"
+pub paper-output : outputOf (sheetOf printed) ≡ ascii "place entries clauses\n0 3 4\n1 2 3\n2 1 3\nreached\n"
 unfolding outputOf verdictOf textOf runRefused refusedVerdict lastLine rowsText rowText clausesText decimal
-paper-output = ap₂ textOf given (run-call bytes paper (bench .says) first (bench .M1) 65 (omega arith) .1 ∙ paper-rows)
+paper-output = ap₂ textOf given (rows-call printed paper (bench .says) 65 (omega arith) first (bench .M1) ∙ paper-rows)

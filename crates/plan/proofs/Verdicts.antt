@@ -20,12 +20,12 @@ use Rattle.table.specs.Worlds.{after, stepWorld, andThen, runWorld, InGoal}
 use Rattle.table.specs.Minimal.{In, Described, refused, table}
 use Rattle.table.specs.Step.{stepTable}
 use Rattle.table.proofs.Stepping as stepping
-use Rattle.table.proofs.Stepping.{code-is, table-refused, step-taken}
+use Rattle.table.proofs.Stepping.{code-is, table-refused, step-taken, step-below}
 use Rattle.plan.specs.Run.{inGoal, Verdict, reached, short, stopped, full, ended, endedBy, runFrom}
 use Rattle.plan.specs.Places.{tableAt, Refuses}
 use Rattle.plan.specs.Meaning.{Ends, Undefined, At, Inside, Outside, Lacking, Every, Some, Comes, StopsAt, Means}
 use Rattle.plan.specs.Demand3.{Class, isReached, isShort, isStopped}
-use Rattle.plan.proofs.Exchanging.{step-below, run-below}
+use Rattle.plan.proofs.Exchanging.{run-below}
 use Rattle.plan.proofs.GoalWorlds.{goal-each, goal-lacks}
 use Rattle.plan.proofs.Running.{at-later, Story, story, run-ended, run-refused}
 

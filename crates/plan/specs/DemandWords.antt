@@ -1,29 +1,24 @@
--- The words of the page `Demands`: sheets, tables, runs and searches by the calls' own definitions, and the worlds.
+-- The words of the page `Demands` about runs, searches and exchanges, by the calls' own definitions and by worlds. Words about sheets and
+-- tables are in sheet/specs/Faults and table/specs/CallWords.
 use mathlib.Core.Path.{_≡_}
-use mathlib.Core.Bool.{true, false, not}
-use mathlib.Core.List.{List, [], _∷_, _++_, map}
+use mathlib.Core.Bool.{true, false}
+use mathlib.Core.List.{List, [], _∷_}
 use mathlib.Core.Logic.{_⊎_}
 use mathlib.Core.Option.{Option, none, some}
-use Prim.Native.Nat.{ℕ, suc, _+_, _*_, _^_, _≤_, _<_}
+use Prim.Native.Nat.{ℕ, suc, _+_, _*_}
 use lib.Dec.{T}
 use lib.ListN.{length, take, drop, replicate}
 use Rattle.sheet.specs.declared.Literals.{Literals}
 use Rattle.sheet.specs.declared.Answer.{Answer}
 use Rattle.sheet.specs.declared.Answer.the-variants.{Accepted, Refused}
-use Rattle.sheet.specs.Literals.{mem, within, consistent, state}
-use Rattle.sheet.specs.Lists.{Any, All, keep, collect}
+use Rattle.sheet.specs.Literals.{mem}
+use Rattle.sheet.specs.Lists.{Any}
 use Rattle.sheet.specs.Problem.{Action, Problem, Statement}
-use Rattle.sheet.specs.Form.{Form, byte, due, faultOf}
-use Rattle.sheet.specs.Format.{sheet, accepted, sheetOf}
+use Rattle.sheet.specs.Format.{sheetOf}
 use Rattle.sheet.specs.Encoding.{encode}
 use Rattle.table.specs.declared.Table.{Table}
-use Rattle.table.specs.Worlds.{results, stepWorld, andThen, Starting}
-use Rattle.table.specs.Minimal.{In, Described, putAll, table}
-use Rattle.table.specs.Start.{Clause, clausesOf, candidates, growAll}
-use Rattle.table.specs.Step.{pieces, image}
-use Rattle.table.specs.Picture.{before}
-use Rattle.table.specs.Slots.{entries, tableOf}
-use Rattle.table.specs.Calls.{startOf, actionAt, stepOf}
+use Rattle.table.specs.Worlds.{andThen, Starting}
+use Rattle.table.specs.Calls.{startOf, stepOf}
 use Rattle.table.specs.PictureCalls.{pictureOf, bufferOf}
 use Rattle.plan.specs.declared.Ran.{Ran}
 use Rattle.plan.specs.declared.Searched.{Searched}
@@ -35,80 +30,12 @@ use Rattle.plan.specs.Meaning.{Inside, Every, Some, Comes}
 use Rattle.plan.specs.Order.{Earlier, PlanOf}
 use Rattle.plan.specs.Demand3.{takenBy}
 
--- ---- sheets
--- s is a sheet, and says x
-abbrev pub Says : List ℕ → Statement → Type 0
-Says s x = sheetOf s ≡ accepted x
-
--- the bytes before position p are admissible in their roles, and what follows breaks rule k where the next role is due
-pub record FirstFault (s : List ℕ) (k p : ℕ) : Type 0 where
-  pub within : p ≤ length s
-  pub form : Form Statement
-  pub before : due sheet (take p s) ≡ some form
-  pub number : faultOf form (drop p s) ≡ k
-  pub wrong : k ≡ 0 → ⊥
-
--- after bytes without fault a byte is due at position p by the rule of its role, and b stands there
-pub record ByteDue (s : List ℕ) (p : ℕ) (rule : ℕ → ℕ) (b : ℕ) : Type 0 where
-  pub next : ℕ → Form Statement
-  pub before : due sheet (take p s) ≡ some (byte rule next)
-  pub later : List ℕ
-  pub here : drop p s ≡ b ∷ later
-
--- ---- tables of the sheet that says x
--- the move of a number is on the sheet; the table is as described
-abbrev pub OnSheet : Statement → ℕ → Type 0
-OnSheet x m = m < length (x .problem .actions)
-
-abbrev pub AsDescribed : Statement → Table → Type 0
-AsDescribed x t = Described 128 (x .problem .n) (entries t)
-
--- unused slots are zero
-abbrev pub ZeroAfter : Table → Type 0
-ZeroAfter t = t ≡ tableOf (entries t)
-
--- w is a world of the table
-abbrev pub WorldOf : Statement → Table → ℕ → Type 0
-WorldOf x t w = (w < 2 ^ x .problem .n) × In (x .problem .n) (entries t) w
-
--- some world of the table lacks the precondition of move m; the results contradict in some; some cannot take the move
-abbrev pub Unsure : Statement → Table → ℕ → Type 0
-Unsure x t m = (w : ℕ) × WorldOf x t w × T (not (within (actionAt (x .problem) m .precondition) (state (x .problem .n) w)))
-
-abbrev pub Contradictory : Statement → Table → ℕ → Type 0
-Contradictory x t m = (w : ℕ) × WorldOf x t w × T (not (consistent (results (actionAt (x .problem) m .effects) (state (x .problem .n) w))))
-
-abbrev pub Untaken : Statement → Table → ℕ → Type 0
-Untaken x t m = (w : ℕ) × WorldOf x t w × (stepWorld (x .problem .n) (actionAt (x .problem) m) w ≡ none)
-
--- the images of the pieces, put in working order into a new table; none: it fills
-abbrev pub images : Statement → Table → ℕ → Option (List Literals)
-images x t m = putAll 128 (map (image (actionAt (x .problem) m .effects)) (collect (pieces (actionAt (x .problem) m .effects)) (entries t))) []
-
--- some clause comes to o in its fresh table, where every clause before it gave a table: empty, some [], is 20, full, none, is 21
-pub record StartStops (p : Problem) (o : Option (List Literals)) : Type 0 where
-  pub before : List Clause
-  pub clause : Clause
-  pub later : List Clause
-  pub parts : clausesOf p ≡ before ++ (clause ∷ later)
-  pub entries : List Literals
-  pub tables : growAll 128 before (p .known ∷ []) ≡ table entries
-  pub comes-to : putAll 128 (keep consistent (collect (candidates clause) entries)) [] ≡ o
-
--- clauses strictly ascending by their first, then second mask
-abbrev pub Ascending : List Literals → Type 0
-Ascending [] = Unit {0}
-Ascending (c ∷ s) = All (λ d. T (before c d)) s × Ascending s
-
 -- ---- runs
--- a world w with Starting: the sheet has a starting world
-abbrev pub Starts : Problem → ℕ → Type 0
-Starts p w = (w < 2 ^ p .n) × Starting p w
-
--- every starting world, stepped alone through the moves of the plan q, takes each of them and ends in the goal; some does not
+-- every starting world, stepped alone through the moves of the plan q, takes each of them and ends in the goal
 abbrev pub Solves : Problem → List ℕ → Type 0
 Solves p q = Every (p .n) (Starting p) (Inside (p .n) (p .goal)) (actionsOf p q)
 
+-- some starting world does not
 abbrev pub Spoiled : Problem → List ℕ → Type 0
 Spoiled p q = Some (p .n) (Starting p) (λ o. Inside (p .n) (p .goal) o → ⊥) (actionsOf p q)
 
@@ -120,16 +47,17 @@ taken s x rows = takenBy (runOf (sheetOf s) rows .verdict) (x .plan)
 abbrev pub Becomes : List ℕ → Statement → ℕ → ℕ → Type 0
 Becomes s x rows = Comes (x .problem .n) (Starting (x .problem)) (actionsOf (x .problem) (taken s x rows))
 
--- the table if the call is accepted
+-- what comes with an accepted call
 abbrev pub given : {A : Type 0} → Answer → A → Option A
 given Accepted t = some t
 given (Refused number position) t = none
 
--- the table after some moves, by the call step; the table after the first moves of a plan, by the calls start and step
+-- the table after some moves from the table t, by the call step
 abbrev pub stepped : List ℕ → List ℕ → Table → Option Table
 stepped s [] t = some t
 stepped s (m ∷ ms) t = andThen (given (stepOf (sheetOf s) t m .answer) (stepOf (sheetOf s) t m .table)) (λ u. stepped s ms u)
 
+-- the table after some moves, by the calls start and step
 abbrev pub arrived : List ℕ → List ℕ → Option Table
 arrived s ms = andThen (given (startOf (sheetOf s) .answer) (startOf (sheetOf s) .table)) (λ t. stepped s ms t)
 
@@ -144,13 +72,13 @@ pub record StepRefused (s : List ℕ) (plan : List ℕ) (k N : ℕ) : Type 0 whe
   pub arrives : arrived s (take before plan) ≡ some last
   pub gives : stepOf (sheetOf s) last move .answer ≡ Refused N 0
 
--- the clauses of a table's picture for a row: 257 if that picture is full
+-- "picture clauses (257 if that picture is full)"
 abbrev pub clausesOr : Answer → ℕ → ℕ
 clausesOr Accepted clauses = clauses
 clausesOr (Refused number position) clauses = 257
 
--- a run's final picture is what the picture call writes for the table that the run returns: the two bytes of count and the clauses,
--- nothing after them; none if that call gives 21, or the run is refused (then its table is empty, and the call gives 22)
+-- "A run's final picture is what the picture call writes for the table that the run returns: the two bytes of count and the clauses, nothing
+-- after them": none if that call gives 21, or the run is refused (then its table is empty, and the call gives 22)
 unfoldable pub finalOf : List ℕ → ℕ → Option (List ℕ)
 finalOf s rows =
     let t = runOf (sheetOf s) rows .table in
@@ -180,16 +108,20 @@ pub record FirstRun (p : Problem) (limit : ℕ) (q : List ℕ) (v : case.Verdict
 abbrev pub planFound : Searched → List ℕ
 planFound r = take (r .length) (r .plan)
 
--- ---- moves that touch: the proposition q is named in some literals, is in a result of the move, is named anywhere in the move
+-- ---- moves that touch
+-- the proposition q is named in some literals
 abbrev pub Names : Literals → ℕ → Type 0
 Names d q = T (mem d true q) ⊎ T (mem d false q)
 
+-- q is in a result of the move
 abbrev pub InResult : Action → ℕ → Type 0
 InResult a q = Any (λ e. Names (e .result) q) (a .effects)
 
+-- q is named anywhere in the move
 abbrev pub NamedIn : Action → ℕ → Type 0
 NamedIn a q = Names (a .precondition) q ⊎ Any (λ e. Names (e .condition) q ⊎ Names (e .result) q) (a .effects)
 
--- ---- an example: two moves that do not touch, one makes proposition 0 true, the other proposition 1; both are the goal; the plan is a, b
+-- ---- an example
+-- two moves that do not touch, one makes proposition 0 true, the other proposition 1; both are the goal; the plan is a, b
 abbrev pub twoMoves : ℕ → ℕ → List ℕ
 twoMoves a b = 2 ∷ 0 ∷ 0 ∷ 0 ∷ 2 ∷ 0 ∷ 1 ∷ 0 ∷ 1 ∷ 0 ∷ 0 ∷ 1 ∷ 0 ∷ 1 ∷ 2 ∷ 2 ∷ 1 ∷ 0 ∷ 1 ∷ 2 ∷ 2 ∷ a ∷ b ∷ []

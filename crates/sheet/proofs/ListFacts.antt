@@ -1,10 +1,12 @@
 -- Statements over the members of a list.
 -- Assumes nothing.
-use mathlib.Core.Path.{_≡_, refl}
+use mathlib.Core.Path.{_≡_, refl, ap}
 use mathlib.Core.Bool.{Bool, true, false, not}
 use mathlib.Core.List.{List, [], _∷_, _++_, map}
 use mathlib.Core.Logic.{_⊎_, inl, inr}
+use Prim.Native.Nat.{ℕ, zero, suc}
 use lib.Dec.{T}
+use lib.ListN.{take, drop}
 use Rattle.sheet.specs.Lists.{Any, All, anyOf, allOf, addIf, keep, collect}
 use Rattle.sheet.proofs.Bools.{true-T, false-T, and-l, and-r, and-in, and-not, or-out, or-not-l, or-not-r}
 
@@ -174,4 +176,18 @@ module _ {A B : Type 0} where
   any-choose P R (x ∷ xs) (inl p) = (p .0, (inl (p .1 .0), p .1 .1))
   any-choose P R (x ∷ xs) (inr r) = let q = any-choose P R xs r in (q .0, (inr (q .1 .0), q .1 .1))
 
--- ---- the numbers below k
+-- ---- the first members, and those after them
+pub map-take : {A B : Type 0} (f : A → B) (k : ℕ) (xs : List A) → map f (take k xs) ≡ take k (map f xs)
+map-take f zero xs = refl
+map-take f (suc k) [] = refl
+map-take {A} {B} f (suc k) (x ∷ xs) = ap {B = List B} (λ r. f x ∷ r) (map-take f k xs)
+
+pub map-drop : {A B : Type 0} (f : A → B) (k : ℕ) (xs : List A) → map f (drop k xs) ≡ drop k (map f xs)
+map-drop f zero xs = refl
+map-drop f (suc k) [] = refl
+map-drop f (suc k) (x ∷ xs) = map-drop f k xs
+
+pub all-drop : {A : Type 0} (P : A → Type 0) (k : ℕ) (xs : List A) → All P xs → All P (drop k xs)
+all-drop P zero xs h = h
+all-drop P (suc k) [] h = tt
+all-drop P (suc k) (x ∷ xs) h = all-drop P k xs (h .1)

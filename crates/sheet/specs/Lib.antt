@@ -9,4 +9,5 @@ pub mod Rows
 pub mod Decoded
 pub mod Calls
 pub mod Faults
+pub mod Printed
 pub mod Marks

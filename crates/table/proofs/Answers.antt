@@ -13,10 +13,9 @@ use Rattle.sheet.specs.declared.Literals.{Literals}
 use Rattle.sheet.specs.declared.Answer.{Answer}
 use Rattle.sheet.specs.declared.Answer.the-variants.{Accepted, Refused}
 use Rattle.sheet.specs.Problem.{Action, Statement}
-use Rattle.sheet.specs.Encoding.{ProperAction, ProperStatement}
+use Rattle.sheet.specs.Encoding.{ProperProblem}
 use Rattle.sheet.specs.Format.{Judgement, accepted, refused, sheetOf}
-use Rattle.sheet.proofs.Judging.{accepted-iff}
-use Rattle.sheet.proofs.Encoded.{encoded-iff}
+use Rattle.sheet.proofs.Demands.{statement-proper}
 use Rattle.table.specs.declared.Table.{Table}
 use Rattle.table.specs.declared.Tabled.{Tabled}
 use Rattle.table.specs.Minimal.{Described, described, Outcome}
@@ -24,7 +23,7 @@ use Rattle.table.specs.Start.{startTable}
 use Rattle.table.specs.Step.{stepTable}
 use Rattle.table.specs.Slots.{entries, tableOf}
 use Rattle.table.specs.Calls.{orGiven, startOf, actionAt, stepKnown, stepMove, stepOf}
-use Rattle.table.proofs.Started.{all-at}
+use Rattle.table.proofs.Started.{at-proper}
 use Rattle.table.proofs.Stepping as stepping
 use Rattle.table.proofs.Describing.{described-iff}
 
@@ -85,8 +84,8 @@ unfolding stepOf
 step-fault s t m k p e = rw e
 
 module _ (s : List ℕ) (x : Statement) (says : sheetOf s ≡ accepted x) (t : Table) (m : ℕ) where
-  proper : ProperStatement x
-  proper = encoded-iff s x .0 (accepted-iff s x .0 says) .0
+  hp : ProperProblem (x .problem)
+  hp = statement-proper s x says .problem
 
   -- the tests in their order
   data Case : Type 0 where
@@ -115,10 +114,6 @@ module _ (s : List ℕ) (x : Statement) (says : sheetOf s ≡ accepted x) (t : T
   unfolding stepOf
   by-known h d = rw (says, lt-ltb m (length (x .problem .actions)) h, d)
 
-  action : m < length (x .problem .actions) → ProperAction (x .problem .n) (actionAt (x .problem) m)
-  unfolding actionAt
-  action h = all-at (ProperAction (x .problem .n)) (x .problem .actions) m _ h (proper .problem .actions .each)
-
   is-described : described 128 (x .problem .n) (entries t) ≡ true → Described 128 (x .problem .n) (entries t)
   is-described = described-iff 128 (x .problem .n) (entries t) .0
 
@@ -126,7 +121,7 @@ module _ (s : List ℕ) (x : Statement) (says : sheetOf s ≡ accepted x) (t : T
   among : {k : ℕ} → m < length (x .problem .actions) → described 128 (x .problem .n) (entries t) ≡ true
       → stepTable 128 (actionAt (x .problem) m) (entries t) ≡ Outcome.refused k → (k ≡ 24) ⊎ ((k ≡ 25) ⊎ (k ≡ 21))
   among {k} h d e =
-      pick (stepping.step-kind (x .problem .n) (proper .problem .n-most) (actionAt (x .problem) m) (action h) (entries t) (is-described d .proper) 128)
+      pick (stepping.step-kind (x .problem .n) (hp .n-most) (actionAt (x .problem) m) (at-proper (x .problem) hp m h) (entries t) (is-described d .proper) 128)
     where
       pick : (stepTable 128 (actionAt (x .problem) m) (entries t) ≡ Outcome.refused 24)
           ⊎ ((stepTable 128 (actionAt (x .problem) m) (entries t) ≡ Outcome.refused 25)

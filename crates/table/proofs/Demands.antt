@@ -15,13 +15,12 @@ use Rattle.sheet.specs.Problem.{Action, Problem}
 use Rattle.sheet.specs.Encoding.{ProperEffect, ProperAction, ProperProblem}
 use Rattle.table.specs.Worlds.{results, stepWorld, Starting}
 use Rattle.table.specs.Minimal.{In, Antichain, Described, described, put, putAll, refused, table}
-use Rattle.table.specs.Start.{clausesOf, startTable}
+use Rattle.table.specs.Start.{clausesOf, startTable, Stops}
 use Rattle.table.specs.Step.{pieces, image, stepTable}
 use Rattle.table.specs.Pairs.{contradicts}
 use Rattle.table.proofs.PutLaws as putting
 use Rattle.table.proofs.Stepping as stepping
 use Rattle.table.proofs.Starting as starting
-use Rattle.table.proofs.Starting.{Stops}
 use Rattle.table.proofs.Describing as describing
 use Rattle.table.proofs.PairLaws as pairs
 pub use Rattle.table.proofs.Answers.{start-fault, start-number, start-accepted, start-back, step-fault, step-7, step-22, step-number, step-accepted, step-back}

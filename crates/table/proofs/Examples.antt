@@ -9,6 +9,7 @@ use Rattle.sheet.specs.declared.Effect.{Effect}
 use Rattle.sheet.specs.Literals.{has, noLiteral, mem, within, clash, consistent, join, flip, replace, single, sign, literal, contains, membersFrom, members}
 use Rattle.sheet.specs.Problem.{Action, Statement, problemOf}
 use Rattle.sheet.specs.Form.{_>>=_, judged, times, byteAt, read}
+use Rattle.sheet.specs.Printed.{printed}
 use Rattle.sheet.specs.Format.{accepted, countFault, literalFault, numberFault, listOf, ascending, setOf, literals, clause, effect, action, clauses, actions, goal, plan, facts, sheet, ended, sheetOf}
 use Rattle.sheet.specs.Encoding.{ProperAction, ProperProblem, ProperStatement}
 use Rattle.sheet.proofs.Encoded.{encoded-iff}
@@ -30,10 +31,7 @@ when c r = record { condition = c; result = r }
 abbrev pub always : List Effect → Action
 always es = record { precondition = set 0 0; effects = es }
 
--- ---- the sheet of document 01
-abbrev pub bytes : List ℕ
-bytes = 3 ∷ 0 ∷ 0 ∷ 1 ∷ 3 ∷ 1 ∷ 0 ∷ 1 ∷ 2 ∷ 1 ∷ 4 ∷ 1 ∷ 0 ∷ 2 ∷ 1 ∷ 2 ∷ 2 ∷ 0 ∷ 3 ∷ 1 ∷ 4 ∷ 2 ∷ 2 ∷ 5 ∷ 1 ∷ 1 ∷ 0 ∷ 2 ∷ 0 ∷ 0 ∷ []
-
+-- ---- what the sheet of document 01 says
 abbrev pub paper : Statement
 paper = record {
   problem = record {
@@ -48,7 +46,7 @@ paper = record {
 }
 
 pub record Bench : Type 0 where
-  pub says : sheetOf bytes ≡ accepted paper
+  pub says : sheetOf printed ≡ accepted paper
   pub M1 : startTable 128 (paper .problem) ≡ table (set 1 6 ∷ set 2 5 ∷ set 4 3 ∷ [])
   pub M2 : stepTable 128 (actionAt (paper .problem) 0) (set 1 6 ∷ set 2 5 ∷ set 4 3 ∷ []) ≡ table (set 1 6 ∷ set 2 5 ∷ [])
   pub M3 : stepTable 128 (actionAt (paper .problem) 0) (set 1 6 ∷ set 2 5 ∷ []) ≡ table (set 1 6 ∷ [])
@@ -59,7 +57,7 @@ pub record Bench : Type 0 where
   pub M10 : put 128 (set 1 0 ∷ []) (set 3 0) ≡ some (set 1 0 ∷ [])
   pub M12 : stepTable 128 (always (when (set 0 0) (set 1 0) ∷ when (set 0 0) (set 0 1) ∷ [])) (set 0 0 ∷ []) ≡ refused 25
 
-says : sheetOf bytes ≡ accepted paper
+says : sheetOf printed ≡ accepted paper
 unfolding sheetOf ended read byteAt sheet facts plan goal actions clauses action effect clause literals setOf ascending listOf numberFault literalFault countFault times judged _>>=_ problemOf noLiteral join literal single sign
 says = refl
 
@@ -69,7 +67,7 @@ bench = record { says = says; M1 = refl; M2 = refl; M3 = refl; M6 = refl; M7 = r
 
 -- ---- what the theorems of the start and the step ask for is met by this sheet, its move and its start table
 pub paper-proper : ProperStatement paper
-paper-proper = encoded-iff bytes paper .0 (accepted-iff bytes paper .0 says) .0
+paper-proper = encoded-iff printed paper .0 (accepted-iff printed paper .0 says) .0
 
 pub paper-asks : ProperProblem (paper .problem) × ((3 ≤ 32) × (ProperAction 3 (actionAt (paper .problem) 0) × Described 128 3 (set 1 6 ∷ set 2 5 ∷ set 4 3 ∷ [])))
 unfolding actionAt

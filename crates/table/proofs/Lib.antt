@@ -32,6 +32,10 @@ pub mod Drawing
 pub mod Answers
 pub mod PictureAnswers
 pub mod Demands
+pub mod PaperWorlds
+pub mod Unread
+pub mod CallTables
+pub mod CallDemands
 pub mod Carrying
 pub mod Examples
 pub mod PictureExamples

@@ -14,11 +14,11 @@ use Rattle.sheet.specs.Literals.{state, meets}
 use Rattle.sheet.specs.Lists.{All}
 use Rattle.sheet.proofs.Members.{all-members}
 use Rattle.table.specs.Minimal.{In, Antichain, Described, putAll}
-use Rattle.table.specs.Picture.{unions, primes, sort, picture, pictureBytes}
-use Rattle.table.specs.Prime.{Prime}
+use Rattle.table.specs.Picture.{unions, primes, Ascending, sort, picture, pictureBytes}
+use Rattle.table.specs.Prime.{Prime, Exactly}
 use Rattle.table.proofs.ClausePut.{then-some}
-use Rattle.table.proofs.Primes.{PrimeList, Exactly, list-exactly, exactly-list, primeList-same, union-primeList, primes-primeList, primes-length, clauses-world, in-or-not}
-use Rattle.table.proofs.Order.{Ascending, ascending-unique, sort-mem, sort-sorted, sort-length}
+use Rattle.table.proofs.Primes.{PrimeList, list-exactly, exactly-list, primeList-same, union-primeList, primes-primeList, primes-length, clauses-world, in-or-not}
+use Rattle.table.proofs.Order.{ascending-unique, sort-mem, sort-sorted, sort-length}
 use Rattle.table.proofs.PictureBytes.{Fit, bytes-injective}
 
 -- ---- lists of prime implicates

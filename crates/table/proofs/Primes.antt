@@ -22,7 +22,7 @@ use Rattle.sheet.proofs.Ascending.{mem-none}
 use Rattle.sheet.proofs.Members.{below-none, within-refl, within-trans, all-members, within-join-l, within-join-r, join-within}
 use Rattle.table.specs.Minimal.{In, Antichain, putAll}
 use Rattle.table.specs.Picture.{units, unions, fold, primes}
-use Rattle.table.specs.Prime.{Implicate, Prime}
+use Rattle.table.specs.Prime.{Implicate, Prime, Exactly}
 use Rattle.table.proofs.PutLaws.{put-all-antichain, put-all-size}
 use Rattle.table.proofs.ClausePut.{same-masks, within-equal, some-member, each-member, unions-member, member-unions, Besides, antichain-equal, then-some, put-from, put-covers}
 
@@ -118,10 +118,6 @@ pub record PrimeList (n : ℕ) (worlds : ℕ → Type 0) (s : List Literals) : T
   pub sound : (c : Literals) → List·Memᴰ c s → Implicate n worlds c
   pub complete : (d : Literals) → Implicate n worlds d → (c : Literals) × List·Memᴰ c s × T (within c d)
   pub apart : Antichain s
-
--- the members are the prime implicates and no other clauses
-abbrev pub Exactly : ℕ → (ℕ → Type 0) → List Literals → Type 0
-Exactly n worlds s = (c : Literals) → List·Memᴰ c s ↔ Prime n worlds c
 
 pub list-exactly : (n : ℕ) (worlds : ℕ → Type 0) (s : List Literals) → PrimeList n worlds s → Exactly n worlds s
 list-exactly n worlds s p c = (there, back)

@@ -12,6 +12,8 @@ use Rattle.sheet.specs.declared.Literals.{Literals}
 use Rattle.sheet.specs.Literals.{consistent}
 use Rattle.sheet.specs.Format.{refused as faulty, sheetOf}
 use Rattle.sheet.specs.Lists.{All, keep, collect, pad}
+use Rattle.sheet.specs.Problem.{Problem}
+use Rattle.sheet.specs.Encoding.{ProperAction, ProperProblem}
 use Rattle.sheet.proofs.SlotLaws.{not-both}
 use Rattle.table.specs.declared.slots.Grown.{Grown}
 use Rattle.table.specs.declared.slots.Grown.the-variants as grown
@@ -23,7 +25,7 @@ use Rattle.table.specs.Minimal.{putAll, Outcome, refused, table}
 use Rattle.table.specs.Start.{Clause, candidates, fresh, grow, onTable, growAll}
 use Rattle.table.specs.Slots.{pairs, entriesOf, Holds, Held, tableOf, Grew, Puts}
 use Rattle.table.specs.Moves.{tabled, lent}
-use Rattle.table.specs.Calls.{orGiven, startOf}
+use Rattle.table.specs.Calls.{orGiven, startOf, actionAt}
 use Rattle.table.proofs.Pads.{length-pad, length-entriesOf, holds-trues-long, holds-falses-long, holds-entries, held as held-of}
 use Rattle.table.proofs.PutLaws.{put-all-size}
 
@@ -32,6 +34,11 @@ pub all-at : {A : Type 0} (P : A → Type 0) (xs : List A) (i : ℕ) (e : A) →
 all-at P [] i e h p = absurd (not-suc-le-zero h)
 all-at P (x ∷ xs) zero e h p = p .0
 all-at P (x ∷ xs) (suc i) e h p = all-at P xs i e (le-of-suc-le-suc h) (p .1)
+
+-- the moves of a problem are proper
+pub at-proper : (p : Problem) → ProperProblem p → (i : ℕ) → i < length (p .actions) → ProperAction (p .n) (actionAt p i)
+unfolding actionAt
+at-proper p hp i l = all-at (ProperAction (p .n)) (p .actions) i _ l (hp .actions .each)
 
 -- ---- what is in the arrays
 

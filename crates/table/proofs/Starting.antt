@@ -19,7 +19,7 @@ use Rattle.sheet.proofs.Worlds.{state-consistent}
 use Rattle.sheet.proofs.Members.{any-passed, some-world}
 use Rattle.table.specs.Worlds.{Starting}
 use Rattle.table.specs.Minimal.{In, Described, putAll, Outcome, refused, table}
-use Rattle.table.specs.Start.{Clause, orOf, oneOf, clausesOf, candidates, fresh, grow, onTable, growAll, startTable}
+use Rattle.table.specs.Start.{Clause, orOf, oneOf, clausesOf, candidates, fresh, grow, onTable, growAll, startTable, Stops}
 use Rattle.table.proofs.PutLaws.{put-all-all, put-all-antichain, put-all-size, put-all-in, put-all-out}
 use Rattle.table.proofs.Stepping.{code-is, table-refused, table-is}
 use Rattle.table.proofs.Candidates.{Meets, Alternatives, Low, candidates-low, candidates-in, candidates-out}
@@ -147,16 +147,6 @@ module _ (n : ℕ) (hn : n ≤ 32) (cap : ℕ) where
       go (table v) g e ih = let x = grow-table n hn cap c (hc .0) t ht v g in ih v (x .0 .proper) e (x .1 w b .1 (i, k .0)) (k .1)
 
 -- ---- which clause gives the number
--- some clause comes to o in its fresh table, and every clause before it gave a table
-pub record Stops (cap : ℕ) (o : Option (List Literals)) (cs : List Clause) (t : List Literals) : Type 0 where
-  pub before : List Clause
-  pub clause : Clause
-  pub later : List Clause
-  pub parts : cs ≡ before ++ (clause ∷ later)
-  pub entries : List Literals
-  pub tables : growAll cap before t ≡ table entries
-  pub comes-to : putAll cap (keep consistent (collect (candidates clause) entries)) [] ≡ o
-
 growAll-append : (cap : ℕ) (xs ys : List Clause) (t : List Literals) → growAll cap (xs ++ ys) t ≡ onTable (growAll cap xs t) (λ u. growAll cap ys u)
 growAll-append cap [] ys t = refl
 growAll-append cap (c ∷ xs) ys t = go (grow cap c t) (growAll-append cap xs ys)

@@ -28,11 +28,11 @@ use Rattle.table.proofs.PutLaws.{put-all-all, put-all-antichain, put-al
 use Rattle.table.proofs.Splitting.{Decides, Part, pieces-parts, pieces-in, pieces-out, results-same}
 
 -- ---- the step of a world
-step-goes : (n : ℕ) (a : Action) (w : ℕ) → T (takes n a w) → stepWorld n a w ≡ some (after n a w)
+pub step-goes : (n : ℕ) (a : Action) (w : ℕ) → T (takes n a w) → stepWorld n a w ≡ some (after n a w)
 unfolding stepWorld
 step-goes n a w t = ap (λ (b : Bool). when b (after n a w)) (T-true (takes n a w) t)
 
-step-stays : (n : ℕ) (a : Action) (w : ℕ) → T (not (takes n a w)) → stepWorld n a w ≡ none
+pub step-stays : (n : ℕ) (a : Action) (w : ℕ) → T (not (takes n a w)) → stepWorld n a w ≡ none
 unfolding stepWorld
 step-stays n a w t = ap (λ (b : Bool). when b (after n a w)) (T-false (takes n a w) t)
 
@@ -78,6 +78,14 @@ after-world n a ha w b t = (after-lt n w b r (T-true (consistent r) (takes-clear
 
     low : below n (results (a .effects) (state n w)) ≡ true
     low = results-below n (a .effects) (ha .effects .each) (state n w)
+
+-- worlds step to worlds
+pub step-below : (n : ℕ) (a : Action) → ProperAction n a → (w v : ℕ) → w < 2 ^ n → stepWorld n a w ≡ some v → v < 2 ^ n
+step-below n a ha w v l e = go (test (takes n a w))
+  where
+    go : T (takes n a w) ⊎ T (not (takes n a w)) → v < 2 ^ n
+    go (inl t) = rw (← step-some n a w v e) (after-world n a ha w l t .0)
+    go (inr t) = absurd (Option·none-ne-some v (sym (step-stays n a w t) ∙ e))
 
 -- ---- outcomes told apart
 pub code-is : {a b : ℕ} → refused a ≡ refused b → a ≡ b
@@ -343,7 +351,7 @@ module _ (n : ℕ) (hn : n ≤ 32) (a : Action) (ha : ProperAction n a) (t : Lis
 
   -- ---- a table came of it: then all was sure and clear, and the images were put in turn
   module _ (cap : ℕ) (u : List Literals) (e : stepTable cap a t ≡ table u) where
-    put-images : Sure × (Clear × (images cap ≡ some u))
+    pub put-images : Sure × (Clear × (images cap ≡ some u))
     put-images = go (step-case cap)
       where
         go : Case cap (stepTable cap a t) → Sure × (Clear × (images cap ≡ some u))

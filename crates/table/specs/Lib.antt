@@ -13,3 +13,4 @@ pub mod Carry
 pub mod Counts
 pub mod Calls
 pub mod PictureCalls
+pub mod CallWords

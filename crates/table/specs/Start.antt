@@ -1,4 +1,5 @@
 -- The first table (document 01, "Start"): the known literals, refined by each or-clause, then by each oneof-clause.
+use mathlib.Core.Path.{_≡_}
 use mathlib.Core.List.{List, [], _∷_, _++_, map}
 use mathlib.Core.Option.{Option, none, some}
 use Prim.Native.Nat.{ℕ}
@@ -57,3 +58,14 @@ growAll cap (c ∷ cs) t = onTable (grow cap c t) (λ u. growAll cap cs u)
 -- the start of a problem, in tables of at most cap entries
 unfoldable pub startTable : ℕ → Problem → Outcome
 startTable cap p = growAll cap (clausesOf p) (p .known ∷ [])
+
+-- "21 or 20, whichever the start meets first": some clause comes to o in its fresh table, where every clause before it gave a table; left
+-- empty, some [], is 20, full, none, is 21
+pub record Stops (cap : ℕ) (o : Option (List Literals)) (cs : List Clause) (t : List Literals) : Type 0 where
+  pub before : List Clause
+  pub clause : Clause
+  pub later : List Clause
+  pub parts : cs ≡ before ++ (clause ∷ later)
+  pub entries : List Literals
+  pub tables : growAll cap before t ≡ table entries
+  pub comes-to : putAll cap (keep consistent (collect (candidates clause) entries)) [] ≡ o

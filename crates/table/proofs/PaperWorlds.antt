@@ -12,11 +12,11 @@ use Rattle.sheet.specs.Literals.{noLiteral, mem, within, consistent, join, stat
 use Rattle.sheet.specs.Lists.{Any}
 use Rattle.sheet.specs.Problem.{Action}
 use Rattle.sheet.specs.Encoding.{ProperAction}
-use Rattle.sheet.proofs.Bools.{test, T-true, T-false, true-T, and-l, and-r, and-in, or-l, or-r, or-out}
+use Rattle.sheet.proofs.Bools.{test, true-T, and-l, and-r, and-in, or-l, or-r, or-out}
 use Rattle.sheet.proofs.Ascending.{mem-none}
 use Rattle.sheet.proofs.LiteralSets.{mem-join, mem-replace, set-ext}
-use Rattle.table.specs.Worlds.{addResult, results, takes, after, when, stepWorld}
-use Rattle.table.proofs.Stepping.{after-world}
+use Rattle.table.specs.Worlds.{addResult, results, takes, after, stepWorld}
+use Rattle.table.proofs.Stepping.{step-goes, step-stays, after-world}
 
 -- ---- equation (1)
 none-in : (sign : Bool) (p : ℕ) → T (mem noLiteral sign p) → ⊥
@@ -68,14 +68,6 @@ module _ (n : ℕ) (a : Action) (ha : ProperAction n a) (w : ℕ) (l : w < 2 ^ n
   unfolding takes
   defined = (λ t. (and-l (within (a .precondition) before) (consistent e) t, and-r (within (a .precondition) before) (consistent e) t), λ d. and-in (within (a .precondition) before) (consistent e) (d .0) (d .1))
 
-  goes : T (takes n a w) → stepWorld n a w ≡ some (after n a w)
-  unfolding stepWorld
-  goes t = ap (λ (b : Bool). when b (after n a w)) (T-true (takes n a w) t)
-
-  stays : T (not (takes n a w)) → stepWorld n a w ≡ none
-  unfolding stepWorld
-  stays t = ap (λ (b : Bool). when b (after n a w)) (T-false (takes n a w) t)
-
   updated : T (takes n a w) → Update (after n a w)
   updated t sign p = ap (λ (d : Literals). mem d sign p) (sym (after-world n a ha w l t .1)) ∙ mem-replace before e sign p
 
@@ -90,17 +82,17 @@ module _ (n : ℕ) (a : Action) (ha : ProperAction n a) (w : ℕ) (l : w < 2 ^ n
       ∙ trues-of v
 
   pub step-some : (v : ℕ) → (stepWorld n a w ≡ some v) ↔ (T (within (a .precondition) before) × T (consistent e) × (v < 2 ^ n) × Update v)
-  step-some v = (λ h. there h (test (takes n a w)), λ h. let t = defined .1 (h .0, h .1) in goes t ∙ ap some (only t v (h .3)))
+  step-some v = (λ h. there h (test (takes n a w)), λ h. let t = defined .1 (h .0, h .1) in step-goes n a w t ∙ ap some (only t v (h .3)))
     where
       there : stepWorld n a w ≡ some v → T (takes n a w) ⊎ T (not (takes n a w)) → T (within (a .precondition) before) × T (consistent e) × (v < 2 ^ n) × Update v
       there h (inl t) =
           let d = defined .0 t in
-          rw (← Option·some-injective (after n a w) v (sym (goes t) ∙ h)) (d .0, d .1, after-world n a ha w l t .0, updated t)
-      there h (inr t) = absurd (Option·none-ne-some v (sym (stays t) ∙ h))
+          rw (← Option·some-injective (after n a w) v (sym (step-goes n a w t) ∙ h)) (d .0, d .1, after-world n a ha w l t .0, updated t)
+      there h (inr t) = absurd (Option·none-ne-some v (sym (step-stays n a w t) ∙ h))
 
   pub step-none : (stepWorld n a w ≡ none) ↔ (Defined → ⊥)
-  step-none = (λ h d. Option·some-ne-none (after n a w) (sym (goes (defined .1 d)) ∙ h), λ h. by h (test (takes n a w)))
+  step-none = (λ h d. Option·some-ne-none (after n a w) (sym (step-goes n a w (defined .1 d)) ∙ h), λ h. by h (test (takes n a w)))
     where
       by : (Defined → ⊥) → T (takes n a w) ⊎ T (not (takes n a w)) → stepWorld n a w ≡ none
       by h (inl t) = absurd (h (defined .0 t))
-      by h (inr t) = stays t
+      by h (inr t) = step-stays n a w t

@@ -1,160 +1,45 @@
--- Demand 2 (specs/Demands), proved from the laws of tables, runs and searches. Assumes nothing.
+-- The call search: the first run that is reached or full, or none, by the call run on the sheets that carry the plans, and by worlds; its
+-- eight bytes. Assumes nothing.
 use mathlib.Core.Path.{_≡_, refl, sym, ap, subst, _∙_}
 use mathlib.Core.Bool.{Bool, true, false, true≢false}
 use mathlib.Core.List.{List, []}
 use mathlib.Core.Logic.{_⊎_, inl, inr, _↔_}
-use mathlib.Core.Option.{none}
-use Prim.Native.Nat.{ℕ, _^_, _≤_, _<_}
+use Prim.Native.Nat.{ℕ, _≤_}
 use native.Mathlib.Omega.{arith}
 use lib.Dec.{ltb}
-use lib.ListN.{length, take}
+use lib.ListN.{length}
 use borrow.Author.Tests.{ltb-true, ltb-false}
 use Rattle.sheet.specs.declared.Literals.{Literals}
 use Rattle.sheet.specs.declared.Answer.the-variants.{Accepted, Refused}
-use Rattle.sheet.specs.Lists.{All}
-use Rattle.sheet.specs.Problem.{Action, Problem, Statement}
-use Rattle.sheet.specs.Format.{sheetOf}
-use Rattle.sheet.specs.Encoding.{ProperAction, ProperProblem}
+use Rattle.sheet.specs.Lists.{pad}
+use Rattle.sheet.specs.Problem.{Problem, Statement}
+use Rattle.sheet.specs.Format.{Judgement, accepted, refused, sheetOf}
+use Rattle.sheet.specs.Faults.{Says}
+use Rattle.sheet.specs.Encoding.{ProperProblem}
 use Rattle.sheet.proofs.SlotLaws.{take-pad}
-use Rattle.table.specs.declared.Table.{Table}
-use Rattle.table.specs.Worlds.{stepWorld, Starting}
-use Rattle.table.specs.Minimal.{In, Outcome}
+use Rattle.sheet.proofs.Demands.{statement-proper}
+use Rattle.table.specs.Minimal.{Outcome}
 use Rattle.table.specs.Start.{startTable}
-use Rattle.table.specs.Step.{stepTable}
-use Rattle.table.specs.Slots.{entries}
-use Rattle.table.specs.Calls.{startOf, actionAt, stepOf}
+use Rattle.table.specs.Calls.{startOf}
+use Rattle.table.specs.CallWords.{Starts}
 use Rattle.table.proofs.Demands as tables
-use Rattle.plan.specs.declared.Ran.{Ran}
+use Rattle.table.proofs.CallDemands.{start-else}
 use Rattle.plan.specs.declared.Searched.{Searched}
-use Rattle.plan.specs.declared.Verdict as case
 use Rattle.plan.specs.declared.Verdict.the-variants as ran
 use Rattle.plan.specs.declared.Kind.the-variants as kind
-use Rattle.plan.specs.Run.{actionsOf, Verdict, reached, short, stopped, full, runFrom, movesTaken}
+use Rattle.plan.specs.Run.{actionsOf, Verdict, reached, short, stopped, full, runFrom}
 use Rattle.plan.specs.Search.{Answer, found, fullAt, nothing}
-use Rattle.plan.specs.Calls.{verdictOf, runOf, refusedSearch, answered, searchedFrom, searched, searchOf}
-use Rattle.plan.specs.Meaning.{Ends, Every, Means}
+use Rattle.plan.specs.Calls.{verdictOf, refusedSearch, answered, searchedFrom, searched, searchOf}
 use Rattle.plan.specs.Order.{Earlier, PlanOf, Fails, FirstPlan}
-use Rattle.plan.specs.Demand3.{takenBy, fullVerdict, runFull, runRefused}
-use Rattle.plan.specs.DemandWords.{Says, OnSheet, AsDescribed, Untaken, images, Starts, Solves, Spoiled, taken, Becomes, runWith, Misses, FirstRun, planFound}
-use Rattle.plan.specs.Demands.{Demand2}
-use Rattle.plan.proofs.Demands as plans
-use Rattle.plan.proofs.TableRuns.{at-proper, taken-is, verdict-is, last-arrives}
-use Rattle.plan.proofs.CallRuns.{statement-proper, last-entries}
-use Rattle.plan.proofs.CallRuns as calls
-use Rattle.plan.proofs.CallAnswers.{search-within, search-8}
+use Rattle.plan.specs.Demand3.{fullVerdict, runFull}
+use Rattle.plan.specs.DemandWords.{Solves, Spoiled, runWith, Misses, FirstRun, planFound}
+use Rattle.plan.proofs.TableRuns.{verdict-is}
+use Rattle.plan.proofs.CallRuns.{not-full}
+use Rattle.plan.proofs.CallAnswers.{search-fault, search-within, search-8}
 use Rattle.plan.proofs.SearchRuns as searches
-use Rattle.plan.proofs.PaperWorlds as paper
-use Rattle.plan.proofs.TableCalls.{verdict-injective, taken-actions, rows-enough, run-starts, unfull-given, with-table, with-refused}
-use Rattle.plan.proofs.TableCalls as called
+use Rattle.plan.proofs.RunAnswers.{Outcomes, outcomes, verdict-injective, with-table, with-refused}
 
--- ---- steps
-module _ (s : List ℕ) (x : Statement) (says : Says s x) (t : Table) (m : ℕ) (on : OnSheet x m) (fits : AsDescribed x t) where
-  abbrev a : Action
-  a = actionAt (x .problem) m
-
-  abbrev o : Outcome
-  o = stepTable 128 (actionAt (x .problem) m) (entries t)
-
-  hp : ProperProblem (x .problem)
-  hp = statement-proper s x says .problem
-
-  ha : ProperAction (x .problem .n) (actionAt (x .problem) m)
-  ha = at-proper (x .problem) hp m on
-
-  number : (k : ℕ) → (k ≡ 24) ⊎ ((k ≡ 25) ⊎ (k ≡ 21)) → (stepOf (sheetOf s) t m .answer ≡ Refused k 0) ↔ (o ≡ Outcome.refused k)
-  number k h = let i = tables.step-number s x says t m k h in (λ e. i .0 e .2, λ e. i .1 (on, fits, e))
-
-  undefined : ((stepOf (sheetOf s) t m .answer ≡ Refused 24 0) ⊎ (stepOf (sheetOf s) t m .answer ≡ Refused 25 0)) ↔ Untaken x t m
-  undefined = (there, back)
-    where
-      law : ((o ≡ Outcome.refused 24) ⊎ (o ≡ Outcome.refused 25)) ↔ ((w : ℕ) × (In (x .problem .n) (entries t) w × ((w < 2 ^ x .problem .n) × (stepWorld (x .problem .n) a w ≡ none))))
-      law = tables.step-undefined (x .problem .n) (hp .n-most) a ha (entries t) fits 128
-
-      there : (stepOf (sheetOf s) t m .answer ≡ Refused 24 0) ⊎ (stepOf (sheetOf s) t m .answer ≡ Refused 25 0) → Untaken x t m
-      there (inl e) = let k = law .0 (inl (number 24 (inl refl) .0 e)) in (k .0, (k .1 .1 .0, k .1 .0), k .1 .1 .1)
-      there (inr e) = let k = law .0 (inr (number 25 (inr (inl refl)) .0 e)) in (k .0, (k .1 .1 .0, k .1 .0), k .1 .1 .1)
-
-      split : (o ≡ Outcome.refused 24) ⊎ (o ≡ Outcome.refused 25) → (stepOf (sheetOf s) t m .answer ≡ Refused 24 0) ⊎ (stepOf (sheetOf s) t m .answer ≡ Refused 25 0)
-      split (inl e) = inl (number 24 (inl refl) .1 e)
-      split (inr e) = inr (number 25 (inr (inl refl)) .1 e)
-
-      back : Untaken x t m → (stepOf (sheetOf s) t m .answer ≡ Refused 24 0) ⊎ (stepOf (sheetOf s) t m .answer ≡ Refused 25 0)
-      back k = split (law .1 (k .0, (k .1 .1, (k .1 .0, k .2))))
-
-  otherwise : (Untaken x t m → ⊥) → (stepOf (sheetOf s) t m .answer ≡ Accepted) ⊎ ((stepOf (sheetOf s) t m .answer ≡ Refused 21 0) × (images x t m ≡ none))
-  otherwise f = go (tables.step-kind (x .problem .n) (hp .n-most) a ha (entries t) fits 128)
-    where
-      go : (o ≡ Outcome.refused 24) ⊎ ((o ≡ Outcome.refused 25) ⊎ ((o ≡ Outcome.refused 21) ⊎ ((u : List Literals) × (o ≡ Outcome.table u))))
-          → (stepOf (sheetOf s) t m .answer ≡ Accepted) ⊎ ((stepOf (sheetOf s) t m .answer ≡ Refused 21 0) × (images x t m ≡ none))
-      go (inl e) = absurd (f (undefined .0 (inl (number 24 (inl refl) .1 e))))
-      go (inr (inl e)) = absurd (f (undefined .0 (inr (number 25 (inr (inl refl)) .1 e))))
-      go (inr (inr (inl e))) = inr (number 21 (inr (inr refl)) .1 e, tables.step-21 (x .problem .n) (hp .n-most) a ha (entries t) fits 128 .0 e .1 .1)
-      go (inr (inr (inr u))) = inl (tables.step-accepted s x says t m .1 (on, fits, u))
-
--- ---- the start
-start-otherwise : (s : List ℕ) (x : Statement) → Says s x → (w : ℕ) → Starts (x .problem) w
-    → (startOf (sheetOf s) .answer ≡ Accepted) ⊎ (startOf (sheetOf s) .answer ≡ Refused 21 0)
-start-otherwise s x says w st = go (tables.start-kind 128 (x .problem))
-  where
-    go : (startTable 128 (x .problem) ≡ Outcome.refused 20) ⊎ ((startTable 128 (x .problem) ≡ Outcome.refused 21) ⊎ ((t : List Literals) × (startTable 128 (x .problem) ≡ Outcome.table t)))
-        → (startOf (sheetOf s) .answer ≡ Accepted) ⊎ (startOf (sheetOf s) .answer ≡ Refused 21 0)
-    go (inl e) = absurd (tables.start-20 (x .problem) (statement-proper s x says .problem) 128 e w (st .0) (st .1))
-    go (inr (inl e)) = inr (tables.start-number s x says 21 0 .1 (refl, e))
-    go (inr (inr e)) = inl (tables.start-accepted s x says .1 e)
-
--- ---- runs
-module _ (s : List ℕ) (x : Statement) (says : Says s x) (rows : ℕ) (given : runRefused (runOf (sheetOf s) rows) ≡ false) where
-  abbrev p : Problem
-  p = x .problem
-
-  abbrev plan : List Action
-  plan = actionsOf (x .problem) (x .plan)
-
-  run-hp : ProperProblem p
-  run-hp = statement-proper s x says .problem
-
-  hq : All (λ i. i < length (p .actions)) (x .plan)
-  hq = statement-proper s x says .plan .each
-
-  t : List Literals
-  t = run-starts s x says rows given .0
-
-  starts : startTable 128 (x .problem) ≡ Outcome.table (run-starts s x says rows given .0)
-  starts = run-starts s x says rows given .1
-
-  abbrev verdict : Verdict
-  verdict = runFrom 128 (x .problem .goal) 0 (actionsOf (x .problem) (x .plan)) (run-starts s x says rows given .0)
-
-  call-verdict : runOf (sheetOf s) rows .verdict ≡ verdictOf verdict
-  call-verdict = ap (λ (r : Ran). r .verdict) (calls.run-call s x says rows (rows-enough s x says rows given) (run-starts s x says rows given .0) starts)
-
-  -- by the starting worlds
-  run-is : runFull (runOf (sheetOf s) rows) ≡ false → (v : Verdict) → ((k : ℕ) → v ≡ full k → ⊥)
-      → (runOf (sheetOf s) rows .verdict ≡ verdictOf v) ↔ Means (p .n) (p .goal) (Starting p) plan v
-  unfolding runFull
-  run-is f v g = (
-    λ e. law .0 (verdict-injective verdict v (sym call-verdict ∙ e)),
-    λ h. call-verdict ∙ ap verdictOf (law .1 h),
-  )
-    where
-      law : (verdict ≡ v) ↔ Means (p .n) (p .goal) (Starting p) plan v
-      law = verdict-is p run-hp (run-starts s x says rows given .0) starts (x .plan) hq (calls.not-full verdict (ap fullVerdict (sym call-verdict) ∙ f)) v g
-
-  -- the moves taken
-  taken-first : actionsOf p (taken s x rows) ≡ take (movesTaken 128 plan (run-starts s x says rows given .0)) plan
-  taken-first =
-      taken-actions p (runOf (sheetOf s) rows .verdict) (x .plan)
-      ∙ ap (λ (v : case.Verdict). takenBy v plan) call-verdict
-      ∙ taken-is 128 (p .goal) plan (run-starts s x says rows given .0)
-
-  run-takes : Every (p .n) (Starting p) Ends (actionsOf p (taken s x rows))
-  run-takes = subst (Every (p .n) (Starting p) Ends) (sym taken-first) (last-arrives p run-hp (run-starts s x says rows given .0) starts (x .plan) hq .defined)
-
-  run-comes : (v : ℕ) → v < 2 ^ p .n → In (p .n) (entries (runOf (sheetOf s) rows .table)) v ↔ Becomes s x rows v
-  run-comes v l = rw (last-entries s x says rows (rows-enough s x says rows given) (run-starts s x says rows given .0) starts, taken-first)
-      (last-arrives p run-hp (run-starts s x says rows given .0) starts (x .plan) hq .worlds v l)
-
--- ---- searches
+-- ---- verdicts that the search passes over
 fails-misses : (v : Verdict) → Fails v → Misses (verdictOf v)
 unfolding verdictOf
 fails-misses reached f = f
@@ -224,17 +109,6 @@ module _ (s : List ℕ) (x : Statement) (says : Says s x) (limit : ℕ) (le : li
   abbrev Search : Searched
   Search = searchOf (sheetOf s) limit
 
-  abbrev Outcomes : Type 0
-  Outcomes = ((N : ℕ) × (startTable 128 (x .problem) ≡ Outcome.refused N)) ⊎ ((t : List Literals) × (startTable 128 (x .problem) ≡ Outcome.table t))
-
-  outcomes : Outcomes
-  outcomes = go (tables.start-kind 128 (x .problem))
-    where
-      go : (startTable 128 (x .problem) ≡ Outcome.refused 20) ⊎ ((startTable 128 (x .problem) ≡ Outcome.refused 21) ⊎ ((t : List Literals) × (startTable 128 (x .problem) ≡ Outcome.table t))) → Outcomes
-      go (inl e) = inl (20, e)
-      go (inr (inl e)) = inl (21, e)
-      go (inr (inr e)) = inr e
-
   -- ---- the start is refused
   module _ (N : ℕ) (starts : startTable 128 (x .problem) ≡ Outcome.refused N) where
     call-refused : searchOf (sheetOf s) limit .kind ≡ kind.Refused N 0
@@ -253,7 +127,7 @@ module _ (s : List ℕ) (x : Statement) (says : Says s x) (limit : ℕ) (le : li
     answer = searchedFrom (x .problem) limit t
 
     call : searchOf (sheetOf s) limit ≡ answered answer
-    call = plans.search-call s x says t starts limit le
+    call = unfold searched in search-within s x says limit le ∙ ap (searched (x .problem) limit) starts
 
     gives : (q : List ℕ) → PlanOf moves limit q → runWith (x .problem) q .verdict ≡ verdictOf (verdict-of q)
     gives q h = with-table (x .problem) hπ q (h .0) (omega (arith, h .1)) t starts
@@ -287,10 +161,10 @@ module _ (s : List ℕ) (x : Statement) (says : Says s x) (limit : ℕ) (le : li
         (ap (λ (r : Searched). r .kind) (call ∙ ap answered e) ∙ k .0, ap (λ (r : Searched). planFound r) (call ∙ ap answered e) ∙ k .1)
 
     found-first : (q : List ℕ) → (answer ≡ found q) ↔ FirstPlan verdict-of moves limit q reached
-    found-first = plans.search-found s x says t starts limit
+    found-first = searches.search-found (x .problem) hπ t starts limit
 
     full-first : (q : List ℕ) (i : ℕ) → (answer ≡ fullAt q i) ↔ FirstPlan verdict-of moves limit q (full i)
-    full-first = plans.search-full s x says t starts limit
+    full-first = searches.search-full (x .problem) hπ t starts limit
 
     -- the plan of the answer
     its-found : searchOf (sheetOf s) limit .kind ≡ kind.Reached → answer ≡ found (planFound (searchOf (sheetOf s) limit))
@@ -322,25 +196,25 @@ module _ (s : List ℕ) (x : Statement) (says : Says s x) (limit : ℕ) (le : li
 
     by-nothing : (searchOf (sheetOf s) limit .kind ≡ kind.Nothing) ↔ ((q : List ℕ) → PlanOf moves limit q → Misses (runWith (x .problem) q .verdict))
     by-nothing = (
-      λ e q h. subst Misses (sym (gives q h)) (fails-misses (verdict-of q) (plans.search-nothing s x says t starts limit .0 (its-nothing .0 e) q h)),
-      λ f. its-nothing .1 (plans.search-nothing s x says t starts limit .1 (λ q h. misses-fails (verdict-of q) (subst Misses (gives q h) (f q h)))),
+      λ e q h. subst Misses (sym (gives q h)) (fails-misses (verdict-of q) (searches.search-nothing (x .problem) hπ t starts limit .0 (its-nothing .0 e) q h)),
+      λ f. its-nothing .1 (searches.search-nothing (x .problem) hπ t starts limit .1 (λ q h. misses-fails (verdict-of q) (subst Misses (gives q h) (f q h)))),
     )
 
     ends : (i : ℕ) → searchOf (sheetOf s) limit .kind ≡ kind.Full i → i ≡ searchOf (sheetOf s) limit .length
     ends i e =
         let q = planFound (searchOf (sheetOf s) limit) in
-        plans.full-at-end s x says t starts limit q i (its-full i e)
+        searches.full-at-end (x .problem) hπ t starts limit q i (its-full i e)
         ∙ sym (ap (λ (r : Searched). r .length) (call ∙ ap answered (its-full i e)) ∙ full-length q i)
 
     found-by : searchOf (sheetOf s) limit .kind ≡ kind.Reached
         → Solves (x .problem) (planFound (searchOf (sheetOf s) limit))
         × ((r : List ℕ) → PlanOf moves limit r → Earlier r (planFound (searchOf (sheetOf s) limit)) → Spoiled (x .problem) r)
-    found-by e = plans.found-worlds s x says t starts limit (planFound (searchOf (sheetOf s) limit)) (its-found e)
+    found-by e = searches.found-worlds (x .problem) hπ t starts limit (planFound (searchOf (sheetOf s) limit)) (its-found e)
 
     -- by the worlds
     unfull : (q : List ℕ) → PlanOf moves limit q → runFull (runWith (x .problem) q) ≡ false → (k : ℕ) → verdict-of q ≡ full k → ⊥
     unfolding runFull
-    unfull q h f = calls.not-full (verdict-of q) (ap fullVerdict (sym (gives q h)) ∙ f)
+    unfull q h f = not-full (verdict-of q) (ap fullVerdict (sym (gives q h)) ∙ f)
 
     found-of : (q : List ℕ) → PlanOf moves limit q → runFull (runWith (x .problem) q) ≡ false → Solves (x .problem) q
         → ((r : List ℕ) → PlanOf moves limit r → Earlier r q → (runFull (runWith (x .problem) r) ≡ false) × Spoiled (x .problem) r)
@@ -359,67 +233,67 @@ module _ (s : List ℕ) (x : Statement) (says : Says s x) (limit : ℕ) (le : li
     unfolding runFull
     nothing-by = (
       λ e q h. (
-        plans.nothing-worlds s x says t starts limit .0 (its-nothing .0 e) q h .0,
-        ap fullVerdict (gives q h) ∙ misses-unfull (verdict-of q) (plans.search-nothing s x says t starts limit .0 (its-nothing .0 e) q h),
+        searches.nothing-worlds (x .problem) hπ t starts limit .0 (its-nothing .0 e) q h .0,
+        ap fullVerdict (gives q h) ∙ misses-unfull (verdict-of q) (searches.search-nothing (x .problem) hπ t starts limit .0 (its-nothing .0 e) q h),
       ),
-      λ f. its-nothing .1 (plans.nothing-worlds s x says t starts limit .1 (λ q h. (f q h .0, unfull q h (f q h .1)))),
+      λ f. its-nothing .1 (searches.nothing-worlds (x .problem) hπ t starts limit .1 (λ q h. (f q h .0, unfull q h (f q h .1)))),
     )
 
   -- ---- both together
   empty : PlanOf moves limit []
   empty = (tt, omega arith)
 
-  search-reached : (q : List ℕ) → ((searchOf (sheetOf s) limit .kind ≡ kind.Reached) × (planFound (searchOf (sheetOf s) limit) ≡ q)) ↔ FirstRun (x .problem) limit q ran.Reached
-  search-reached q = go outcomes
+  pub search-reached : (q : List ℕ) → ((searchOf (sheetOf s) limit .kind ≡ kind.Reached) × (planFound (searchOf (sheetOf s) limit) ≡ q)) ↔ FirstRun (x .problem) limit q ran.Reached
+  search-reached q = go (outcomes (x .problem))
     where
-      go : Outcomes → ((searchOf (sheetOf s) limit .kind ≡ kind.Reached) × (planFound (searchOf (sheetOf s) limit) ≡ q)) ↔ FirstRun (x .problem) limit q ran.Reached
+      go : Outcomes (x .problem) → ((searchOf (sheetOf s) limit .kind ≡ kind.Reached) × (planFound (searchOf (sheetOf s) limit) ≡ q)) ↔ FirstRun (x .problem) limit q ran.Reached
       go (inl r) = (
         λ h. absurd (let z : _≡_ {A = ℕ} 0 1 = cc (call-refused (r .0) (r .1), h .0) in omega arith),
         λ f. absurd (let z : _≡_ {A = ℕ} 0 1 = cc (run-refused (r .0) (r .1) q (f .plan), f .gives) in omega arith),
       )
       go (inr r) = by-reached (r .0) (r .1) q
 
-  search-full : (q : List ℕ) (k : ℕ) → ((searchOf (sheetOf s) limit .kind ≡ kind.Full k) × (planFound (searchOf (sheetOf s) limit) ≡ q)) ↔ FirstRun (x .problem) limit q (ran.Full k)
-  search-full q k = go outcomes
+  pub search-full : (q : List ℕ) (k : ℕ) → ((searchOf (sheetOf s) limit .kind ≡ kind.Full k) × (planFound (searchOf (sheetOf s) limit) ≡ q)) ↔ FirstRun (x .problem) limit q (ran.Full k)
+  search-full q k = go (outcomes (x .problem))
     where
-      go : Outcomes → ((searchOf (sheetOf s) limit .kind ≡ kind.Full k) × (planFound (searchOf (sheetOf s) limit) ≡ q)) ↔ FirstRun (x .problem) limit q (ran.Full k)
+      go : Outcomes (x .problem) → ((searchOf (sheetOf s) limit .kind ≡ kind.Full k) × (planFound (searchOf (sheetOf s) limit) ≡ q)) ↔ FirstRun (x .problem) limit q (ran.Full k)
       go (inl r) = (
         λ h. absurd (let z : _≡_ {A = ℕ} 0 1 = cc (call-refused (r .0) (r .1), h .0) in omega arith),
         λ f. absurd (let z : _≡_ {A = ℕ} 0 1 = cc (run-refused (r .0) (r .1) q (f .plan), f .gives) in omega arith),
       )
       go (inr r) = by-full (r .0) (r .1) q k
 
-  search-none : (searchOf (sheetOf s) limit .kind ≡ kind.Nothing) ↔ ((q : List ℕ) → PlanOf moves limit q → Misses (runWith (x .problem) q .verdict))
-  search-none = go outcomes
+  pub search-none : (searchOf (sheetOf s) limit .kind ≡ kind.Nothing) ↔ ((q : List ℕ) → PlanOf moves limit q → Misses (runWith (x .problem) q .verdict))
+  search-none = go (outcomes (x .problem))
     where
-      go : Outcomes → (searchOf (sheetOf s) limit .kind ≡ kind.Nothing) ↔ ((q : List ℕ) → PlanOf moves limit q → Misses (runWith (x .problem) q .verdict))
+      go : Outcomes (x .problem) → (searchOf (sheetOf s) limit .kind ≡ kind.Nothing) ↔ ((q : List ℕ) → PlanOf moves limit q → Misses (runWith (x .problem) q .verdict))
       go (inl r) = (
         λ h. absurd (let z : _≡_ {A = ℕ} 0 1 = cc (call-refused (r .0) (r .1), h) in omega arith),
         λ f. absurd (subst Misses (run-refused (r .0) (r .1) [] empty) (f [] empty)),
       )
       go (inr r) = by-nothing (r .0) (r .1)
 
-  full-at-end : (k : ℕ) → searchOf (sheetOf s) limit .kind ≡ kind.Full k → k ≡ searchOf (sheetOf s) limit .length
-  full-at-end k e = go outcomes
+  pub full-at-end : (k : ℕ) → searchOf (sheetOf s) limit .kind ≡ kind.Full k → k ≡ searchOf (sheetOf s) limit .length
+  full-at-end k e = go (outcomes (x .problem))
     where
-      go : Outcomes → k ≡ searchOf (sheetOf s) limit .length
+      go : Outcomes (x .problem) → k ≡ searchOf (sheetOf s) limit .length
       go (inl r) = absurd (let z : _≡_ {A = ℕ} 0 1 = cc (call-refused (r .0) (r .1), e) in omega arith)
       go (inr r) = ends (r .0) (r .1) k e
 
-  found-worlds : searchOf (sheetOf s) limit .kind ≡ kind.Reached
+  pub found-worlds : searchOf (sheetOf s) limit .kind ≡ kind.Reached
       → Solves (x .problem) (planFound (searchOf (sheetOf s) limit))
       × ((r : List ℕ) → PlanOf moves limit r → Earlier r (planFound (searchOf (sheetOf s) limit)) → Spoiled (x .problem) r)
-  found-worlds e = go outcomes
+  found-worlds e = go (outcomes (x .problem))
     where
-      go : Outcomes → Solves (x .problem) (planFound (searchOf (sheetOf s) limit))
+      go : Outcomes (x .problem) → Solves (x .problem) (planFound (searchOf (sheetOf s) limit))
           × ((r : List ℕ) → PlanOf moves limit r → Earlier r (planFound (searchOf (sheetOf s) limit)) → Spoiled (x .problem) r)
       go (inl r) = absurd (let z : _≡_ {A = ℕ} 0 1 = cc (call-refused (r .0) (r .1), e) in omega arith)
       go (inr r) = found-by (r .0) (r .1) e
 
-  worlds-found : (w : ℕ) → Starts (x .problem) w → (q : List ℕ) → PlanOf moves limit q → runFull (runWith (x .problem) q) ≡ false → Solves (x .problem) q
+  pub worlds-found : (w : ℕ) → Starts (x .problem) w → (q : List ℕ) → PlanOf moves limit q → runFull (runWith (x .problem) q) ≡ false → Solves (x .problem) q
       → ((r : List ℕ) → PlanOf moves limit r → Earlier r q → (runFull (runWith (x .problem) r) ≡ false) × Spoiled (x .problem) r)
       → (searchOf (sheetOf s) limit .kind ≡ kind.Reached) × (planFound (searchOf (sheetOf s) limit) ≡ q)
-  worlds-found w st q h f g k = go (start-otherwise s x says w st)
+  worlds-found w st q h f g k = go (start-else s x says w st)
     where
       full-by : startTable 128 (x .problem) ≡ Outcome.refused 21 → runFull (runWith (x .problem) q) ≡ true
       full-by i = unfold runFull fullVerdict in ap fullVerdict (run-refused 21 i q h)
@@ -428,15 +302,15 @@ module _ (s : List ℕ) (x : Statement) (says : Says s x) (limit : ℕ) (le : li
       go (inl e) = let t = tables.start-accepted s x says .0 e in found-of (t .0) (t .1) q h f g k
       go (inr e) = absurd (true≢false (sym (full-by (tables.start-number s x says 21 0 .0 e .1)) ∙ f))
 
-  none-worlds : (searchOf (sheetOf s) limit .kind ≡ kind.Nothing)
+  pub none-worlds : (searchOf (sheetOf s) limit .kind ≡ kind.Nothing)
       ↔ ((q : List ℕ) → PlanOf moves limit q → Spoiled (x .problem) q × (runFull (runWith (x .problem) q) ≡ false))
-  none-worlds = go outcomes
+  none-worlds = go (outcomes (x .problem))
     where
-      go : Outcomes → (searchOf (sheetOf s) limit .kind ≡ kind.Nothing)
+      go : Outcomes (x .problem) → (searchOf (sheetOf s) limit .kind ≡ kind.Nothing)
           ↔ ((q : List ℕ) → PlanOf moves limit q → Spoiled (x .problem) q × (runFull (runWith (x .problem) q) ≡ false))
       go (inl r) = (
         λ h. absurd (let z : _≡_ {A = ℕ} 0 1 = cc (call-refused (r .0) (r .1), h) in omega arith),
-        λ f. absurd (let v = f [] empty in true≢false (sym (let u = start-otherwise s x says (v .0 .0) (v .0 .1, v .0 .2) in full-by u) ∙ v .1)),
+        λ f. absurd (let v = f [] empty in true≢false (sym (let u = start-else s x says (v .0 .0) (v .0 .1, v .0 .2) in full-by u) ∙ v .1)),
       )
         where
           full-by : (startOf (sheetOf s) .answer ≡ Accepted) ⊎ (startOf (sheetOf s) .answer ≡ Refused 21 0) → runFull (runWith (x .problem) []) ≡ true
@@ -445,37 +319,76 @@ module _ (s : List ℕ) (x : Statement) (says : Says s x) (limit : ℕ) (le : li
       go (inr r) = nothing-by (r .0) (r .1)
 
 -- a limit above 8 is refused
-within-limit : (s : List ℕ) (x : Statement) → Says s x → (limit : ℕ) → ((j i : ℕ) → searchOf (sheetOf s) limit .kind ≡ kind.Refused j i → ⊥) → limit ≤ 8
+pub within-limit : (s : List ℕ) (x : Statement) → Says s x → (limit : ℕ) → ((j i : ℕ) → searchOf (sheetOf s) limit .kind ≡ kind.Refused j i → ⊥) → limit ≤ 8
 within-limit s x says limit f = go (ltb 8 limit) refl
   where
     go : (b : Bool) → ltb 8 limit ≡ b → limit ≤ 8
     go true e = absurd (f 8 0 (unfold refusedSearch in ap (λ (r : Searched). r .kind) (search-8 s x says limit (ltb-true 8 limit e))))
     go false e = ltb-false 8 limit e
 
-pub demand-2 : Demand2
-unfolding verdictOf
-demand-2 = record {
-  equation-1 = paper.results-are;
-  equation-2 = λ s x says m on w l. (
-    paper.step-some (x .problem .n) (actionAt (x .problem) m) (at-proper (x .problem) (statement-proper s x says .problem) m on) w l,
-    paper.step-none (x .problem .n) (actionAt (x .problem) m) (at-proper (x .problem) (statement-proper s x says .problem) m on) w l,
-  );
-  step-worlds = λ s x says t m e. called.step-worlds s x says t m e;
-  step-undefined = undefined;
-  step-else = otherwise;
-  start-worlds = called.start-worlds;
-  start-else = start-otherwise;
-  run-reached = λ s x says w st rows h f. run-is s x says rows (unfull-given s x says rows w st h f) f reached (λ k e. let z : _≡_ {A = ℕ} 0 1 = cc in omega arith);
-  run-short = λ s x says w st rows h f. run-is s x says rows (unfull-given s x says rows w st h f) f short (λ k e. let z : _≡_ {A = ℕ} 0 1 = cc in omega arith);
-  run-stopped = λ s x says w st rows h f k N. run-is s x says rows (unfull-given s x says rows w st h f) f (stopped k N) (λ i e. let z : _≡_ {A = ℕ} 0 1 = cc in omega arith);
-  run-taken = run-takes;
-  run-worlds = run-comes;
-  carried = λ s x says q h. called.carried (x .problem) (statement-proper s x says .problem) q (h .0) (h .1);
-  search-reached = search-reached;
-  search-none = search-none;
-  search-full = search-full;
-  full-at-end = λ s x says limit k e. full-at-end s x says limit (within-limit s x says limit (λ j i r. let z : _≡_ {A = ℕ} 0 1 = cc in omega arith)) k e;
-  found-worlds = λ s x says limit e. found-worlds s x says limit (within-limit s x says limit (λ j i r. let z : _≡_ {A = ℕ} 0 1 = cc in omega arith)) e;
-  worlds-found = λ s x says w st limit h. worlds-found s x says limit h w st;
-  none-worlds = none-worlds;
-}
+-- ---- the eight bytes of a search
+abbrev Padded : Searched → Type 0
+Padded r = (r .length ≤ 8) × (r .plan ≡ pad 8 0 (planFound r))
+
+padded-refused : (k q : ℕ) → Padded (refusedSearch k q)
+unfolding refusedSearch pad
+padded-refused k q = (omega arith, refl)
+
+padded-answer : (a : Answer) → ((q : List ℕ) → a ≡ found q → length q ≤ 8) → ((q : List ℕ) (k : ℕ) → a ≡ fullAt q k → length q ≤ 8) → Padded (answered a)
+padded-answer (found q) f g = unfold answered in (f q refl, ap (pad 8 0) (sym (take-pad 8 0 q (f q refl))))
+padded-answer (fullAt q k) f g = unfold answered in (g q k refl, ap (pad 8 0) (sym (take-pad 8 0 q (g q k refl))))
+padded-answer nothing f g = unfold answered pad in (omega arith, refl)
+
+-- whatever a refusal and every answer of plans within 8 moves has, a search has
+abbrev Short : Answer → Type 0
+Short a = ((q : List ℕ) → a ≡ found q → length q ≤ 8) × ((q : List ℕ) (k : ℕ) → a ≡ fullAt q k → length q ≤ 8)
+
+module _ (P : Searched → Type 0) (none-found : (k q : ℕ) → P (refusedSearch k q)) (any-answer : (a : Answer) → Short a → P (answered a)) (s : List ℕ) (limit : ℕ) where
+  module _ (x : Statement) (e : sheetOf s ≡ accepted x) where
+    by-start : (N : ℕ) → limit ≤ 8 → startTable 128 (x .problem) ≡ Outcome.refused N → searchOf (sheetOf s) limit ≡ refusedSearch N 0
+    unfolding searched
+    by-start N h i = search-within s x e limit h ∙ ap (searched (x .problem) limit) i
+
+    by-table : (t : List Literals) → limit ≤ 8 → startTable 128 (x .problem) ≡ Outcome.table t → searchOf (sheetOf s) limit ≡ answered (searchedFrom (x .problem) limit t)
+    unfolding searched
+    by-table t h i = search-within s x e limit h ∙ ap (searched (x .problem) limit) i
+
+    start : limit ≤ 8 → Outcomes (x .problem) → P (searchOf (sheetOf s) limit)
+    start h (inl i) = subst P (sym (by-start (i .0) h (i .1))) (none-found (i .0) 0)
+    start h (inr i) =
+        subst P (sym (by-table (i .0) h (i .1)))
+        (any-answer (searchedFrom (x .problem) limit (i .0)) (
+          λ q f. omega (arith, h, searches.search-found (x .problem) (statement-proper s x e .problem) (i .0) (i .1) limit q .0 f .plan .1),
+          λ q k f. omega (arith, h, searches.search-full (x .problem) (statement-proper s x e .problem) (i .0) (i .1) limit q k .0 f .plan .1),
+        ))
+
+    most : (b : Bool) → ltb 8 limit ≡ b → P (searchOf (sheetOf s) limit)
+    most true f = subst P (sym (search-8 s x e limit (ltb-true 8 limit f))) (none-found 8 0)
+    most false f = start (ltb-false 8 limit f) (outcomes (x .problem))
+
+  search-any : P (searchOf (sheetOf s) limit)
+  search-any = go (sheetOf s) refl
+    where
+      go : (j : Judgement) → sheetOf s ≡ j → P (searchOf (sheetOf s) limit)
+      go (refused k q) e = subst P (sym (search-fault s limit k q e)) (none-found k q)
+      go (accepted x) e = most x e (ltb 8 limit) refl
+
+pub search-bytes : (s : List ℕ) (limit : ℕ) → Padded (searchOf (sheetOf s) limit)
+search-bytes = search-any Padded padded-refused (λ a h. padded-answer a (h .0) (h .1))
+
+-- none has length 0
+abbrev Unplanned : Searched → Type 0
+Unplanned r = r .kind ≡ kind.Nothing → r .length ≡ 0
+
+unplanned : (a : Answer) → Unplanned (answered a)
+unfolding answered
+unplanned (found q) e = absurd (let z : _≡_ {A = ℕ} 0 1 = cc in omega arith)
+unplanned (fullAt q k) e = absurd (let z : _≡_ {A = ℕ} 0 1 = cc in omega arith)
+unplanned nothing e = refl
+
+unplanned-refused : (k q : ℕ) → Unplanned (refusedSearch k q)
+unfolding refusedSearch
+unplanned-refused k q e = refl
+
+pub search-no-plan : (s : List ℕ) (limit : ℕ) → searchOf (sheetOf s) limit .kind ≡ kind.Nothing → searchOf (sheetOf s) limit .length ≡ 0
+search-no-plan = search-any Unplanned unplanned-refused (λ a h. unplanned a)
