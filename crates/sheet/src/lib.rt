@@ -2,7 +2,6 @@
 ghost use mathlib.Core.Path.{_≡_};
 ghost use Rattle.sheet.specs.Format.{sheetOf};
 ghost use Prim.Native.Nat.{_≤_};
-ghost use lib.ListN.{length};
 ghost use Rattle.sheet.specs.Decoded.{judgementIn};
 ghost use Rattle.sheet.specs.Calls.{judgeOf};
 
@@ -66,12 +65,11 @@ pub fn judge(s: &[u8]) -> Answer
 // Judges a sheet and reads it, its clauses, goal and moves into the lent rows: what the layers above start from.
 pub fn decode(
     s: &[u8],
-    ors: &mut [u32],
-    oneofs: &mut [u32],
-    goal: &mut [u32],
-    moves: &mut [u32],
+    ors: &mut [u32; 136],
+    oneofs: &mut [u32; 136],
+    goal: &mut [u32; 17],
+    moves: &mut [u32; 1120],
 ) -> Decoded
-    requires { ⌜ (length (now ors) ≡ 136) × (length (now oneofs) ≡ 136) × (length (now goal) ≡ 17) × (length (now moves) ≡ 1120) ⌝ }
     ensures { λ r. ⌜ (judgementIn r (now (ors .exit)) (now (oneofs .exit)) (now (goal .exit)) (now (moves .exit)) ≡ sheetOf (now (s .entry))) × (r .sheet .plan .count ≤ 64) ⌝ }
 {
     reader::sheet_in(s, ors, oneofs, goal, moves)

@@ -75,7 +75,7 @@ pub fn literal(l: usize) -> Literals
 }
 
 // The literal l is in a.
-pub fn contains(a: Literals, l: usize) -> bool
+pub(crate) fn contains(a: Literals, l: usize) -> bool
     ensures { λ r. ⌜ r ≡ L.contains a l ⌝ }
 {
     if l >= 64 {

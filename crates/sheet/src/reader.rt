@@ -544,7 +544,7 @@ fn refused_at(mark: Mark) -> Decoded
 }
 
 // The sheet, its clauses, goal and moves laid in the rows, or its first fault.
-pub fn sheet_in(
+pub(crate) fn sheet_in(
     s: &[u8],
     ors: &mut [u32],
     oneofs: &mut [u32],
