@@ -55,7 +55,10 @@ pub fn start(s: &[u8]) -> Tabled
         Answer::Refused(number, position) => first::refuse(number, position),
         Answer::Accepted => {
             let sheet = decoded.sheet;
-            first::first_table(sheet, &ors, &oneofs)
+            // References to whole arrays: their types have the lengths.
+            let ors = &ors;
+            let oneofs = &oneofs;
+            first::first_table(sheet, ors, oneofs)
         }
     }
 }
@@ -87,7 +90,9 @@ pub fn step_lent<'a, 'b, 'c>(
         },
         Answer::Accepted => {
             let sheet = decoded.sheet;
-            let moved = steps::step_in(sheet.n, &moves, sheet.moves, number, ts, fs, k, us, gs);
+            // A reference to the whole array: its type has the length.
+            let moves = &moves;
+            let moved = steps::step_in(sheet.n, moves, sheet.moves, number, ts, fs, k, us, gs);
             steps::told(moved)
         }
     }

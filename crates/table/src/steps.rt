@@ -300,7 +300,7 @@ pub enum Stepped {
 }
 
 // The step of a lent table, its effects laid out, into arrays of zeros.
-pub fn step_into<'a, 'b, 'c>(
+pub(crate) fn step_into<'a, 'b, 'c>(
     precondition: Literals,
     effects: &'a [u32],
     size: usize,

@@ -6,18 +6,6 @@ use Rattle.table.proofs.Drawing.{sheet-refused, sheet-accepted}
 use Rattle.table.proofs.picture.Statement.{statement}
 use Rattle.table.proofs.picture.Tie as tie
 
-slice-aggregate-decode : tie.Need-slice-aggregate-decode
-slice-aggregate-decode c = search needs
-
-slice-aggregate-decode-2 : tie.Need-slice-aggregate-decode-2
-slice-aggregate-decode-2 c = search needs
-
-slice-aggregate-decode-3 : tie.Need-slice-aggregate-decode-3
-slice-aggregate-decode-3 c = search needs
-
-slice-aggregate-decode-4 : tie.Need-slice-aggregate-decode-4
-slice-aggregate-decode-4 c = search needs
-
 decode-requires : tie.Need-decode-requires
 decode-requires c κs = search needs
 
@@ -34,23 +22,19 @@ draw-requires : tie.Need-draw-requires
 draw-requires c κs = search needs
 
 returns : tie.Need-returns
-returns c = sheet-refused _ _ _ _ _ (refused-says _ _ _ _ _ _ (c .before .before .before .before .before .before .before .before .decode .ensures .0) _ _ (c .before .before .answer .given .1)) _ (c .refused .ensures)
+returns c = sheet-refused _ _ _ _ _ (refused-says _ _ _ _ _ _ (c .before .before .before .before .decode .ensures .0) _ _ (c .before .before .answer .given .1)) _ (c .refused .ensures)
 
 same-length : tie.Need-same-length
 same-length c = search needs
 
 returns-2 : tie.Need-returns-2
 unfolding statementIn problemIn
-returns-2 c = sheet-accepted _ _ _ _ (accepted-says _ _ _ _ _ _ (c .before .before .before .before .before .before .before .before .before .before .before .before .before .before .before .before .decode .ensures .0) (c .before .before .before .before .before .before .before .before .before .before .enum-told .given .1)) _ _ (c .before .before .draw .ensures)
+returns-2 c = sheet-accepted _ _ _ _ (accepted-says _ _ _ _ _ _ (c .before .before .before .before .before .before .before .before .before .before .before .before .decode .ensures .0) (c .before .before .before .before .before .before .before .before .before .before .enum-told .given .1)) _ _ (c .before .before .draw .ensures)
 
 pub picture-spec : {M : Type 1} → statement M
 picture-spec =
     tie.close
     (tie.spec
-    slice-aggregate-decode
-    slice-aggregate-decode-2
-    slice-aggregate-decode-3
-    slice-aggregate-decode-4
     decode-requires
     enum-known-answer
     refused-requires

@@ -1,7 +1,6 @@
 -- `table::start` meets its contract. Assumes nothing.
-use mathlib.Core.Path.{_≡_, sym, ap, _∙_}
+use mathlib.Core.Path.{sym, ap, _∙_}
 use native.Mathlib.Omega.{arith}
-use lib.ListN.{length}
 use borrow.Author.Needs.{needs}
 use Rattle.sheet.specs.Decoded.{problemIn, statementIn}
 use Rattle.sheet.proofs.SlotLaws.{refused-says, accepted-says, accepted-proper, ors-few, oneofs-few}
@@ -10,18 +9,6 @@ use Rattle.table.specs.Calls.{startOf}
 use Rattle.table.proofs.Started.{start-fault}
 use Rattle.table.proofs.start.Statement.{statement}
 use Rattle.table.proofs.start.Tie as tie
-
-slice-aggregate-decode : tie.Need-slice-aggregate-decode
-slice-aggregate-decode c = search needs
-
-slice-aggregate-decode-2 : tie.Need-slice-aggregate-decode-2
-slice-aggregate-decode-2 c = search needs
-
-slice-aggregate-decode-3 : tie.Need-slice-aggregate-decode-3
-slice-aggregate-decode-3 c = search needs
-
-slice-aggregate-decode-4 : tie.Need-slice-aggregate-decode-4
-slice-aggregate-decode-4 c = search needs
 
 decode-requires : tie.Need-decode-requires
 decode-requires c κs = search needs
@@ -35,43 +22,28 @@ refuse-requires c κs = search needs
 enum-told : tie.Need-enum-told
 enum-told c = search needs
 
-slice-aggregate-first-table : tie.Need-slice-aggregate-first-table
-slice-aggregate-first-table c = search needs
-
-slice-aggregate-first-table-2 : tie.Need-slice-aggregate-first-table-2
-slice-aggregate-first-table-2 c = search needs
-
 first-table-requires : tie.Need-first-table-requires
 first-table-requires c κs =
-    let d = c .before .before .before .before .before .before .before .before .before .decode in
-    let h = accepted-proper _ _ _ _ _ _ (d .ensures .0) (c .before .before .before .enum-told .given .1) in
+    let h = accepted-proper _ _ _ _ _ _ (c .before .before .before .before .before .before .before .decode .ensures .0) (c .before .before .before .before .before .enum-told .given .1) in
     let f = ors-few _ _ _ _ _ h in
     let g = oneofs-few _ _ _ _ _ h in
-    let l : length (d .last .1 .0) ≡ 136 = search needs in
-    let m : length (d .last .1 .1 .0) ≡ 136 = search needs in
-    ((omega (arith, l, f .0), f .1), (omega (arith, m, g .0), g .1))
+    ((omega (arith, f .0), f .1), (omega (arith, g .0), g .1))
 
 returns : tie.Need-returns
-returns c = start-fault _ _ _ (refused-says _ _ _ _ _ _ (c .before .before .before .before .before .before .before .before .decode .ensures .0) _ _ (c .before .before .answer .given .1)) _ (c .refuse .ensures)
+returns c = start-fault _ _ _ (refused-says _ _ _ _ _ _ (c .before .before .before .before .decode .ensures .0) _ _ (c .before .before .answer .given .1)) _ (c .refuse .ensures)
 
 returns-2 : tie.Need-returns-2
 unfolding startOf startTable clausesOf statementIn problemIn
-returns-2 c = c .first-table .ensures ∙ sym (ap startOf (accepted-says _ _ _ _ _ _ (c .before .before .before .before .before .before .before .before .before .before .decode .ensures .0) (c .before .before .before .before .enum-told .given .1)))
+returns-2 c = c .first-table .ensures ∙ sym (ap startOf (accepted-says _ _ _ _ _ _ (c .before .before .before .before .before .before .before .before .decode .ensures .0) (c .before .before .before .before .before .before .enum-told .given .1)))
 
 pub start-spec : {M : Type 1} → statement M
 start-spec =
     tie.close
     (tie.spec
-    slice-aggregate-decode
-    slice-aggregate-decode-2
-    slice-aggregate-decode-3
-    slice-aggregate-decode-4
     decode-requires
     enum-known-answer
     refuse-requires
     enum-told
-    slice-aggregate-first-table
-    slice-aggregate-first-table-2
     first-table-requires
     returns
     returns-2)

@@ -1,7 +1,6 @@
 -- `table::step_lent` meets its contract. Assumes nothing.
-use mathlib.Core.Path.{_≡_, sym, ap, _∙_}
+use mathlib.Core.Path.{sym, ap, _∙_}
 use native.Mathlib.Omega.{arith}
-use lib.ListN.{length}
 use Rattle.sheet.specs.Format.{Judgement}
 use Rattle.sheet.proofs.SlotLaws.{refused-says, accepted-says, accepted-proper, n-few, moves-few, moves-proper}
 use Rattle.table.specs.Calls.{stepOf}
@@ -10,18 +9,6 @@ use Rattle.table.proofs.Advancing.{call-fault, on-sheet, told-is}
 use borrow.Author.Needs.{needs}
 use Rattle.table.proofs.step_lent.Statement.{statement}
 use Rattle.table.proofs.step_lent.Tie as tie
-
-slice-aggregate-decode : tie.Need-slice-aggregate-decode
-slice-aggregate-decode c = search needs
-
-slice-aggregate-decode-2 : tie.Need-slice-aggregate-decode-2
-slice-aggregate-decode-2 c = search needs
-
-slice-aggregate-decode-3 : tie.Need-slice-aggregate-decode-3
-slice-aggregate-decode-3 c = search needs
-
-slice-aggregate-decode-4 : tie.Need-slice-aggregate-decode-4
-slice-aggregate-decode-4 c = search needs
 
 decode-requires : tie.Need-decode-requires
 decode-requires c κs = search needs
@@ -32,22 +19,16 @@ enum-known-answer c = search needs
 enum-told : tie.Need-enum-told
 enum-told c = search needs
 
-slice-aggregate-step-in : tie.Need-slice-aggregate-step-in
-slice-aggregate-step-in c = search needs
-
 step-in-requires : tie.Need-step-in-requires
 step-in-requires c κs =
-    let z = c .before .before .before .before .before .before .before .before .before .before .before .before .before .before .before .before .before .before .before .before in
-    let d = c .before .before .before .before .before .before .before .before .before .before in
-    let h = accepted-proper _ _ _ _ _ _ (d .decode .ensures .0) (c .before .before .before .before .enum-told .given .1) in
-    let l : length (d .decode .last .1 .1 .1 .1 .0) ≡ 1120 = search needs in
-    ((n-few _ _ _ _ _ h .1, omega (arith, l, moves-few _ _ _ _ _ h .1), moves-proper _ _ _ _ _ h), z .pre)
+    let h = accepted-proper _ _ _ _ _ _ (c .before .before .before .before .before .before .before .decode .ensures .0) (c .before .before .before .before .before .enum-told .given .1) in
+    ((n-few _ _ _ _ _ h .1, omega (arith, moves-few _ _ _ _ _ h .1), moves-proper _ _ _ _ _ h), c .before .before .before .before .before .before .before .before .before .before .before .before .before .before .before .before .before .pre)
 
 told-requires : tie.Need-told-requires
 told-requires c κs = search needs
 
 returns : tie.Need-returns
-returns c = call-fault _ _ _ _ _ (refused-says _ _ _ _ _ _ (c .before .before .before .before .before .before .before .decode .ensures .0) _ _ (c .before .answer .given .1))
+returns c = call-fault _ _ _ _ _ (refused-says _ _ _ _ _ _ (c .before .before .before .decode .ensures .0) _ _ (c .before .answer .given .1))
 
 same-length : tie.Need-same-length
 same-length c = search needs
@@ -57,26 +38,21 @@ same-length-2 c = search needs
 
 returns-2 : tie.Need-returns-2
 returns-2 c =
-    let z = c .before .before .before .before .before .before .before .before .before .before .before .before .before .before .before .before .before .before .before .before .before .before .before .before .before .before in
+    let z = c .before .before .before .before .before .before .before .before .before .before .before .before .before .before .before .before .before .before .before .before .before .before .before in
     let t = lent (z .args .k) (z .args .ts .now) (z .args .fs .now) in
-    let d = c .before .before .before .before .before .before .before .before .before .before .before .before .before .before .before .before .decode in
+    let d = c .before .before .before .before .before .before .before .before .before .before .before .before .before .decode in
     told-is t (c .before .before .before .before .before .step-in .result) _ _ _ (c .told .ensures)
     ∙ c .before .before .before .before .before .step-in .ensures
     ∙ on-sheet (d .result .sheet) (d .last .1 .0) (d .last .1 .1 .0) (d .last .1 .1 .1 .0) (d .last .1 .1 .1 .1 .0) t (z .args .number)
-    ∙ sym (ap (λ (j : Judgement). stepOf j t (z .args .number)) (accepted-says _ _ _ _ _ _ (c .before .before .before .before .before .before .before .before .before .before .before .before .before .before .before .before .decode .ensures .0) (c .before .before .before .before .before .before .before .before .before .before .enum-told .given .1)))
+    ∙ sym (ap (λ (j : Judgement). stepOf j t (z .args .number)) (accepted-says _ _ _ _ _ _ (d .ensures .0) (c .before .before .before .before .before .before .before .before .before .before .before .enum-told .given .1)))
 
 pub step-lent-spec : {M : Type 1} → statement M
 step-lent-spec =
     tie.close
     (tie.spec
-    slice-aggregate-decode
-    slice-aggregate-decode-2
-    slice-aggregate-decode-3
-    slice-aggregate-decode-4
     decode-requires
     enum-known-answer
     enum-told
-    slice-aggregate-step-in
     step-in-requires
     told-requires
     returns
