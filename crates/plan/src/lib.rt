@@ -132,7 +132,12 @@ pub fn search(bytes: &[u8], limit: usize) -> Searched
                 return searches::refused(8, 0);
             }
             let sheet = decoded.sheet;
-            searches::search_sheet(sheet, &ors, &oneofs, &goal, &moves, limit)
+            // References to whole arrays: their types have the lengths.
+            let ors = &ors;
+            let oneofs = &oneofs;
+            let goal = &goal;
+            let moves = &moves;
+            searches::search_sheet(sheet, ors, oneofs, goal, moves, limit)
         }
     }
 }

@@ -207,12 +207,17 @@ pub fn course_into<'a, 'b, 'c, 'd, 'e>(
                 return refused(23, 0);
             }
             let sheet = decoded.sheet;
+            // References to whole arrays: their types have the lengths.
+            let ors = &ors;
+            let oneofs = &oneofs;
+            let goal = &goal;
+            let moves = &moves;
             run_sheet(
                 sheet,
-                &ors,
-                &oneofs,
-                &goal,
-                &moves,
+                ors,
+                oneofs,
+                goal,
+                moves,
                 trues,
                 falses,
                 sizes,

@@ -9,18 +9,6 @@ use Rattle.plan.proofs.SheetStarts.{filled}
 use Rattle.plan.proofs.search.Statement.{statement}
 use Rattle.plan.proofs.search.Tie as tie
 
-slice-aggregate-decode : tie.Need-slice-aggregate-decode
-slice-aggregate-decode c = search needs
-
-slice-aggregate-decode-2 : tie.Need-slice-aggregate-decode-2
-slice-aggregate-decode-2 c = search needs
-
-slice-aggregate-decode-3 : tie.Need-slice-aggregate-decode-3
-slice-aggregate-decode-3 c = search needs
-
-slice-aggregate-decode-4 : tie.Need-slice-aggregate-decode-4
-slice-aggregate-decode-4 c = search needs
-
 decode-requires : tie.Need-decode-requires
 decode-requires c κs = search needs
 
@@ -37,51 +25,31 @@ refused-requires-2 : tie.Need-refused-requires-2
 refused-requires-2 c κs = search needs
 
 returns : tie.Need-returns
-returns c = c .refused2 .ensures ∙ search-most _ _ (accepted-says _ _ _ _ _ _ (c .before .before .before .before .before .before .before .before .decode .ensures .0) (c .before .before .enum-told .given .1)) _ (c .before .if1 .taken)
-
-slice-aggregate-search-sheet : tie.Need-slice-aggregate-search-sheet
-slice-aggregate-search-sheet c = search needs
-
-slice-aggregate-search-sheet-2 : tie.Need-slice-aggregate-search-sheet-2
-slice-aggregate-search-sheet-2 c = search needs
-
-slice-aggregate-search-sheet-3 : tie.Need-slice-aggregate-search-sheet-3
-slice-aggregate-search-sheet-3 c = search needs
-
-slice-aggregate-search-sheet-4 : tie.Need-slice-aggregate-search-sheet-4
-slice-aggregate-search-sheet-4 c = search needs
+returns c = c .refused2 .ensures ∙ search-most _ _ (accepted-says _ _ _ _ _ _ (c .before .before .before .before .decode .ensures .0) (c .before .before .enum-told .given .1)) _ (c .before .if1 .taken)
 
 search-sheet-requires : tie.Need-search-sheet-requires
 search-sheet-requires c κs =
     let d = c .before .before .before .before .before .before .before .before .before .before .before .before .decode in
-    let h = filled _ _ _ _ _ _ (d .ensures) (c .before .before .before .before .before .before .enum-told .given .1) (search needs) (search needs) (search needs) (search needs) in
-    (h, omega (arith, c .before .before .before .before .before .if1 .left))
+    let h = filled _ _ _ _ _ _ (d .ensures) (c .before .before .before .before .before .before .before .before .before .before .enum-told .given .1) (search needs) (search needs) (search needs) (search needs) in
+    (h, omega (arith, c .before .before .before .before .before .before .before .before .before .if1 .left))
 
 returns-2 : tie.Need-returns-2
-returns-2 c = c .refused .ensures ∙ search-fault _ _ _ _ (refused-says _ _ _ _ _ _ (c .before .before .before .before .before .before .before .before .decode .ensures .0) _ _ (c .before .before .answer .given .1))
+returns-2 c = c .refused .ensures ∙ search-fault _ _ _ _ (refused-says _ _ _ _ _ _ (c .before .before .before .before .decode .ensures .0) _ _ (c .before .before .answer .given .1))
 
 returns-3 : tie.Need-returns-3
 unfolding statementIn
-returns-3 c = c .search-sheet .ensures ∙ search-sheet _ _ (accepted-says _ _ _ _ _ _ (c .before .before .before .before .before .before .before .before .before .before .before .before .before .decode .ensures .0) (c .before .before .before .before .before .before .before .enum-told .given .1)) _ (omega (arith, c .before .before .before .before .before .before .if1 .left))
+returns-3 c = c .search-sheet .ensures ∙ search-sheet _ _ (accepted-says _ _ _ _ _ _ (c .before .before .before .before .before .before .before .before .before .before .before .before .before .decode .ensures .0) (c .before .before .before .before .before .before .before .before .before .before .before .enum-told .given .1)) _ (omega (arith, c .before .before .before .before .before .before .before .before .before .before .if1 .left))
 
 pub search-spec : {M : Type 1} → statement M
 search-spec =
     tie.close
     (tie.spec
-    slice-aggregate-decode
-    slice-aggregate-decode-2
-    slice-aggregate-decode-3
-    slice-aggregate-decode-4
     decode-requires
     enum-known-answer
     refused-requires
     enum-told
     refused-requires-2
     returns
-    slice-aggregate-search-sheet
-    slice-aggregate-search-sheet-2
-    slice-aggregate-search-sheet-3
-    slice-aggregate-search-sheet-4
     search-sheet-requires
     returns-2
     returns-3)

@@ -9,18 +9,6 @@ use borrow.Author.Needs.{needs}
 use Rattle.plan.proofs.runs.course_into.Statement.{statement}
 use Rattle.plan.proofs.runs.course_into.Tie as tie
 
-slice-aggregate-decode : tie.Need-slice-aggregate-decode
-slice-aggregate-decode c = search needs
-
-slice-aggregate-decode-2 : tie.Need-slice-aggregate-decode-2
-slice-aggregate-decode-2 c = search needs
-
-slice-aggregate-decode-3 : tie.Need-slice-aggregate-decode-3
-slice-aggregate-decode-3 c = search needs
-
-slice-aggregate-decode-4 : tie.Need-slice-aggregate-decode-4
-slice-aggregate-decode-4 c = search needs
-
 decode-requires : tie.Need-decode-requires
 decode-requires c κs = search needs
 
@@ -38,59 +26,39 @@ refused-requires-2 c κs = search needs
 
 returns : tie.Need-returns
 returns c =
-    let z = c .before .before .before .before .before .before .before .before .before .before .before .before .before .before .pre in
+    let z = c .before .before .before .before .before .before .before .before .before .before .pre in
     in-zeros (c .refused2 .result) (z .0 .0) (z .0 .1) (z .1 .0) (z .1 .1)
     ∙ c .refused2 .ensures
-    ∙ course-few _ _ (accepted-says _ _ _ _ _ _ (c .before .before .before .before .before .before .before .before .decode .ensures .0) (c .before .before .enum-told .given .1)) _ (c .before .if1 .taken)
-
-slice-aggregate-run-sheet : tie.Need-slice-aggregate-run-sheet
-slice-aggregate-run-sheet c = search needs
-
-slice-aggregate-run-sheet-2 : tie.Need-slice-aggregate-run-sheet-2
-slice-aggregate-run-sheet-2 c = search needs
-
-slice-aggregate-run-sheet-3 : tie.Need-slice-aggregate-run-sheet-3
-slice-aggregate-run-sheet-3 c = search needs
-
-slice-aggregate-run-sheet-4 : tie.Need-slice-aggregate-run-sheet-4
-slice-aggregate-run-sheet-4 c = search needs
+    ∙ course-few _ _ (accepted-says _ _ _ _ _ _ (c .before .before .before .before .decode .ensures .0) (c .before .before .enum-told .given .1)) _ (c .before .if1 .taken)
 
 run-sheet-requires : tie.Need-run-sheet-requires
 run-sheet-requires c κs =
     let d = c .before .before .before .before .before .before .before .before .before .before .before .before .before .before .before .before .decode in
-    (filled _ _ _ _ _ _ (d .ensures) (c .before .before .before .before .before .before .before .before .before .before .enum-told .given .1) (search needs) (search needs) (search needs) (search needs), c .before .before .before .before .before .before .before .before .before .before .before .before .before .before .before .before .before .before .before .before .before .before .pre)
+    (filled _ _ _ _ _ _ (d .ensures) (c .before .before .before .before .before .before .before .before .before .before .before .before .before .before .enum-told .given .1) (search needs) (search needs) (search needs) (search needs), c .before .before .before .before .before .before .before .before .before .before .before .before .before .before .before .before .before .before .before .before .before .before .pre)
 
 returns-2 : tie.Need-returns-2
 returns-2 c =
-    let z = c .before .before .before .before .before .before .before .before .before .before .before .before .before .before .pre in
+    let z = c .before .before .before .before .before .before .before .before .before .before .pre in
     in-zeros (c .refused .result) (z .0 .0) (z .0 .1) (z .1 .0) (z .1 .1)
     ∙ c .refused .ensures
-    ∙ course-fault _ _ _ _ (refused-says _ _ _ _ _ _ (c .before .before .before .before .before .before .before .before .decode .ensures .0) _ _ (c .before .before .answer .given .1))
+    ∙ course-fault _ _ _ _ (refused-says _ _ _ _ _ _ (c .before .before .before .before .decode .ensures .0) _ _ (c .before .before .answer .given .1))
 
 returns-3 : tie.Need-returns-3
 unfolding statementIn
 returns-3 c =
     c .run-sheet .ensures
-    ∙ course-run _ _ (accepted-says _ _ _ _ _ _ (c .before .before .before .before .before .before .before .before .before .before .before .before .before .before .before .before .before .decode .ensures .0) (c .before .before .before .before .before .before .before .before .before .before .before .enum-told .given .1)) _ (c .before .before .before .before .before .before .before .before .before .before .if1 .left)
+    ∙ course-run _ _ (accepted-says _ _ _ _ _ _ (c .before .before .before .before .before .before .before .before .before .before .before .before .before .before .before .before .before .decode .ensures .0) (c .before .before .before .before .before .before .before .before .before .before .before .before .before .before .before .enum-told .given .1)) _ (c .before .before .before .before .before .before .before .before .before .before .before .before .before .before .if1 .left)
 
 pub course-into-spec : {M : Type 1} → statement M
 course-into-spec =
     tie.close
     (tie.spec
-    slice-aggregate-decode
-    slice-aggregate-decode-2
-    slice-aggregate-decode-3
-    slice-aggregate-decode-4
     decode-requires
     enum-known-answer
     refused-requires
     enum-told
     refused-requires-2
     returns
-    slice-aggregate-run-sheet
-    slice-aggregate-run-sheet-2
-    slice-aggregate-run-sheet-3
-    slice-aggregate-run-sheet-4
     run-sheet-requires
     returns-2
     returns-3)
