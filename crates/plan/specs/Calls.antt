@@ -14,23 +14,19 @@ use Rattle.table.specs.Slots.{tableOf}
 use Rattle.plan.specs.declared.Row.{Row}
 use Rattle.plan.specs.declared.Ran.{Ran}
 use Rattle.plan.specs.declared.Verdict as case
-use Rattle.plan.specs.declared.Verdict.the-variants as ran
 use Rattle.plan.specs.declared.Searched.{Searched}
-use Rattle.plan.specs.declared.Kind.the-variants as kind
-use Rattle.plan.specs.Run.{Verdict, reached, short, stopped, full, runFrom, lastTable, rowsFrom, actionsOf}
+use Rattle.plan.specs.Run.{Verdict, runFrom, lastTable, rowsFrom, actionsOf}
 use Rattle.plan.specs.Search.{Answer, found, fullAt, nothing, firstOf, plansUpTo}
+use Rattle.plan.specs.Cases.{RunEnd, verdictCase, SearchEnd, kindCase}
 
 -- ---- run: a fault of the sheet; 23 for fewer than 65 rows; 20 or 21 of the start; then the plan. Refused: a table with count 0 and all
 -- slots zero, and no row written
--- each case of a run's answer with document 01's place and number
+-- how a run that was not refused ended
 unfoldable pub verdictOf : Verdict → case.Verdict
-verdictOf reached = ran.Reached
-verdictOf short = ran.Short
-verdictOf (stopped place number) = ran.Stopped place number
-verdictOf (full place) = ran.Full place
+verdictOf v = verdictCase (RunEnd.ended v)
 
 unfoldable pub refusedRun : ℕ → ℕ → Ran
-refusedRun number position = record { verdict = ran.Refused number position; table = tableOf [] }
+refusedRun number position = record { verdict = verdictCase (RunEnd.refused number position); table = tableOf [] }
 
 -- the run of any plan of a problem
 unfoldable pub planned : Problem → List ℕ → Outcome → Ran
@@ -60,13 +56,17 @@ rowsAfter sheet rows = rowsOf sheet (length rows) ++ drop (length (rowsOf sheet 
 
 -- ---- search: a fault of the sheet; 8 for a limit above 8; 20 or 21 of the start; then the plans in order
 unfoldable pub refusedSearch : ℕ → ℕ → Searched
-refusedSearch number position = record { kind = kind.Refused number position; plan = pad 8 0 []; length = 0 }
+refusedSearch number position = record { kind = kindCase (SearchEnd.refused number position); plan = pad 8 0 []; length = 0 }
+
+-- the plan of an answer, with no move for none
+abbrev pub planFrom : Answer → List ℕ
+planFrom (found plan) = plan
+planFrom (fullAt plan place) = plan
+planFrom nothing = []
 
 -- eight bytes with the length; bytes past it are zero, and for none the length is 0
 unfoldable pub answered : Answer → Searched
-answered (found plan) = record { kind = kind.Reached; plan = pad 8 0 plan; length = length plan }
-answered (fullAt plan place) = record { kind = kind.Full place; plan = pad 8 0 plan; length = length plan }
-answered nothing = record { kind = kind.Nothing; plan = pad 8 0 []; length = 0 }
+answered a = record { kind = kindCase (SearchEnd.answered a); plan = pad 8 0 (planFrom a); length = length (planFrom a) }
 
 -- the first plan of at most `limit` moves that is reached or full
 unfoldable pub searchedFrom : Problem → ℕ → List Literals → Answer

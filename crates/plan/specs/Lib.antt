@@ -2,6 +2,7 @@
 pub mod Run
 pub mod Exchange
 pub mod Search
+pub mod Cases
 pub mod Calls
 pub mod Weak
 pub mod Places

@@ -13,6 +13,7 @@ use Rattle.plan.specs.declared.Verdict.{Verdict}
 use Rattle.plan.specs.declared.Verdict.the-variants as verdict
 use Rattle.plan.specs.declared.Kind.{Kind}
 use Rattle.plan.specs.declared.Kind.the-variants as kind
+use Rattle.plan.specs.Cases.{verdictAnswer, verdictPlace, verdictNumber, kindAnswer, kindPlace}
 use Rattle.unit.specs.declared.Told.{Told}
 
 -- ---- answers
@@ -25,20 +26,42 @@ ifAccepted (answer.Refused number position) n = 0
 abbrev pub answerTold : Answer → ℕ → Told
 answerTold a extra = record { answer = numberOf a; position = positionOf a; kind = ifAccepted a extra; place = 0; detail = 0 }
 
--- a verdict: reached 0, short 1, stopped 2 with its place and number, full 3 with its place
-abbrev pub verdictTold : Verdict → Told
-verdictTold verdict.Reached = record { answer = 0; position = 0; kind = 0; place = 0; detail = 0 }
-verdictTold verdict.Short = record { answer = 0; position = 0; kind = 1; place = 0; detail = 0 }
-verdictTold (verdict.Stopped place number) = record { answer = 0; position = 0; kind = 2; place = place; detail = number }
-verdictTold (verdict.Full place) = record { answer = 0; position = 0; kind = 3; place = place; detail = 0 }
-verdictTold (verdict.Refused number position) = record { answer = number; position = position; kind = 0; place = 0; detail = 0 }
+-- the kind of a verdict: reached 0, short 1, stopped 2, full 3; 0 for a refusal
+unfoldable pub verdictKind : Verdict → ℕ
+verdictKind verdict.Reached = 0
+verdictKind verdict.Short = 1
+verdictKind (verdict.Stopped place number) = 2
+verdictKind (verdict.Full place) = 3
+verdictKind (verdict.Refused number position) = 0
 
--- the end of a search with the length of its plan: reached 0, full 1 with its place, none 2
+-- a verdict: its kind, and its place and number
+abbrev pub verdictTold : Verdict → Told
+verdictTold v =
+    record {
+      answer = numberOf (verdictAnswer v);
+      position = positionOf (verdictAnswer v);
+      kind = verdictKind v;
+      place = verdictPlace v;
+      detail = verdictNumber v;
+    }
+
+-- the kind of a search's end: reached 0, full 1, none 2; 0 for a refusal
+unfoldable pub searchKind : Kind → ℕ
+searchKind kind.Reached = 0
+searchKind (kind.Full place) = 1
+searchKind kind.Nothing = 2
+searchKind (kind.Refused number position) = 0
+
+-- the end of a search: its kind, its place, and the length of its plan
 abbrev pub kindTold : Kind → ℕ → Told
-kindTold kind.Reached length = record { answer = 0; position = 0; kind = 0; place = 0; detail = length }
-kindTold (kind.Full place) length = record { answer = 0; position = 0; kind = 1; place = place; detail = length }
-kindTold kind.Nothing length = record { answer = 0; position = 0; kind = 2; place = 0; detail = length }
-kindTold (kind.Refused number position) length = record { answer = number; position = position; kind = 0; place = 0; detail = 0 }
+kindTold k size =
+    record {
+      answer = numberOf (kindAnswer k);
+      position = positionOf (kindAnswer k);
+      kind = searchKind k;
+      place = kindPlace k;
+      detail = ifAccepted (kindAnswer k) size;
+    }
 
 -- info after a call: its first four numbers, and the others as they were
 unfoldable pub infoOf : Told → List ℕ → List ℕ

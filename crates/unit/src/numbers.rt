@@ -76,16 +76,16 @@ pub(crate) fn told_verdict(verdict: Verdict) -> Told
     told
 }
 
-// The end of a search in numbers.
-pub(crate) fn told_kind(kind: Kind, length: u64) -> Told
-    ensures { λ r. ⌜ r ≡ kindTold kind length ⌝ }
+// The end of a search in numbers, with the size of its plan.
+pub(crate) fn told_kind(kind: Kind, size: u64) -> Told
+    ensures { λ r. ⌜ r ≡ kindTold kind size ⌝ }
 {
     let mut told = Told {
         answer: 0,
         position: 0,
         kind: 0,
         place: 0,
-        detail: length,
+        detail: size,
     };
     match kind {
         Kind::Reached => {}

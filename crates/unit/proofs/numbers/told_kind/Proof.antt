@@ -1,8 +1,10 @@
 -- `numbers::told_kind` meets its contract: case by case. Assumes nothing.
 use mathlib.Core.Path.{ap, sym}
 use borrow.Author.Needs.{needs}
+use Rattle.sheet.specs.Calls.{numberOf, positionOf}
 use Rattle.plan.specs.declared.Kind.{Kind}
-use Rattle.unit.specs.Numbers.{kindTold}
+use Rattle.plan.specs.Cases.{kindAnswer, kindPlace}
+use Rattle.unit.specs.Numbers.{ifAccepted, searchKind, kindTold}
 use Rattle.unit.proofs.numbers.told_kind.Statement.{statement}
 use Rattle.unit.proofs.numbers.told_kind.Tie as tie
 
@@ -19,16 +21,20 @@ enum-known-kind-2 : tie.Need-enum-known-kind-2
 enum-known-kind-2 c = search needs
 
 returns : tie.Need-returns
-returns c = ap (λ (k : Kind). kindTold k (c .before .before .args .length)) (sym (c .enum-told .given .1))
+unfolding numberOf positionOf ifAccepted kindAnswer kindPlace searchKind
+returns c = ap (λ (k : Kind). kindTold k (c .before .before .args .size)) (sym (c .enum-told .given .1))
 
 returns-2 : tie.Need-returns-2
-returns-2 c = ap (λ (k : Kind). kindTold k (c .before .before .before .args .length)) (sym (c .before .kind .given .1))
+unfolding numberOf positionOf ifAccepted kindAnswer kindPlace searchKind
+returns-2 c = ap (λ (k : Kind). kindTold k (c .before .before .before .args .size)) (sym (c .before .kind .given .1))
 
 returns-3 : tie.Need-returns-3
-returns-3 c = ap (λ (k : Kind). kindTold k (c .before .before .args .length)) (sym (c .enum-told2 .given .1))
+unfolding numberOf positionOf ifAccepted kindAnswer kindPlace searchKind
+returns-3 c = ap (λ (k : Kind). kindTold k (c .before .before .args .size)) (sym (c .enum-told2 .given .1))
 
 returns-4 : tie.Need-returns-4
-returns-4 c = ap (λ (k : Kind). kindTold k (c .before .before .before .args .length)) (sym (c .before .kind2 .given .1))
+unfolding numberOf positionOf ifAccepted kindAnswer kindPlace searchKind
+returns-4 c = ap (λ (k : Kind). kindTold k (c .before .before .before .args .size)) (sym (c .before .kind2 .given .1))
 
 pub told-kind-spec : {M : Type 1} → statement M
 told-kind-spec =

@@ -1,7 +1,9 @@
 -- `numbers::told_verdict` meets its contract: case by case. Assumes nothing.
 use mathlib.Core.Path.{ap, sym}
 use borrow.Author.Needs.{needs}
-use Rattle.unit.specs.Numbers.{verdictTold}
+use Rattle.sheet.specs.Calls.{numberOf, positionOf}
+use Rattle.plan.specs.Cases.{verdictAnswer, verdictPlace, verdictNumber}
+use Rattle.unit.specs.Numbers.{verdictKind, verdictTold}
 use Rattle.unit.proofs.numbers.told_verdict.Statement.{statement}
 use Rattle.unit.proofs.numbers.told_verdict.Tie as tie
 
@@ -24,18 +26,23 @@ enum-known-verdict-3 : tie.Need-enum-known-verdict-3
 enum-known-verdict-3 c = search needs
 
 returns : tie.Need-returns
+unfolding numberOf positionOf verdictAnswer verdictPlace verdictNumber verdictKind
 returns c = ap verdictTold (sym (c .enum-told .given .1))
 
 returns-2 : tie.Need-returns-2
+unfolding numberOf positionOf verdictAnswer verdictPlace verdictNumber verdictKind
 returns-2 c = ap verdictTold (sym (c .enum-told2 .given .1))
 
 returns-3 : tie.Need-returns-3
+unfolding numberOf positionOf verdictAnswer verdictPlace verdictNumber verdictKind
 returns-3 c = ap verdictTold (sym (c .before .verdict .given .1))
 
 returns-4 : tie.Need-returns-4
+unfolding numberOf positionOf verdictAnswer verdictPlace verdictNumber verdictKind
 returns-4 c = ap verdictTold (sym (c .before .verdict2 .given .1))
 
 returns-5 : tie.Need-returns-5
+unfolding numberOf positionOf verdictAnswer verdictPlace verdictNumber verdictKind
 returns-5 c = ap verdictTold (sym (c .before .verdict3 .given .1))
 
 pub told-verdict-spec : {M : Type 1} → statement M
