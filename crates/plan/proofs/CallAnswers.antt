@@ -68,7 +68,7 @@ unfolding rowsAfter
 kept j given e = rw e
 
 -- a refused run has an empty table and writes no row
-run-none : (j : Judgement) (rows k q : ℕ) → runOf j rows .verdict ≡ ran.Refused k q → (runOf j rows .table ≡ tableOf []) × (rowsOf j rows ≡ [])
+pub run-none : (j : Judgement) (rows k q : ℕ) → runOf j rows .verdict ≡ ran.Refused k q → (runOf j rows .table ≡ tableOf []) × (rowsOf j rows ≡ [])
 unfolding runOf rowsOf refusedRun
 run-none (refused i p) rows k q e = (refl, refl)
 run-none (accepted x) rows k q e = go (ltb rows 65) (startTable 128 (x .problem)) e

@@ -1,23 +1,27 @@
 -- What the numbers of a table are: one that was written is read back; a refused step leaves every number, a refused start or run zeros.
+-- A refused run leaves the numbers of every row, a refused search zeros for its plan.
 -- Assumes nothing.
 use mathlib.Core.Path.{_≡_, refl, sym, ap, _∙_}
 use mathlib.Core.List.{List, [], _∷_, _++_}
-use Prim.Native.Nat.{ℕ, _+_, _/_, _≤_}
+use Prim.Native.Nat.{ℕ, _+_, _*_, _/_, _≤_}
 use native.Mathlib.Omega.{arith}
 use lib.ListN.{length, getD, take, drop, replicate, take-append-drop}
 use lib.Seq.{drop-cons, drop-drop, take-at, drop-at}
 use Rattle.sheet.specs.declared.Answer.the-variants.{Refused}
-use Rattle.sheet.specs.Lists.{pad}
+use Rattle.sheet.specs.Lists.{pad, collect}
 use Rattle.sheet.specs.Format.{sheetOf}
 use Rattle.table.specs.declared.Table.{Table}
 use Rattle.table.specs.Slots.{tableOf}
 use Rattle.table.specs.Calls.{startOf, stepOf}
 use Rattle.table.proofs.Demands.{start-back, step-back}
+use Rattle.plan.specs.declared.Row.{Row}
 use Rattle.plan.specs.declared.Verdict.the-variants as ran
-use Rattle.plan.specs.Calls.{runOf}
-use Rattle.plan.proofs.Demands.{run-back}
-use Rattle.unit.specs.Numbers.{tableIn, tableOut}
-use Rattle.unit.specs.Calls.{lastTable}
+use Rattle.plan.specs.declared.Kind.the-variants as kind
+use Rattle.plan.specs.Calls.{runOf, searchOf}
+use Rattle.plan.proofs.CallAnswers.{run-none}
+use Rattle.plan.proofs.Demands.{run-back, search-back}
+use Rattle.unit.specs.Numbers.{tableIn, tableOut, rowNumbers}
+use Rattle.unit.specs.Calls.{lastTable, rowsWith, rowsOut}
 
 -- ---- a table that was written is read back
 pub table-again : (t : Table) (xs : List ℕ) → length (t .trues) ≡ 128 → length (t .falses) ≡ 128 → tableIn (tableOut t xs) ≡ t
@@ -61,3 +65,13 @@ module _ (s rows : List ℕ) (number position : ℕ) (refused : runOf (sheetOf s
   pub run-zeros : (xs : List ℕ) → tableOut (lastTable s rows) xs ≡ replicate 257 0 ++ drop 257 xs
   unfolding lastTable
   run-zeros xs = ap (λ (t : Table). tableOut t xs) (run-back s (length rows / 3) number position refused) ∙ no-table xs
+
+  -- and keeps the rows
+  pub run-rows-kept : rowsOut s rows ≡ rows
+  unfolding rowsOut rowsWith
+  run-rows-kept = ap (λ (r : List Row). collect rowNumbers r ++ drop (3 * length r) rows) (run-none (sheetOf s) (length rows / 3) number position refused .1)
+
+-- ---- a refused search gives eight zeros for its plan
+pub search-zeros : (s xs : List ℕ) (limit number position : ℕ) → searchOf (sheetOf s) limit .kind ≡ kind.Refused number position
+    → searchOf (sheetOf s) limit .plan ++ drop 8 xs ≡ replicate 8 0 ++ drop 8 xs
+search-zeros s xs limit number position e = ap (λ (plan : List ℕ). plan ++ drop 8 xs) (search-back s limit number position e .0)
