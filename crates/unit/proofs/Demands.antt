@@ -18,8 +18,7 @@ use Rattle.plan.specs.declared.Row.{Row}
 use Rattle.plan.specs.declared.Verdict.the-variants as ran
 use Rattle.plan.specs.declared.Kind.the-variants as kind
 use Rattle.plan.specs.Calls.{runOf, searchOf}
-use Rattle.plan.proofs.CallAnswers.{run-none}
-use Rattle.plan.proofs.Demands.{run-back, search-back}
+use Rattle.plan.proofs.CallAnswers.{run-none, run-back, search-back}
 use Rattle.unit.specs.Numbers.{tableIn, tableOut, rowNumbers}
 use Rattle.unit.specs.Calls.{lastTable, rowsWith, rowsOut}
 

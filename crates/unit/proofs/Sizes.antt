@@ -32,7 +32,7 @@ use Rattle.plan.specs.declared.Course.{Course}
 use Rattle.plan.specs.Run.{tableOr, lastTable, actionsOf}
 use Rattle.plan.specs.Calls.{refusedRun, planned, runOf}
 use Rattle.plan.specs.Course.{courseOf}
-use Rattle.plan.proofs.CallRuns.{statement-proper}
+use Rattle.sheet.proofs.Demands.{statement-proper}
 use Rattle.unit.specs.Numbers.{tableIn}
 
 -- the table of an outcome, if any, has at most 128 entries
