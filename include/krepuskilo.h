@@ -19,8 +19,9 @@
  * Numbers of refusals, with the position of the byte at fault, from 0:
  *   1 the bytes end too early          2 count out of its range           3 literal of 2n or more
  *   4 literal not above the one before 5 literal complements the one before
- *   6 bytes after the plan             7 move number not on the sheet     8 search limit above 8
+ *   6 bytes after the plan             7 move number not on the sheet (in a step: position 0)
  * and at position 0:
+ *   8 search limit above 8
  *   20 no starting world               21 table or picture full           22 table not as described
  *   23 buffer or rows too short        24 precondition not sure           25 contradictory results
  *
@@ -72,8 +73,8 @@ uint8_t krepuskilo_judge(const uint8_t *sheet, size_t sheet_len, uint64_t *info,
 /* The first table of a sheet, into table. Answers 0; 1 to 7; 20 or 21. Refused: the 257 numbers are 0. Unused masks are 0. */
 uint8_t krepuskilo_start(const uint8_t *sheet, size_t sheet_len, uint32_t *table, size_t table_len, uint64_t *info, size_t info_len);
 
-/* The step of a table by the move of this number on the sheet, from 0: table in and out. Answers 0; 1 to 7; 22, 24, 25 or 21.
- * Unused masks are not read, and are 0 afterwards. Refused: every number of table is as it was. */
+/* The step of a table by the move of this number on the sheet, from 0: table in and out. Answers 0; 1 to 7; 7 at position 0 if the move is
+ * not on the sheet; 22, 24, 25 or 21. Unused masks are not read, and are 0 afterwards. Refused: every number of table is as it was. */
 uint8_t krepuskilo_step(const uint8_t *sheet, size_t sheet_len, uint32_t *table, size_t table_len, uint64_t move, uint64_t *info, size_t info_len);
 
 /* The picture of a table (its prime implicates), into buffer: the number of clauses in two bytes, then for each clause its masks of true

@@ -41,7 +41,7 @@ use Rattle.plan.specs.Calls.{runOf, rowsAfter, searchOf}
 use Rattle.plan.specs.Meaning.{Ends, Outside, Every, Some, StopsAt}
 use Rattle.plan.specs.Order.{Earlier, PlanOf}
 use Rattle.plan.specs.Exchange.{touch, exchanges}
-use Rattle.plan.specs.Demand3.{Class, isStopped, classOf, runFull, runRefused, SamePlanSheet}
+use Rattle.plan.specs.Demand3.{Class, classOf, runFull, runRefused, SamePlanSheet}
 use Rattle.plan.specs.DemandWords.{Solves, Spoiled, taken, Becomes, arrived, StepRefused, clausesOr, finalOf, runWith, Misses, FirstRun, planFound, InResult, NamedIn, twoMoves}
 
 -- ==== Demand 1: "A sheet, table, move or length that document 01 admits is worked through to the answer stated there. Anything else comes
@@ -328,7 +328,7 @@ pub record TwoPlans (s₁ s₂ : List ℕ) (x y : Statement) : Type 0 where
   -- "Unless stopped, their final pictures, if neither is full, are the same byte for byte."
   pub exchange-pictures : (w : ℕ) → Starts (x .problem) w → (ks : List ℕ) → y .plan ≡ exchanges (actionAt (x .problem)) ks (x .plan)
       → (rows₁ rows₂ : ℕ) → 65 ≤ rows₁ → 65 ≤ rows₂ → runFull (runOf (sheetOf s₁) rows₁) ≡ false → runFull (runOf (sheetOf s₂) rows₂) ≡ false
-      → (classOf (runOf (sheetOf s₁) rows₁ .verdict) ≡ some isStopped → ⊥)
+      → (classOf (runOf (sheetOf s₁) rows₁ .verdict) ≡ some Class.isStopped → ⊥)
       → (b₁ b₂ : List ℕ) → finalOf s₁ rows₁ ≡ some b₁ → finalOf s₂ rows₂ ≡ some b₂ → b₁ ≡ b₂
   -- "And for every two plans on that sheet, however their runs end, final pictures that aren't full are the same byte for byte exactly when
   -- two sets of worlds are the same: what its starting worlds become, each stepped alone through the moves that one run took, and through
