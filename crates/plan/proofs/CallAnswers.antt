@@ -135,11 +135,6 @@ module _ (p : Problem) (limit : ℕ) where
   searched-refused (Outcome.refused j) k q = (λ e. (let z : q ≡ 0 = cc in z, let i : j ≡ k = cc in ap Outcome.refused i), λ h. let i : j ≡ k = cc (h .1) in let z : q ≡ 0 = h .0 in cc)
   searched-refused (Outcome.table t) k q = (λ e. absurd (not-answered _ k q e), λ h. absurd (apart (sym (h .1))))
 
-  searched-given : (o : Outcome) → ((k q : ℕ) → searched p limit o .kind ≡ kind.Refused k q → ⊥) ↔ ((t : List Literals) × (o ≡ Outcome.table t))
-  unfolding searched refusedSearch
-  searched-given (Outcome.refused j) = (λ h. absurd (h j 0 refl), λ h. absurd (apart (h .1)))
-  searched-given (Outcome.table t) = (λ h. (t, refl), λ h. not-answered _)
-
   searched-back : (o : Outcome) (k q : ℕ) → searched p limit o .kind ≡ kind.Refused k q → (searched p limit o .plan ≡ replicate 8 0) × (searched p limit o .length ≡ 0)
   unfolding searched refusedSearch pad
   searched-back (Outcome.refused j) k q e = (refl, refl)
@@ -164,11 +159,6 @@ module _ (s : List ℕ) (x : Statement) (says : sheetOf s ≡ accepted x) (limit
   -- then 20 or 21, by the working order of the start (TH2)
   pub search-number : limit ≤ 8 → (k q : ℕ) → (searchOf (sheetOf s) limit .kind ≡ kind.Refused k q) ↔ ((q ≡ 0) × (startTable 128 (x .problem) ≡ Outcome.refused k))
   search-number h k q = rw (search-within h) (searched-refused (x .problem) limit (startTable 128 (x .problem)) k q)
-
-  -- not refused exactly if none of these holds
-  pub search-given : limit ≤ 8
-      → ((k q : ℕ) → searchOf (sheetOf s) limit .kind ≡ kind.Refused k q → ⊥) ↔ ((t : List Literals) × (startTable 128 (x .problem) ≡ Outcome.table t))
-  search-given h = rw (search-within h) (searched-given (x .problem) limit (startTable 128 (x .problem)))
 
   -- 8 is answered for too high a limit alone
   pub search-8-only : (q : ℕ) → searchOf (sheetOf s) limit .kind ≡ kind.Refused 8 q → 8 < limit

@@ -15,7 +15,7 @@ use Rattle.table.specs.declared.Table.{Table}
 use Rattle.table.specs.declared.Tabled.{Tabled}
 use Rattle.table.specs.Minimal.{Described, Outcome}
 use Rattle.table.specs.Start.{startTable}
-use Rattle.table.specs.Calls.{startOf, stepOf}
+use Rattle.table.specs.Calls.{startOf}
 use Rattle.table.specs.PictureCalls.{refusal, pictureOf}
 use Rattle.table.specs.CallWords.{AsDescribed, ZeroAfter}
 use Rattle.table.proofs.Demands as tables
@@ -27,6 +27,7 @@ use Rattle.plan.specs.declared.Kind.the-variants as kind
 use Rattle.plan.specs.Run.{actionsOf, lastTable}
 use Rattle.plan.specs.Calls.{refusedRun, runOf, refusedSearch, searchOf}
 use Rattle.plan.specs.Demand3.{runRefused}
+use Rattle.plan.specs.Demands.{FaultDemand}
 use Rattle.plan.proofs.CallRuns.{run-call, last-described}
 use Rattle.plan.proofs.CallAnswers.{run-fault, search-fault, run-23, run-23-only, run-number, search-8, search-8-only, search-number}
 use Rattle.plan.proofs.RunAnswers.{rows-enough, run-starts}
@@ -36,23 +37,17 @@ picture-fault : (s : List ℕ) (t : Table) (len k p : ℕ) → sheetOf s ≡ ref
 unfolding pictureOf refusal
 picture-fault s t len k p e = rw e
 
-pub fault-first : (s : List ℕ) (k p : ℕ) → judgeOf s ≡ Refused k p
-    → (startOf (sheetOf s) .answer ≡ Refused k p)
-    × ((t : Table) (m : ℕ) → stepOf (sheetOf s) t m .answer ≡ Refused k p)
-    × ((t : Table) (len : ℕ) → pictureOf (sheetOf s) t len .answer ≡ Refused k p)
-    × ((rows : ℕ) → runOf (sheetOf s) rows .verdict ≡ ran.Refused k p)
-    × ((limit : ℕ) → searchOf (sheetOf s) limit .kind ≡ kind.Refused k p)
+pub fault-first : (s : List ℕ) (k p : ℕ) → judgeOf s ≡ Refused k p → FaultDemand s k p
 unfolding refusedRun refusedSearch
-fault-first s k p j = (
-  ap (λ (r : Tabled). r .answer) (tables.start-fault s k p e),
-  λ t m. ap (λ (r : Tabled). r .answer) (tables.step-fault s t m k p e),
-  λ t len. picture-fault s t len k p e,
-  λ rows. ap (λ (r : Ran). r .verdict) (run-fault s rows k p e),
-  λ limit. ap (λ (r : Searched). r .kind) (search-fault s limit k p e),
-)
-  where
-    e : sheetOf s ≡ refused k p
-    e = judge-refuses s k p .0 j
+fault-first s k p j =
+    let e = judge-refuses s k p .0 j in
+    record {
+      start = ap (λ (r : Tabled). r .answer) (tables.start-fault s k p e);
+      step = λ t m. ap (λ (r : Tabled). r .answer) (tables.step-fault s t m k p e);
+      picture = λ t len. picture-fault s t len k p e;
+      run = λ rows. ap (λ (r : Ran). r .verdict) (run-fault s rows k p e);
+      search = λ limit. ap (λ (r : Searched). r .kind) (search-fault s limit k p e);
+    }
 
 -- ---- run and search: their numbers
 module _ (s : List ℕ) (x : Statement) (says : Says s x) where

@@ -113,7 +113,7 @@ back s = record {
 pub demand-1 : Demand1
 demand-1 = record {
   judge = judge;
-  fault-first = called.fault-first;
+  fault = called.fault-first;
   start = start;
   step = step;
   picture = picture;

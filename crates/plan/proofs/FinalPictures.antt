@@ -1,18 +1,17 @@
 -- The final picture of a run is what the picture call writes for the table that the run returns. Assumes nothing.
-use mathlib.Core.Path.{_≡_, refl, sym, ap, ap₂, _∙_}
+use mathlib.Core.Path.{_≡_, sym, ap, ap₂, _∙_}
 use mathlib.Core.Bool.{Bool, true, false, cond}
 use mathlib.Core.List.{List, _++_}
-use mathlib.Core.Option.{Option, none, some, Option·some-ne-none}
+use mathlib.Core.Option.{Option, some}
 use Prim.Native.Nat.{ℕ, _+_, _*_, _≤_}
 use native.Mathlib.Omega.{arith}
 use lib.ListN.{length, drop}
 use borrow.Author.Tests.{le-ltb}
 use Rattle.sheet.specs.declared.Literals.{Literals}
-use Rattle.sheet.specs.declared.Answer.the-variants.{Accepted, Refused}
+use Rattle.sheet.specs.declared.Answer.the-variants.{Accepted}
 use Rattle.sheet.specs.Problem.{Statement}
 use Rattle.sheet.specs.Format.{Judgement, accepted, sheetOf}
 use Rattle.table.specs.declared.Pictured.{Pictured}
-use Rattle.table.specs.Worlds.{andThen}
 use Rattle.table.specs.Minimal.{described, table}
 use Rattle.table.specs.Start.{startTable}
 use Rattle.table.specs.Picture.{picture, pictureBytes}
@@ -31,14 +30,6 @@ use Rattle.plan.proofs.CallRuns.{final-bytes, last-described, last-entr
 pub bytes-length : (s : List Literals) → length (pictureBytes s) ≡ 2 + 8 * length s
 unfolding pictureBytes
 bytes-length s = omega (arith, clauseBytes-length s)
-
-no-clauses : (r : Ran) → finalPicture r ≡ none → finalClauses r ≡ none
-unfolding finalPicture
-no-clauses r e = go (finalClauses r) e
-  where
-    go : (o : Option (List Literals)) → andThen o (λ s. some (pictureBytes s)) ≡ none → o ≡ none
-    go none q = refl
-    go (some s) q = absurd (Option·some-ne-none (pictureBytes s) q)
 
 module _ (s : List ℕ) (x : Statement) (says : sheetOf s ≡ accepted x) (rows : ℕ) (enough : 65 ≤ rows) (t : List Literals) (starts : startTable 128 (x .problem) ≡ table t)
     (buffer : List ℕ) (long : 2050 ≤ length buffer) where
@@ -93,10 +84,3 @@ module _ (s : List ℕ) (x : Statement) (says : sheetOf s ≡ accepted x) (rows 
       writes = unfold written in
           ap (λ (t : Bool). cond t buffer (pictureBytes (k .0) ++ drop (2 + 8 * length (k .0)) buffer)) fits
           ∙ ap (λ (i : ℕ). pictureBytes (k .0) ++ drop i buffer) (sym (bytes-length (k .0)))
-
-  -- no final picture: the call gives 21
-  pub picture-full : finalPicture run ≡ none → pictureOf (sheetOf s) (run .table) (length buffer) .answer ≡ Refused 21 0
-  unfolding given refusal
-  picture-full e =
-      ap (λ (r : Pictured). r .answer)
-      (call-gives ∙ ap (λ (o : Option (List Literals)). given o (length buffer)) (sym (last-clauses s x says rows enough t starts) ∙ no-clauses run e))

@@ -6,14 +6,13 @@ use mathlib.Core.Logic.{_⊎_, inl, inr, _↔_}
 use mathlib.Core.Option.{Option, none, some, Option·some-injective, Option·none-ne-some}
 use Prim.Native.Nat.{ℕ, zero, suc, _+_, _-_, _*_, _≤_, _<_}
 use native.Mathlib.Omega.{arith}
-use lib.Dec.{eqb}
 use lib.ListN.{length, take, drop, getD, length-map, length-drop, length-append, List·getD-append}
 use lib.Seq.{length-take-le, take-length, getD-drop, getD-append-add}
 use borrow.Author.Tests.{lt-ltb, le-ltb}
 use Rattle.sheet.specs.declared.Literals.{Literals}
 use Rattle.sheet.specs.declared.Answer.{Answer}
 use Rattle.sheet.specs.declared.Answer.the-variants.{Accepted, Refused}
-use Rattle.sheet.specs.Lists.{All, allOf}
+use Rattle.sheet.specs.Lists.{All}
 use Rattle.sheet.specs.Problem.{Action, Problem, Statement}
 use Rattle.sheet.specs.Format.{Judgement, accepted, refused, sheetOf}
 use Rattle.sheet.specs.Faults.{Says}
@@ -41,12 +40,12 @@ use Rattle.plan.specs.declared.Row.{Row}
 use Rattle.plan.specs.declared.Ran.{Ran}
 use Rattle.plan.specs.declared.Verdict as case
 use Rattle.plan.specs.declared.Verdict.the-variants as ran
-use Rattle.plan.specs.Run.{actionsOf, inGoal, Verdict, reached, short, stopped, full, ended, endedBy, runFrom, lastTable, movesTaken, rowOf, rowsFrom}
+use Rattle.plan.specs.Run.{actionsOf, Verdict, reached, short, stopped, full, runFrom, lastTable, movesTaken, rowOf, rowsFrom}
 use Rattle.plan.specs.Calls.{verdictOf, runOf, rowsOf, rowsAfter}
 use Rattle.plan.specs.Places.{thenTable, tableAt, Refuses}
 use Rattle.plan.specs.Demand3.{takenBy, runRefused}
 use Rattle.plan.specs.DemandWords.{taken, given, stepped, arrived, StepRefused, clausesOr}
-use Rattle.plan.proofs.Running.{Story, story, run-ended, run-refused, last-at, taken-all, taken-refused}
+use Rattle.plan.proofs.Running.{Story, story, last-at, taken-all, taken-refused}
 use Rattle.plan.proofs.Running as running
 use Rattle.plan.proofs.TableRuns.{taken-by, place-arrives, by-stopped, by-full, by-reached, by-short}
 use Rattle.plan.proofs.Verdicts.{all-take}

@@ -19,7 +19,7 @@ use Rattle.sheet.proofs.Bools.{T-true, true-T}
 use Rattle.sheet.proofs.LiteralSets.{or-cases, or-left, or-right}
 use Rattle.sheet.proofs.ListFacts.{any-map}
 use Rattle.sheet.proofs.Results.{has-names}
-use Rattle.plan.specs.Exchange.{changedBy, readBy, changed, reads, named, touch, swap, exchangeBy, exchanges}
+use Rattle.plan.specs.Exchange.{namedBy, readBy, changed, reads, named, touch, swap, exchangeBy, exchanges}
 use Rattle.plan.specs.DemandWords.{Names, InResult, NamedIn}
 
 -- ---- masks
@@ -41,28 +41,22 @@ names-iff d q = (λ e. there (or-cases (mem d true q) (mem d false q) (sym (has-
     back (inl h) = has-names d q ∙ or-left (mem d true q) (mem d false q) (T-true (mem d true q) h)
     back (inr h) = has-names d q ∙ or-right (mem d true q) (mem d false q) (T-true (mem d false q) h)
 
-changed-iff : (es : List Effect) (q : ℕ) → (has (changedBy es) q ≡ true) ↔ Any (λ e. Names (e .result) q) es
-changed-iff [] q = (λ e. absurd (true≢false (sym e ∙ has-none q)), λ h. absurd h)
-changed-iff (e ∷ es) q = (λ h. there (or-iff (names (e .result)) (changedBy es) q .0 h) (changed-iff es q), λ h. or-iff (names (e .result)) (changedBy es) q .1 (back h (changed-iff es q)))
+-- the propositions named in one part of some effects
+named-iff : (part : Effect → Literals) (es : List Effect) (q : ℕ) → (has (namedBy part es) q ≡ true) ↔ Any (λ e. Names (part e) q) es
+named-iff part [] q = (λ e. absurd (true≢false (sym e ∙ has-none q)), λ h. absurd h)
+named-iff part (e ∷ es) q = (
+  λ h. there (or-iff (names (part e)) (namedBy part es) q .0 h) (named-iff part es q),
+  λ h. or-iff (names (part e)) (namedBy part es) q .1 (back h (named-iff part es q)),
+)
   where
-    there : (has (names (e .result)) q ≡ true) ⊎ (has (changedBy es) q ≡ true) → (has (changedBy es) q ≡ true) ↔ Any (λ f. Names (f .result) q) es → Names (e .result) q ⊎ Any (λ f. Names (f .result) q) es
-    there (inl h) ih = inl (names-iff (e .result) q .0 h)
+    there : (has (names (part e)) q ≡ true) ⊎ (has (namedBy part es) q ≡ true) → (has (namedBy part es) q ≡ true) ↔ Any (λ f. Names (part f) q) es
+        → Names (part e) q ⊎ Any (λ f. Names (part f) q) es
+    there (inl h) ih = inl (names-iff (part e) q .0 h)
     there (inr h) ih = inr (ih .0 h)
 
-    back : Names (e .result) q ⊎ Any (λ f. Names (f .result) q) es → (has (changedBy es) q ≡ true) ↔ Any (λ f. Names (f .result) q) es → (has (names (e .result)) q ≡ true) ⊎ (has (changedBy es) q ≡ true)
-    back (inl h) ih = inl (names-iff (e .result) q .1 h)
-    back (inr h) ih = inr (ih .1 h)
-
-read-iff : (es : List Effect) (q : ℕ) → (has (readBy es) q ≡ true) ↔ Any (λ e. Names (e .condition) q) es
-read-iff [] q = (λ e. absurd (true≢false (sym e ∙ has-none q)), λ h. absurd h)
-read-iff (e ∷ es) q = (λ h. there (or-iff (names (e .condition)) (readBy es) q .0 h) (read-iff es q), λ h. or-iff (names (e .condition)) (readBy es) q .1 (back h (read-iff es q)))
-  where
-    there : (has (names (e .condition)) q ≡ true) ⊎ (has (readBy es) q ≡ true) → (has (readBy es) q ≡ true) ↔ Any (λ f. Names (f .condition) q) es → Names (e .condition) q ⊎ Any (λ f. Names (f .condition) q) es
-    there (inl h) ih = inl (names-iff (e .condition) q .0 h)
-    there (inr h) ih = inr (ih .0 h)
-
-    back : Names (e .condition) q ⊎ Any (λ f. Names (f .condition) q) es → (has (readBy es) q ≡ true) ↔ Any (λ f. Names (f .condition) q) es → (has (names (e .condition)) q ≡ true) ⊎ (has (readBy es) q ≡ true)
-    back (inl h) ih = inl (names-iff (e .condition) q .1 h)
+    back : Names (part e) q ⊎ Any (λ f. Names (part f) q) es → (has (namedBy part es) q ≡ true) ↔ Any (λ f. Names (part f) q) es
+        → (has (names (part e)) q ≡ true) ⊎ (has (namedBy part es) q ≡ true)
+    back (inl h) ih = inl (names-iff (part e) q .1 h)
     back (inr h) ih = inr (ih .1 h)
 
 any-split : (P Q : Effect → Type 0) (es : List Effect) → Any (λ e. P e ⊎ Q e) es → Any P es ⊎ Any Q es
@@ -78,7 +72,7 @@ any-split P Q (e ∷ es) (inr h) = go (any-split P Q es h)
 -- ---- moves
 in-result : (a : Action) (q : ℕ) → (has (changed a) q ≡ true) ↔ InResult a q
 unfolding changed
-in-result a q = changed-iff (a .effects) q
+in-result a q = named-iff (λ e. e .result) (a .effects) q
 
 named-in : (a : Action) (q : ℕ) → (has (named a) q ≡ true) ↔ NamedIn a q
 unfolding named reads changed
@@ -92,22 +86,19 @@ named-in a q = (
 
     read : (has (names (a .precondition)) q ≡ true) ⊎ (has (readBy (a .effects)) q ≡ true) → NamedIn a q
     read (inl h) = inl (names-iff (a .precondition) q .0 h)
-    read (inr h) = here (read-iff (a .effects) q .0 h)
+    read (inr h) = here (named-iff (λ e. e .condition) (a .effects) q .0 h)
 
     there : (has (reads a) q ≡ true) ⊎ (has (changed a) q ≡ true) → NamedIn a q
     there (inl h) = read (or-iff (names (a .precondition)) (readBy (a .effects)) q .0 h)
-    there (inr h) = inr (any-map (λ e. Names (e .result) q) (λ e. Names (e .condition) q ⊎ Names (e .result) q) (λ e k. inr k) (a .effects) (changed-iff (a .effects) q .0 h))
+    there (inr h) = inr (any-map (λ e. Names (e .result) q) (λ e. Names (e .condition) q ⊎ Names (e .result) q) (λ e k. inr k) (a .effects) (named-iff (λ e. e .result) (a .effects) q .0 h))
 
     back-any : Any (λ e. Names (e .condition) q) (a .effects) ⊎ Any (λ e. Names (e .result) q) (a .effects) → (has (reads a) q ≡ true) ⊎ (has (changed a) q ≡ true)
-    back-any (inl h) = inl (or-iff (names (a .precondition)) (readBy (a .effects)) q .1 (inr (read-iff (a .effects) q .1 h)))
-    back-any (inr h) = inr (changed-iff (a .effects) q .1 h)
+    back-any (inl h) = inl (or-iff (names (a .precondition)) (readBy (a .effects)) q .1 (inr (named-iff (λ e. e .condition) (a .effects) q .1 h)))
+    back-any (inr h) = inr (named-iff (λ e. e .result) (a .effects) q .1 h)
 
     back : NamedIn a q → (has (reads a) q ≡ true) ⊎ (has (changed a) q ≡ true)
     back (inl h) = inl (or-iff (names (a .precondition)) (readBy (a .effects)) q .1 (inl (names-iff (a .precondition) q .1 h)))
     back (inr h) = back-any (any-split (λ e. Names (e .condition) q) (λ e. Names (e .result) q) (a .effects) h)
-
-Touch : Action → Action → Type 0
-Touch a b = (q : ℕ) × ((InResult a q × NamedIn b q) ⊎ (InResult b q × NamedIn a q))
 
 common : (a b : Action) → eqb (bitAnd (changed a) (named b)) 0 ≡ false → (q : ℕ) × InResult a q × NamedIn b q
 common a b e =

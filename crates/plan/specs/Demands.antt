@@ -49,11 +49,13 @@ use Rattle.plan.specs.DemandWords.{Solves, Spoiled, taken, Becomes, arri
 
 -- ---- judge a sheet, any bytes s
 pub record JudgeDemand (s : List ℕ) : Type 0 where
-  -- accepted exactly for the bytes of a statement within document 01's ranges and list rules, and these bytes say that statement
+  -- accepted exactly for the bytes of a statement within document 01's ranges and list rules
   pub accepted : (judgeOf s ≡ Accepted) ↔ ((x : Statement) × ProperStatement x × (s ≡ encode x))
+  -- and then they say that statement
   pub says : (x : Statement) → Says s x ↔ (ProperStatement x × (s ≡ encode x))
   -- "with the number of its first fault": else refused with the number and position of the first byte that breaks the rule of its role
   pub refused : (k p : ℕ) → (judgeOf s ≡ Refused k p) ↔ FirstFault s k p
+  -- no other number than these seven
   pub numbers : (k p : ℕ) → judgeOf s ≡ Refused k p → (1 ≤ k) × (k ≤ 7)
   -- "1 the bytes end too early (position: the length)": a byte is due at the end
   pub on-1 : (p : ℕ) → (judgeOf s ≡ Refused 1 p)
@@ -74,16 +76,29 @@ pub record JudgeDemand (s : List ℕ) : Type 0 where
   -- "7 move number not on the sheet"
   pub on-7 : (p : ℕ) → (judgeOf s ≡ Refused 7 p) ↔ ((m : ℕ) × (b : ℕ) × ByteDue s p (numberFault m) b × (m ≤ b))
 
+-- ---- every other call on bytes at fault: "The sheet is judged …. After it, for each call …"
+pub record FaultDemand (s : List ℕ) (k p : ℕ) : Type 0 where
+  -- the sheet's number and position come first, whatever table, move, length, rows or limit is handed in
+  pub start : startOf (sheetOf s) .answer ≡ Refused k p
+  pub step : (t : Table) (m : ℕ) → stepOf (sheetOf s) t m .answer ≡ Refused k p
+  pub picture : (t : Table) (len : ℕ) → pictureOf (sheetOf s) t len .answer ≡ Refused k p
+  pub run : (rows : ℕ) → runOf (sheetOf s) rows .verdict ≡ ran.Refused k p
+  pub search : (limit : ℕ) → searchOf (sheetOf s) limit .kind ≡ kind.Refused k p
+
 -- ---- start: "21 or 20, whichever the start meets first"
 pub record StartDemand (s : List ℕ) (x : Statement) : Type 0 where
+  -- a clause leaves its fresh table empty: "A fresh table left empty is 20"
   pub on-20 : (startOf (sheetOf s) .answer ≡ Refused 20 0) ↔ StartStops (x .problem) (some [])
+  -- a clause overflows it: "21 table … full"
   pub on-21 : (startOf (sheetOf s) .answer ≡ Refused 21 0) ↔ StartStops (x .problem) none
   -- accepted under neither, with the table as built
   pub accepted : (startOf (sheetOf s) .answer ≡ Accepted)
       ↔ ((t : List Literals) × (growAll 128 (clausesOf (x .problem)) (x .problem .known ∷ []) ≡ table t) × (startOf (sheetOf s) .table ≡ tableOf t))
+  -- no other answer than these three
   pub numbers : (startOf (sheetOf s) .answer ≡ Accepted) ⊎ ((startOf (sheetOf s) .answer ≡ Refused 20 0) ⊎ (startOf (sheetOf s) .answer ≡ Refused 21 0))
   -- "20 no starting world"
   pub no-world : startOf (sheetOf s) .answer ≡ Refused 20 0 → (w : ℕ) → Starts (x .problem) w → ⊥
+  -- and without one the start is refused
   pub worldless : ((w : ℕ) → Starts (x .problem) w → ⊥) → (startOf (sheetOf s) .answer ≡ Refused 20 0) ⊎ (startOf (sheetOf s) .answer ≡ Refused 21 0)
   -- what an accepted start returns is a table as described, unused slots zero
   pub returned : startOf (sheetOf s) .answer ≡ Accepted → AsDescribed x (startOf (sheetOf s) .table) × ZeroAfter (startOf (sheetOf s) .table)
@@ -101,9 +116,11 @@ pub record StepDemand (s : List ℕ) (x : Statement) (t : Table) (m : ℕ) : Typ
   -- "21 table … full"; "A contradiction anywhere is reported before a full table"
   pub on-21 : (stepOf (sheetOf s) t m .answer ≡ Refused 21 0)
       ↔ (OnSheet x m × AsDescribed x t × (Unsure x t m → ⊥) × (Contradictory x t m → ⊥) × (images x t m ≡ none))
+  -- accepted under none of these, with the table of the images as put
   pub accepted : (stepOf (sheetOf s) t m .answer ≡ Accepted)
       ↔ (OnSheet x m × AsDescribed x t × (Unsure x t m → ⊥) × (Contradictory x t m → ⊥)
       × ((u : List Literals) × (images x t m ≡ some u) × (stepOf (sheetOf s) t m .table ≡ tableOf u)))
+  -- no other number than these five, each at position 0
   pub numbers : (k q : ℕ) → stepOf (sheetOf s) t m .answer ≡ Refused k q → (q ≡ 0) × ((k ≡ 7) ⊎ ((k ≡ 22) ⊎ ((k ≡ 24) ⊎ ((k ≡ 25) ⊎ (k ≡ 21)))))
   -- what an accepted step returns is a table as described, unused slots zero
   pub returned : stepOf (sheetOf s) t m .answer ≡ Accepted → AsDescribed x (stepOf (sheetOf s) t m .table) × ZeroAfter (stepOf (sheetOf s) t m .table)
@@ -121,6 +138,7 @@ pub record PictureDemand (s : List ℕ) (x : Statement) (t : Table) : Type 0 whe
   pub accepted : (buffer : List ℕ) → (pictureOf (sheetOf s) t (length buffer) .answer ≡ Accepted)
       ↔ (AsDescribed x t × ((c : List Literals) × (picture (entries t) ≡ some c) × (2 + 8 * length c ≤ length buffer)
       × (pictureOf (sheetOf s) t (length buffer) .clauses ≡ length c) × (bufferOf (sheetOf s) t buffer ≡ pictureBytes c ++ drop (2 + 8 * length c) buffer)))
+  -- no other number than these three, each at position 0
   pub numbers : (len k q : ℕ) → pictureOf (sheetOf s) t len .answer ≡ Refused k q → (q ≡ 0) × ((k ≡ 22) ⊎ ((k ≡ 21) ⊎ (k ≡ 23)))
   -- "The picture is the table's set of prime implicates", "sorted by first then second mask", "at most 256 clauses"
   pub primes : AsDescribed x t → (c : List Literals) → picture (entries t) ≡ some c
@@ -128,8 +146,9 @@ pub record PictureDemand (s : List ℕ) (x : Statement) (t : Table) : Type 0 whe
 
 -- ---- run, by the calls start, step and picture
 pub record RunDemand (s : List ℕ) (x : Statement) : Type 0 where
-  -- "23 for rows"; "a start's 20 or 21 refuses the run"; else it is not refused
+  -- "23 for rows"
   pub on-23 : (rows : ℕ) → (runOf (sheetOf s) rows .verdict ≡ ran.Refused 23 0) ↔ (rows < 65)
+  -- "a start's 20 or 21 refuses the run …"; else it is not refused
   pub start : (rows : ℕ) → 65 ≤ rows → (k q : ℕ) → (runOf (sheetOf s) rows .verdict ≡ ran.Refused k q) ↔ (startOf (sheetOf s) .answer ≡ Refused k q)
   -- "A run starts, then steps the plan": reached if every world of the last table is in the goal
   pub reached : (rows : ℕ) → 65 ≤ rows → (runOf (sheetOf s) rows .verdict ≡ ran.Reached)
@@ -141,20 +160,23 @@ pub record RunDemand (s : List ℕ) (x : Statement) : Type 0 where
   pub stopped : (rows : ℕ) → 65 ≤ rows → (k N : ℕ) → (runOf (sheetOf s) rows .verdict ≡ ran.Stopped k N) ↔ (StepRefused s (x .plan) k N × ((N ≡ 24) ⊎ (N ≡ 25)))
   -- "full (place)"
   pub full : (rows : ℕ) → 65 ≤ rows → (k : ℕ) → (runOf (sheetOf s) rows .verdict ≡ ran.Full k) ↔ StepRefused s (x .plan) k 21
-  -- "It returns the last table it had", as described, unused slots zero
+  -- "It returns the last table it had"
   pub last : (rows : ℕ) → runRefused (runOf (sheetOf s) rows) ≡ false → arrived s (taken s x rows) ≡ some (runOf (sheetOf s) rows .table)
+  -- which is as described, unused slots zero
   pub returned : (rows : ℕ) → runRefused (runOf (sheetOf s) rows) ≡ false → AsDescribed x (runOf (sheetOf s) rows .table) × ZeroAfter (runOf (sheetOf s) rows .table)
-  -- "rows of places arrived at are written, the rest kept", "each of three numbers: place, entries, picture clauses (257 if that picture is full)"
+  -- "rows of places arrived at are written", "each of three numbers: place, entries, picture clauses (257 if that picture is full)"
   pub row : (rows : List Row) → runRefused (runOf (sheetOf s) (length rows)) ≡ false → (i : ℕ) → i ≤ length (taken s x (length rows)) → (d : Row)
       → (u : Table) × (arrived s (take i (x .plan)) ≡ some u)
       × (getD (rowsAfter (sheetOf s) rows) i d
       ≡ record { place = i; entries = u .count; clauses = clausesOr (pictureOf (sheetOf s) u 2050 .answer) (pictureOf (sheetOf s) u 2050 .clauses) })
+  -- "the rest kept"
   pub rest : (rows : List Row) (i : ℕ) → length (taken s x (length rows)) < i → (d : Row) → getD (rowsAfter (sheetOf s) rows) i d ≡ getD rows i d
 
 -- ---- search, its numbers; what it finds is in demand 2
 pub record SearchDemand (s : List ℕ) (x : Statement) : Type 0 where
-  -- "8 search limit above 8"; "a start's 20 or 21 refuses the … search"; else it is not refused
+  -- "8 search limit above 8 (position 0)"
   pub on-8 : (limit : ℕ) → (searchOf (sheetOf s) limit .kind ≡ kind.Refused 8 0) ↔ (8 < limit)
+  -- "a start's 20 or 21 refuses the … search"; else it is not refused
   pub start : (limit : ℕ) → limit ≤ 8 → (k q : ℕ) → (searchOf (sheetOf s) limit .kind ≡ kind.Refused k q) ↔ (startOf (sheetOf s) .answer ≡ Refused k q)
 
 -- ---- what comes back, whatever the bytes s are
@@ -169,11 +191,14 @@ pub record BackDemand (s : List ℕ) : Type 0 where
   -- "a refused … run returns a table with count 0 and all slots zero"; "every lent … row untouched"
   pub refused-run : (rows : List Row) (k q : ℕ) → runOf (sheetOf s) (length rows) .verdict ≡ ran.Refused k q
       → (runOf (sheetOf s) (length rows) .table ≡ tableOf []) × (rowsAfter (sheetOf s) rows ≡ rows)
+  -- no row is added or lost, whatever the verdict
   pub rows-length : (rows : List Row) → length (rowsAfter (sheetOf s) rows) ≡ length rows
-  -- "for none or a refusal the length is 0"; "A plan comes as eight bytes with its length; bytes past the length are zero"
+  -- "for … a refusal the length is 0"
   pub refused-search : (limit k q : ℕ) → searchOf (sheetOf s) limit .kind ≡ kind.Refused k q
       → (searchOf (sheetOf s) limit .plan ≡ replicate 8 0) × (searchOf (sheetOf s) limit .length ≡ 0)
+  -- "for none … the length is 0"
   pub nothing-found : (limit : ℕ) → searchOf (sheetOf s) limit .kind ≡ kind.Nothing → searchOf (sheetOf s) limit .length ≡ 0
+  -- "A plan comes as eight bytes with its length; bytes past the length are zero"
   pub eight-bytes : (limit : ℕ) → let r = searchOf (sheetOf s) limit in (r .length ≤ 8) × (r .plan ≡ pad 8 0 (planFound r))
   -- "unused slots are not read on entry": tables with the same entries give the same answers
   pub unread : (t u : Table) → entries t ≡ entries u
@@ -183,13 +208,7 @@ pub record BackDemand (s : List ℕ) : Type 0 where
 
 pub record Demand1 : Type 0 where
   pub judge : (s : List ℕ) → JudgeDemand s
-  -- "The sheet is judged …. After it, for each call …": every other call refuses with the sheet's fault first
-  pub fault-first : (s : List ℕ) (k p : ℕ) → judgeOf s ≡ Refused k p
-      → (startOf (sheetOf s) .answer ≡ Refused k p)
-      × ((t : Table) (m : ℕ) → stepOf (sheetOf s) t m .answer ≡ Refused k p)
-      × ((t : Table) (len : ℕ) → pictureOf (sheetOf s) t len .answer ≡ Refused k p)
-      × ((rows : ℕ) → runOf (sheetOf s) rows .verdict ≡ ran.Refused k p)
-      × ((limit : ℕ) → searchOf (sheetOf s) limit .kind ≡ kind.Refused k p)
+  pub fault : (s : List ℕ) (k p : ℕ) → judgeOf s ≡ Refused k p → FaultDemand s k p
   pub start : (s : List ℕ) (x : Statement) → Says s x → StartDemand s x
   pub step : (s : List ℕ) (x : Statement) → Says s x → (t : Table) (m : ℕ) → StepDemand s x t m
   pub picture : (s : List ℕ) (x : Statement) → Says s x → (t : Table) → PictureDemand s x t
@@ -228,8 +247,9 @@ pub record TableWorlds (s : List ℕ) (x : Statement) : Type 0 where
   -- "else it fails only where the new table fills"
   pub step-else : (t : Table) (m : ℕ) → OnSheet x m → AsDescribed x t → (Untaken x t m → ⊥)
       → (stepOf (sheetOf s) t m .answer ≡ Accepted) ⊎ ((stepOf (sheetOf s) t m .answer ≡ Refused 21 0) × (images x t m ≡ none))
-  -- the first table stands for exactly the starting worlds; where there is one, the start fails only where a table fills
+  -- the first table stands for exactly the starting worlds
   pub start : startOf (sheetOf s) .answer ≡ Accepted → (w : ℕ) → WorldOf x (startOf (sheetOf s) .table) w ↔ Starts (x .problem) w
+  -- and where there is one, the start fails only where a table fills
   pub start-else : (w : ℕ) → Starts (x .problem) w → (startOf (sheetOf s) .answer ≡ Accepted) ⊎ (startOf (sheetOf s) .answer ≡ Refused 21 0)
 
 -- ---- runs: "On a sheet with a starting world, a run that fills no table is …"
@@ -244,15 +264,16 @@ pub record RunWorlds (s : List ℕ) (x : Statement) : Type 0 where
   -- stopped exactly at the first move that some world cannot take, by 24 where one then lacks the precondition, else 25
   pub stopped : (w : ℕ) → Starts (x .problem) w → (rows : ℕ) → 65 ≤ rows → runFull (runOf (sheetOf s) rows) ≡ false
       → (k N : ℕ) → (runOf (sheetOf s) rows .verdict ≡ ran.Stopped k N) ↔ StopsAt (x .problem .n) (Starting (x .problem)) (actionsOf (x .problem) (x .plan)) k N
-  -- "which steps every world through all of them": whatever the verdict, every starting world takes the moves taken, and the table returned
-  -- stands for exactly the worlds that they become
+  -- "which steps every world through all of them": whatever the verdict, every starting world takes the moves taken
   pub takes-all : (rows : ℕ) → runRefused (runOf (sheetOf s) rows) ≡ false
       → Every (x .problem .n) (Starting (x .problem)) Ends (actionsOf (x .problem) (taken s x rows))
+  -- and the table returned stands for exactly the worlds that they become
   pub worlds : (rows : ℕ) → runRefused (runOf (sheetOf s) rows) ≡ false → (v : ℕ) → v < 2 ^ x .problem .n
       → In (x .problem .n) (entries (runOf (sheetOf s) rows .table)) v ↔ Becomes s x rows v
 
 -- ---- searches, to a limit of at most 8; the run of a plan q is the call run on the sheet that carries q
 pub record SearchRuns (s : List ℕ) (x : Statement) : Type 0 where
+  -- that sheet is accepted, for every plan of the sheet's moves
   pub carried : (q : List ℕ) → PlanOf (length (x .problem .actions)) 64 q
       → Says (encode (record { problem = x .problem; plan = q })) (record { problem = x .problem; plan = q })
   -- "The search gives the first shortest such run"
@@ -261,9 +282,10 @@ pub record SearchRuns (s : List ℕ) (x : Statement) : Type 0 where
   -- "or "none" exactly when there is none within its limit"
   pub nothing : (limit : ℕ) → limit ≤ 8
       → (searchOf (sheetOf s) limit .kind ≡ kind.Nothing) ↔ ((q : List ℕ) → PlanOf (length (x .problem .actions)) limit q → Misses (runWith (x .problem) q .verdict))
-  -- "unless an earlier run fills the table, which it names": with its place, which is then its length
+  -- "unless an earlier run fills the table, which it names": with its place
   pub full : (limit : ℕ) → limit ≤ 8 → (q : List ℕ) (k : ℕ)
       → ((searchOf (sheetOf s) limit .kind ≡ kind.Full k) × (planFound (searchOf (sheetOf s) limit) ≡ q)) ↔ FirstRun (x .problem) limit q (ran.Full k)
+  -- which is the length of its plan
   pub full-at-end : (limit k : ℕ) → searchOf (sheetOf s) limit .kind ≡ kind.Full k → k ≡ searchOf (sheetOf s) limit .length
   -- the same by worlds: a plan found takes every starting world to the goal, and each earlier plan fails for some
   pub found-worlds : (limit : ℕ) → searchOf (sheetOf s) limit .kind ≡ kind.Reached
@@ -299,12 +321,14 @@ pub record ExchangeDemand (f : ℕ → Action) : Type 0 where
   -- "An exchange is a number k from 1. It swaps moves k and k + 1 of the plan it gets"
   pub swaps : (k a b : ℕ) (first rest : List ℕ) → k ≡ length first + 1 → touch (f a) (f b) ≡ false
       → exchanges f (k ∷ []) (first ++ (a ∷ b ∷ rest)) ≡ first ++ (b ∷ a ∷ rest)
-  -- "if they touch, or there is no move k + 1, the plan stays"
+  -- "if they touch …, the plan stays"
   pub stays : (k a b : ℕ) (first rest : List ℕ) → k ≡ length first + 1 → touch (f a) (f b) ≡ true
       → exchanges f (k ∷ []) (first ++ (a ∷ b ∷ rest)) ≡ first ++ (a ∷ b ∷ rest)
+  -- "if … there is no move k + 1, the plan stays"
   pub beyond : (k : ℕ) (plan : List ℕ) → length plan < k + 1 → exchanges f (k ∷ []) plan ≡ plan
-  -- "The first exchange gets the first plan, each later one what the one before left."
+  -- without an exchange the plan stays
   pub no-more : (plan : List ℕ) → exchanges f [] plan ≡ plan
+  -- "The first exchange gets the first plan, each later one what the one before left."
   pub next : (k : ℕ) (ks plan : List ℕ) → exchanges f (k ∷ ks) plan ≡ exchanges f ks (exchanges f (k ∷ []) plan)
 
 -- ---- the run and the final picture of one plan
@@ -353,7 +377,9 @@ pub record Demand3 : Type 0 where
   pub exchange : (f : ℕ → Action) → ExchangeDemand f
   pub final : (s : List ℕ) (x : Statement) → Says s x → FinalDemand s x
   pub plans : (s₁ s₂ : List ℕ) (x y : Statement) → SamePlanSheet s₁ s₂ x y → TwoPlans s₁ s₂ x y
-  -- two moves that do not touch, in either order: two sheets that differ; and document 01's own sheet, whose one move touches itself
+  -- by two moves that do not touch, in either order
   pub met : Met (twoMoves 0 1) (twoMoves 1 0) (1 ∷ [])
+  -- which are two sheets that differ
   pub differ : twoMoves 0 1 ≡ twoMoves 1 0 → ⊥
+  -- and by document 01's own sheet, whose one move touches itself
   pub met-printed : Met printed printed (1 ∷ [])

@@ -4,19 +4,23 @@ use mathlib.Core.List.{List, [], _∷_}
 use Prim.Native.Nat.{ℕ, zero, suc}
 use lib.Dec.{eqb}
 use lib.Bits.{bitAnd, bitOr}
+use Rattle.sheet.specs.declared.Literals.{Literals}
 use Rattle.sheet.specs.declared.Effect.{Effect}
 use Rattle.sheet.specs.Literals.{names}
 use Rattle.sheet.specs.Problem.{Action}
 
+-- the propositions named in one part of each of some effects
+abbrev pub namedBy : (Effect → Literals) → List Effect → ℕ
+namedBy part [] = 0
+namedBy part (e ∷ es) = bitOr (names (part e)) (namedBy part es)
+
 -- the propositions in the results of some effects
 abbrev pub changedBy : List Effect → ℕ
-changedBy [] = 0
-changedBy (e ∷ es) = bitOr (names (e .result)) (changedBy es)
+changedBy es = namedBy (λ e. e .result) es
 
 -- the propositions named in the conditions of some effects
 abbrev pub readBy : List Effect → ℕ
-readBy [] = 0
-readBy (e ∷ es) = bitOr (names (e .condition)) (readBy es)
+readBy es = namedBy (λ e. e .condition) es
 
 unfoldable pub changed : Action → ℕ
 changed a = changedBy (a .effects)

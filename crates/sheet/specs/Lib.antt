@@ -1,4 +1,4 @@
--- The definitions that the contracts of this crate cite, one file for each notion.
+-- The definitions that the contracts and theorems of this crate cite, one file for each notion.
 pub mod Literals
 pub mod Lists
 pub mod Problem
