@@ -19,7 +19,7 @@ use Rattle.table.proofs.Unread as unread
 use Rattle.plan.specs.Run.{reached, short, stopped}
 use Rattle.plan.specs.Calls.{verdictOf}
 use Rattle.plan.specs.Demand3.{SamePlanSheet}
-use Rattle.plan.specs.Demands.{JudgeDemand, StartDemand, StepDemand, PictureDemand, RunDemand, SearchDemand, BackDemand, Demand1, PaperDemand, TableWorlds, RunWorlds, SearchRuns, Demand2, ExchangeDemand, FinalDemand, TwoPlans, Demand3}
+use Rattle.plan.specs.Demands.{JudgeDemand, StartDemand, StepDemand, PictureDemand, RunDemand, SearchDemand, BackDemand, Demand1, PaperDemand, TableWorlds, RunWorlds, SearchFinds, Demand2, ExchangeDemand, FinalDemand, TwoPlans, Demand3}
 use Rattle.plan.proofs.CallAnswers as answers
 use Rattle.plan.proofs.RunAnswers as ran
 use Rattle.plan.proofs.CallDemands as called
@@ -150,8 +150,8 @@ run-worlds s x says = record {
   worlds = runs.run-comes s x says;
 }
 
-search-runs : (s : List ℕ) (x : Statement) → Says s x → SearchRuns s x
-search-runs s x says = record {
+search-finds : (s : List ℕ) (x : Statement) → Says s x → SearchFinds s x
+search-finds s x says = record {
   carried = λ q h. ran.carried (x .problem) (sheets.statement-proper s x says .problem) q (h .0) (h .1);
   reached = searches.search-reached s x says;
   nothing = searches.search-none s x says;
@@ -163,7 +163,7 @@ search-runs s x says = record {
 }
 
 pub demand-2 : Demand2
-demand-2 = record { paper = equations; tables = table-worlds; runs = run-worlds; searches = search-runs }
+demand-2 = record { paper = equations; tables = table-worlds; runs = run-worlds; searches = search-finds }
 
 -- ---- demand 3
 exchange : (f : ℕ → Action) → ExchangeDemand f

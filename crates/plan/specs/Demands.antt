@@ -224,11 +224,11 @@ pub record Demand1 : Type 0 where
 
 -- ---- "as To, Son and Pontelli define it": the step of a world is source 000's, for every effect, state and world
 pub record PaperDemand : Type 0 where
-  -- equation (1): e(a, s) is the set of literals of the results whose conditions hold in s
+  -- equation (1): e(a, state) is the set of literals of the results whose conditions hold in the state d
   pub equation-1 : (es : List Effect) (d : Literals) (sign : Bool) (p : ℕ)
       → T (mem (results es d) sign p) ↔ Any (λ e. T (within (e .condition) d) × T (mem (e .result) sign p)) es
-  -- equation (2): s without the complements of e(a, s), with e(a, s), as a complete state, if s has the precondition and e(a, s) is consistent;
-  -- else undefined
+  -- equation (2): the state without the complements of e(a, state), with e(a, state), as a complete state, if it has the precondition and
+  -- e(a, state) is consistent; else undefined
   pub equation-2 : (s : List ℕ) (x : Statement) → Says s x → (m : ℕ) → OnSheet x m → (w : ℕ) → w < 2 ^ x .problem .n
       → let a = actionAt (x .problem) m in let before = state (x .problem .n) w in let e = results (a .effects) before in
       ((v : ℕ) → (stepWorld (x .problem .n) a w ≡ some v)
@@ -272,7 +272,7 @@ pub record RunWorlds (s : List ℕ) (x : Statement) : Type 0 where
       → In (x .problem .n) (entries (runOf (sheetOf s) rows .table)) v ↔ Becomes s x rows v
 
 -- ---- searches, to a limit of at most 8; the run of a plan q is the call run on the sheet that carries q
-pub record SearchRuns (s : List ℕ) (x : Statement) : Type 0 where
+pub record SearchFinds (s : List ℕ) (x : Statement) : Type 0 where
   -- that sheet is accepted, for every plan of the sheet's moves
   pub carried : (q : List ℕ) → PlanOf (length (x .problem .actions)) 64 q
       → Says (encode (record { problem = x .problem; plan = q })) (record { problem = x .problem; plan = q })
@@ -305,7 +305,7 @@ pub record Demand2 : Type 0 where
   pub paper : PaperDemand
   pub tables : (s : List ℕ) (x : Statement) → Says s x → TableWorlds s x
   pub runs : (s : List ℕ) (x : Statement) → Says s x → RunWorlds s x
-  pub searches : (s : List ℕ) (x : Statement) → Says s x → SearchRuns s x
+  pub searches : (s : List ℕ) (x : Statement) → Says s x → SearchFinds s x
 
 -- ==== Demand 3: "Take any sheet with a starting world, any plan on it, and any list of exchanges of neighbouring moves, each made in the plan
 -- that the one before left, and changing nothing where the two touch. Whatever the plans between meet, if neither the first plan's run nor the
