@@ -17,7 +17,8 @@
  * Numbers and bytes past those named are kept as they were, in every slice.
  *
  * Numbers of refusals, with the position of the byte at fault, from 0:
- *   1 the bytes end too early          2 count out of its range           3 literal of 2n or more
+ *   1 the bytes end too early (position: the length)
+ *   2 count out of its range           3 literal of 2n or more
  *   4 literal not above the one before 5 literal complements the one before
  *   6 bytes after the plan             7 move number not on the sheet (in a step: position 0)
  * and at position 0:

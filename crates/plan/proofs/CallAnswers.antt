@@ -41,7 +41,7 @@ start-refused p {k} e = pick (start-kind 128 p)
 
 -- ---- run
 -- a verdict of a plan is no refusal
-not-refused : (v : Verdict) (k q : ℕ) → verdictOf v ≡ ran.Refused k q → ⊥
+pub not-refused : (v : Verdict) (k q : ℕ) → verdictOf v ≡ ran.Refused k q → ⊥
 unfolding refusedVerdict
 not-refused v k q e = true≢false (sym (ap refusedVerdict e) ∙ never-refused v)
 

@@ -9,8 +9,6 @@ use Rattle.sheet.specs.Format.{sheetOf}
 use Rattle.sheet.specs.Faults.{Says}
 use Rattle.sheet.proofs.Demands as sheets
 use Rattle.table.specs.declared.Table.{Table}
-use Rattle.table.specs.Calls.{actionAt}
-use Rattle.table.proofs.Started.{at-proper}
 use Rattle.table.proofs.Demands as tables
 use Rattle.table.proofs.CallDemands as tabled
 use Rattle.table.proofs.CallTables as returned
@@ -19,7 +17,7 @@ use Rattle.table.proofs.Unread as unread
 use Rattle.plan.specs.Run.{reached, short, stopped}
 use Rattle.plan.specs.Calls.{verdictOf}
 use Rattle.plan.specs.Demand3.{SamePlanSheet}
-use Rattle.plan.specs.Demands.{JudgeDemand, StartDemand, StepDemand, PictureDemand, RunDemand, SearchDemand, BackDemand, Demand1, PaperDemand, TableWorlds, RunWorlds, SearchFinds, Demand2, ExchangeDemand, FinalDemand, TwoPlans, Demand3}
+use Rattle.plan.specs.Demands.{MaskDemand, JudgeDemand, StartDemand, StepDemand, PictureDemand, RunDemand, SearchDemand, BackDemand, Demand1, PaperDemand, TableWorlds, RunWorlds, SearchFinds, Demand2, ExchangeDemand, FinalDemand, TwoPlans, Demand3}
 use Rattle.plan.proofs.CallAnswers as answers
 use Rattle.plan.proofs.RunAnswers as ran
 use Rattle.plan.proofs.CallDemands as called
@@ -30,8 +28,12 @@ use Rattle.plan.proofs.Touching as touching
 use Rattle.plan.proofs.ExchangeDemands as exchanges
 use Rattle.plan.proofs.ExchangeMet as example
 use Rattle.plan.proofs.PaperRuns as printed
+use Rattle.plan.proofs.TextExamples as text
 
 -- ---- demand 1
+masks : MaskDemand
+masks = record { lies-in = sheets.within-iff; no-pair = sheets.consistent-iff; has-true = sheets.meets-iff; world = sheets.state-iff }
+
 judge : (s : List ℕ) → JudgeDemand s
 judge s = record {
   accepted = sheets.judge-accepted s;
@@ -45,6 +47,8 @@ judge s = record {
   on-5 = sheets.judge-5 s;
   on-6 = sheets.judge-6 s;
   on-7 = sheets.judge-7 s;
+  longest = sheets.judge-longest s;
+  first-decide = sheets.judge-first s;
 }
 
 start : (s : List ℕ) (x : Statement) → Says s x → StartDemand s x
@@ -112,6 +116,7 @@ back s = record {
 
 pub demand-1 : Demand1
 demand-1 = record {
+  masks = masks;
   judge = judge;
   fault = called.fault-first;
   start = start;
@@ -120,15 +125,14 @@ demand-1 = record {
   run = run;
   search = search;
   back = back;
+  output = text.paper-output;
 }
 
 -- ---- demand 2
 equations : PaperDemand
 equations = record {
   equation-1 = paper.results-are;
-  equation-2 = λ s x says m on w l.
-      let ha = at-proper (x .problem) (sheets.statement-proper s x says .problem) m on in
-      (paper.step-some (x .problem .n) (actionAt (x .problem) m) ha w l, paper.step-none (x .problem .n) (actionAt (x .problem) m) ha w l);
+  equation-2 = λ n a ha w l. (paper.step-some n a ha w l, paper.step-none n a ha w l);
 }
 
 table-worlds : (s : List ℕ) (x : Statement) → Says s x → TableWorlds s x
@@ -136,6 +140,7 @@ table-worlds s x says = record {
   step = returned.step-worlds s x says;
   step-undefined = tabled.step-undefined s x says;
   step-else = tabled.step-else s x says;
+  step-least = returned.step-least s x says;
   start = returned.start-worlds s x says;
   start-else = tabled.start-else s x says;
 }
@@ -143,9 +148,10 @@ table-worlds s x says = record {
 run-worlds : (s : List ℕ) (x : Statement) → Says s x → RunWorlds s x
 unfolding verdictOf
 run-worlds s x says = record {
-  reached = λ w st rows h f. runs.run-is s x says rows (ran.unfull-given s x says rows w st h f) f reached (λ k e. let z : _≡_ {A = ℕ} 0 1 = cc in omega arith);
-  short = λ w st rows h f. runs.run-is s x says rows (ran.unfull-given s x says rows w st h f) f short (λ k e. let z : _≡_ {A = ℕ} 0 1 = cc in omega arith);
-  stopped = λ w st rows h f k N. runs.run-is s x says rows (ran.unfull-given s x says rows w st h f) f (stopped k N) (λ i e. let z : _≡_ {A = ℕ} 0 1 = cc in omega arith);
+  reached = λ w st rows h f. runs.run-means s x says rows h f reached (λ k e. let z : _≡_ {A = ℕ} 0 1 = cc in omega arith) (λ m. (w, st));
+  short = λ rows h f. runs.run-means s x says rows h f short (λ k e. let z : _≡_ {A = ℕ} 0 1 = cc in omega arith) (λ m. let o = m .1 in (o .0, (o .1, o .2)));
+  stopped = λ rows h f k N.
+      runs.run-means s x says rows h f (stopped k N) (λ i e. let z : _≡_ {A = ℕ} 0 1 = cc in omega arith) (λ m. let o = m .lost in (o .0, (o .1, o .2)));
   takes-all = runs.run-takes s x says;
   worlds = runs.run-comes s x says;
 }
@@ -153,12 +159,13 @@ run-worlds s x says = record {
 search-finds : (s : List ℕ) (x : Statement) → Says s x → SearchFinds s x
 search-finds s x says = record {
   carried = λ q h. ran.carried (x .problem) (sheets.statement-proper s x says .problem) q (h .0) (h .1);
+  plan-ignored = λ r y. searches.plan-ignored s r x y;
   reached = searches.search-reached s x says;
   nothing = searches.search-none s x says;
   full = searches.search-full s x says;
-  full-at-end = λ limit k e. searches.full-at-end s x says limit (searches.within-limit s x says limit (λ j i r. let z : _≡_ {A = ℕ} 0 1 = cc in omega arith)) k e;
-  found-worlds = λ limit e. searches.found-worlds s x says limit (searches.within-limit s x says limit (λ j i r. let z : _≡_ {A = ℕ} 0 1 = cc in omega arith)) e;
-  worlds-found = λ w st limit h. searches.worlds-found s x says limit h w st;
+  full-at-end = searches.full-at-end s x says;
+  reached-worlds = searches.reached-worlds s x says;
+  full-worlds = searches.full-worlds s x says;
   nothing-worlds = searches.none-worlds s x says;
 }
 

@@ -7,7 +7,6 @@ use mathlib.Core.Logic.{_⊎_, inl, inr, _↔_}
 use mathlib.Core.Option.{Option, none, some, Option·some-injective, Option·none-ne-some, Option·some-ne-none}
 use Prim.Native.Nat.{ℕ, _+_, _*_, _^_, _≤_, _<_}
 use native.Mathlib.Omega.{arith}
-use native.Mathlib.Nat.{le-of-eq}
 use lib.ListN.{length, take, drop, replicate, length-replicate}
 use lib.Seq.{take-append-seam}
 use Rattle.sheet.specs.declared.Literals.{Literals}
@@ -131,8 +130,9 @@ module _ (s : List ℕ) (x : Statement) (says : Says s x) (rows : ℕ) where
         go (some c) e = some-of c (rw zeros at got) (rw zeros at (k .3) ∙ ap length same) (k .4 ∙ ap (λ (d : List Literals). pictureBytes d ++ drop (2 + 8 * length d) (replicate 2050 0)) same)
           where
             got : pictureOf (sheetOf s) (run .table) (length {A = ℕ} (replicate 2050 0)) .answer ≡ Accepted
-            got = picture-written s x says rows enough (run-starts s x says rows f .0) (run-starts s x says rows f .1) (replicate 2050 0) (le-of-eq (sym zeros)) (pictureBytes c)
-                (given-final f ∙ ap (λ (o : Option (List Literals)). andThen o (λ c. some (pictureBytes c))) e) .0
+            got = picture-written s x says rows enough (run-starts s x says rows f .0) (run-starts s x says rows f .1) (replicate 2050 0) (pictureBytes c)
+                (given-final f ∙ ap (λ (o : Option (List Literals)). andThen o (λ c. some (pictureBytes c))) e)
+                (omega (arith, zeros, bytes-length c, tables.picture-ascending (statement-proper s x says .problem .n-most) fits e .1)) .0
 
             k : (d : List Literals) × (picture (entries (run .table)) ≡ some d) × (2 + 8 * length d ≤ length {A = ℕ} (replicate 2050 0))
                 × (pictureOf (sheetOf s) (run .table) (length {A = ℕ} (replicate 2050 0)) .clauses ≡ length d) × (bufferOf (sheetOf s) (run .table) (replicate 2050 0) ≡ pictureBytes d ++ drop (2 + 8 * length d) (replicate 2050 0))
@@ -172,10 +172,10 @@ module _ (s : List ℕ) (x : Statement) (says : Says s x) (rows : ℕ) where
       go true f = absurd (Option·none-ne-some b (sym (none-of (none-refused f)) ∙ e))
       go false f = f
 
-  pub final-written : (b : List ℕ) → finalOf s rows ≡ some b → (buffer : List ℕ) → 2050 ≤ length buffer → bufferOf (sheetOf s) (run .table) buffer ≡ b ++ drop (length b) buffer
+  pub final-written : (b : List ℕ) → finalOf s rows ≡ some b → (buffer : List ℕ) → length b ≤ length buffer → bufferOf (sheetOf s) (run .table) buffer ≡ b ++ drop (length b) buffer
   final-written b e buffer l =
       let f = final-given-run b e in
-      picture-written s x says rows (rows-enough s x says rows f) (run-starts s x says rows f .0) (run-starts s x says rows f .1) buffer l b (sym final-is ∙ e) .1
+      picture-written s x says rows (rows-enough s x says rows f) (run-starts s x says rows f .0) (run-starts s x says rows f .1) buffer b (sym final-is ∙ e) l .1
 
 -- ---- two plans on one sheet, by the clauses of their final pictures
 module _ (s₁ s₂ : List ℕ) (x y : Statement) (same : SamePlanSheet s₁ s₂ x y) (rows₁ rows₂ : ℕ) (h₁ : 65 ≤ rows₁) (h₂ : 65 ≤ rows₂) where

@@ -19,12 +19,10 @@ use Rattle.table.specs.Slots.{entries}
 use Rattle.table.specs.PictureCalls.{refusal, tooLong, given, pictureOf, written, bufferOf}
 use Rattle.table.proofs.Demands.{described-iff}
 use Rattle.table.proofs.MaskBytes.{clauseBytes-length}
-use Rattle.table.proofs.Pictures.{picture-ascending}
 use Rattle.plan.specs.declared.Ran.{Ran}
 use Rattle.plan.specs.Run.{actionsOf, lastTable}
 use Rattle.plan.specs.Calls.{runOf}
 use Rattle.plan.specs.Demand3.{finalClauses, finalPicture}
-use Rattle.sheet.proofs.Demands.{statement-proper}
 use Rattle.plan.proofs.CallRuns.{final-bytes, last-described, last-entries, last-clauses}
 
 pub bytes-length : (s : List Literals) → length (pictureBytes s) ≡ 2 + 8 * length s
@@ -32,7 +30,7 @@ unfolding pictureBytes
 bytes-length s = omega (arith, clauseBytes-length s)
 
 module _ (s : List ℕ) (x : Statement) (says : sheetOf s ≡ accepted x) (rows : ℕ) (enough : 65 ≤ rows) (t : List Literals) (starts : startTable 128 (x .problem) ≡ table t)
-    (buffer : List ℕ) (long : 2050 ≤ length buffer) where
+    (buffer : List ℕ) where
   abbrev run : Ran
   run = runOf (sheetOf s) rows
 
@@ -57,10 +55,10 @@ module _ (s : List ℕ) (x : Statement) (says : sheetOf s ≡ accepted x) (rows 
       ap (λ (j : Judgement). bufferOf j (run .table) buffer) says
       ∙ ap₂ (λ (b : Bool) (es : List Literals). cond b (written (picture es) buffer) buffer) passes its-entries
 
-  -- a buffer of 2,050 bytes is long enough for every picture; the bytes after it are kept
-  pub picture-written : (b : List ℕ) → finalPicture run ≡ some b
+  -- a buffer that the picture fits into gets its bytes; those after it are kept
+  pub picture-written : (b : List ℕ) → finalPicture run ≡ some b → length b ≤ length buffer
       → (pictureOf (sheetOf s) (run .table) (length buffer) .answer ≡ Accepted) × (bufferOf (sheetOf s) (run .table) buffer ≡ b ++ drop (length b) buffer)
-  picture-written b e = (
+  picture-written b e long = (
     ap (λ (r : Pictured). r .answer) (call-gives ∙ ap (λ (o : Option (List Literals)). given o (length buffer)) here ∙ gives),
     call-writes ∙ ap (λ (o : Option (List Literals)). written o buffer) here ∙ writes ∙ ap (λ (c : List ℕ). c ++ drop (length c) buffer) (k .2),
   )
@@ -71,11 +69,8 @@ module _ (s : List ℕ) (x : Statement) (says : sheetOf s ≡ accepted x) (rows 
       here : picture last ≡ some (k .0)
       here = sym (last-clauses s x says rows enough t starts) ∙ k .1
 
-      most : length (k .0) ≤ 256
-      most = picture-ascending (statement-proper s x says .problem .n-most) (last-described s x says rows enough t starts) here .1
-
       fits : tooLong (k .0) (length buffer) ≡ false
-      fits = unfold tooLong in le-ltb (length buffer) (2 + 8 * length (k .0)) (omega (arith, most))
+      fits = unfold tooLong in le-ltb (length buffer) (2 + 8 * length (k .0)) (omega (arith, long, bytes-length (k .0), ap length (k .2)))
 
       gives : given (some (k .0)) (length buffer) ≡ record { answer = Accepted; clauses = length (k .0) }
       gives = unfold given in ap (λ (t : Bool). cond t (refusal 23 0) (record { answer = Accepted; clauses = length (k .0) })) fits

@@ -28,6 +28,7 @@ pub mod Touching
 pub mod ExchangeDemands
 pub mod ExchangeMet
 pub mod PaperRuns
+pub mod TextExamples
 pub mod Demands
 pub mod Relending
 pub mod LentCalls
@@ -36,6 +37,5 @@ pub mod Entering
 pub mod RowCalls
 pub mod RowsWritten
 pub mod RowCounts
-pub mod TextExamples
 pub mod Texts
 pub mod Reports

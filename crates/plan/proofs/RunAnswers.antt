@@ -16,11 +16,10 @@ use Rattle.sheet.specs.Format.{sheetOf}
 use Rattle.sheet.specs.Faults.{Says}
 use Rattle.sheet.specs.Encoding.{ProperProblem, encode}
 use Rattle.sheet.proofs.ListFacts.{map-take}
-use Rattle.sheet.proofs.Demands.{accepted-encoding, statement-proper}
+use Rattle.sheet.proofs.Demands.{accepted-encoding}
 use Rattle.table.specs.Minimal.{Outcome}
 use Rattle.table.specs.Start.{startTable}
 use Rattle.table.specs.Calls.{actionAt}
-use Rattle.table.specs.CallWords.{Starts}
 use Rattle.table.proofs.Demands as tables
 use Rattle.plan.specs.declared.Ran.{Ran}
 use Rattle.plan.specs.declared.Verdict as case
@@ -29,7 +28,7 @@ use Rattle.plan.specs.Run.{actionsOf, Verdict, reached, short, stopped, 
 use Rattle.plan.specs.Calls.{verdictOf, refusedRun, runOf}
 use Rattle.plan.specs.Demand3.{takenBy, fullVerdict, refusedVerdict, runFull, runRefused}
 use Rattle.plan.specs.DemandWords.{runWith}
-use Rattle.plan.proofs.CallRuns.{run-call}
+use Rattle.plan.proofs.CallRuns.{never-refused, run-call}
 use Rattle.plan.proofs.CallAnswers.{run-23, run-number, run-given}
 
 -- ---- the start of a problem gives a table, or a number
@@ -89,7 +88,7 @@ module _ (s : List ℕ) (x : Statement) (says : Says s x) where
     unfolding runRefused refusedVerdict
     refused-run k q e = ap refusedVerdict e
 
-    full-run : run .verdict ≡ ran.Refused 21 0 → runFull run ≡ true
+    pub full-run : run .verdict ≡ ran.Refused 21 0 → runFull run ≡ true
     unfolding runFull fullVerdict
     full-run e = ap fullVerdict e
 
@@ -107,19 +106,10 @@ module _ (s : List ℕ) (x : Statement) (says : Says s x) where
     pub run-starts : runRefused run ≡ false → (t : List Literals) × (startTable 128 (x .problem) ≡ Outcome.table t)
     run-starts f = run-given s x says rows (rows-enough f) .0 (unrefused f)
 
-    -- one that is not full, on a sheet with a starting world, is not refused
-    pub unfull-given : (w : ℕ) → Starts (x .problem) w → 65 ≤ rows → runFull run ≡ false → runRefused run ≡ false
-    unfull-given w st enough f = go (runRefused run) refl
-      where
-        by : (k q : ℕ) → run .verdict ≡ ran.Refused k q
-            → (startTable 128 (x .problem) ≡ Outcome.refused 20) ⊎ ((startTable 128 (x .problem) ≡ Outcome.refused 21) ⊎ ((t : List Literals) × (startTable 128 (x .problem) ≡ Outcome.table t))) → ⊥
-        by k q e (inl i) = tables.start-20 (x .problem) (statement-proper s x says .problem) 128 i w (st .0) (st .1)
-        by k q e (inr (inl i)) = true≢false (sym (full-run (run-number s x says rows enough 21 0 .1 (refl, i))) ∙ f)
-        by k q e (inr (inr i)) = run-given s x says rows enough .1 i k q e
-
-        go : (b : Bool) → runRefused run ≡ b → runRefused run ≡ false
-        go false e = e
-        go true e = unfold runRefused in let r = refused-is (run .verdict) e in absurd (by (r .0) (r .1) (r .2) (tables.start-kind 128 (x .problem)))
+    -- one that has them is not refused
+    pub started-run : 65 ≤ rows → (t : List Literals) → startTable 128 (x .problem) ≡ Outcome.table t → runRefused run ≡ false
+    unfolding runRefused
+    started-run enough t e = ap (λ (r : Ran). refusedVerdict (r .verdict)) (run-call s x says rows enough t e) ∙ never-refused (runFrom 128 (x .problem .goal) 0 (actionsOf (x .problem) (x .plan)) t)
 
 -- ---- any plan on the sheet that carries it
 pub carried : (p : Problem) → ProperProblem p → (q : List ℕ) → All (λ i. i < length (p .actions)) q → length q ≤ 64

@@ -44,7 +44,7 @@ use Rattle.plan.specs.Run.{actionsOf, Verdict, reached, short, stopped, 
 use Rattle.plan.specs.Calls.{verdictOf, runOf, rowsOf, rowsAfter}
 use Rattle.plan.specs.Places.{thenTable, tableAt, Refuses}
 use Rattle.plan.specs.Demand3.{takenBy, runRefused}
-use Rattle.plan.specs.DemandWords.{taken, given, stepped, arrived, StepRefused, clausesOr}
+use Rattle.plan.specs.DemandWords.{taken, whenAccepted, stepped, arrived, StepRefused, clausesOr}
 use Rattle.plan.proofs.Running.{Story, story, last-at, taken-all, taken-refused}
 use Rattle.plan.proofs.Running as running
 use Rattle.plan.proofs.TableRuns.{taken-by, place-arrives, by-stopped, by-full, by-reached, by-short}
@@ -108,11 +108,11 @@ module _ (s : List ℕ) (x : Statement) (says : Says s x) where
       → stepped s ms (tableOf u) ≡ tabled (tableAt 128 (length ms) (actionsOf p ms) u)
   unfolding tabled actionsOf
   stepped-at [] h u d = refl
-  stepped-at (m ∷ ms) h u d = ap (λ (r : Tabled). andThen (given (r .answer) (r .table)) (λ v. stepped s ms v)) (step-call u d m (h .0)) ∙ go (stepTable 128 (actionAt p m) u) refl (stepped-at ms (h .1))
+  stepped-at (m ∷ ms) h u d = ap (λ (r : Tabled). andThen (whenAccepted (r .answer) (r .table)) (λ v. stepped s ms v)) (step-call u d m (h .0)) ∙ go (stepTable 128 (actionAt p m) u) refl (stepped-at ms (h .1))
     where
       go : (o : Outcome) → stepTable 128 (actionAt p m) u ≡ o
           → ((v : List Literals) → Described 128 (p .n) v → stepped s ms (tableOf v) ≡ tabled (tableAt 128 (length ms) (map (actionAt p) ms) v))
-          → andThen (given (orGiven (tableOf u) o .answer) (orGiven (tableOf u) o .table)) (λ v. stepped s ms v) ≡ tabled (thenTable o (λ v. tableAt 128 (length ms) (map (actionAt p) ms) v))
+          → andThen (whenAccepted (orGiven (tableOf u) o .answer) (orGiven (tableOf u) o .table)) (λ v. stepped s ms v) ≡ tabled (thenTable o (λ v. tableAt 128 (length ms) (map (actionAt p) ms) v))
       go (Outcome.refused k) e ih = unfold orGiven in refl
       go (Outcome.table v) e ih = unfold orGiven in ih v (tables.step-table (p .n) (hp .n-most) (actionAt p m) (at-proper p hp m (h .0)) u d 128 v e .0)
 
@@ -127,7 +127,7 @@ module _ (s : List ℕ) (x : Statement) (says : Says s x) where
 
     arrived-at : (i : ℕ) → i ≤ length (x .plan) → arrived s (take i (x .plan)) ≡ tabled (tableAt 128 i plan t)
     arrived-at i l =
-        ap (λ (r : Tabled). andThen (given (r .answer) (r .table)) (λ v. stepped s (take i (x .plan)) v)) start-call
+        ap (λ (r : Tabled). andThen (whenAccepted (r .answer) (r .table)) (λ v. stepped s (take i (x .plan)) v)) start-call
         ∙ stepped-at (take i (x .plan)) (all-take (λ m. m < length (x .problem .actions)) i (x .plan) hq) t first
         ∙ ap tabled (place ∙ at-take i plan t)
       where
@@ -356,7 +356,7 @@ module _ (s : List ℕ) (x : Statement) (says : Says s x) where
   -- ---- the start is refused
   module _ (N : ℕ) (starts : startTable 128 (x .problem) ≡ Outcome.refused N) where
     nowhere : (ms : List ℕ) → arrived s ms ≡ none
-    nowhere ms = ap (λ (a : Answer). andThen (given a (startOf (sheetOf s) .table)) (λ v. stepped s ms v)) (tables.start-number s x says N 0 .1 (refl, starts))
+    nowhere ms = ap (λ (a : Answer). andThen (whenAccepted a (startOf (sheetOf s) .table)) (λ v. stepped s ms v)) (tables.start-number s x says N 0 .1 (refl, starts))
 
     no-step : {X : Type 0} (k M : ℕ) → StepRefused s (x .plan) k M → X
     no-step k M r = absurd (Option·none-ne-some (r .last) (sym (nowhere (take (r .before) (x .plan))) ∙ r .arrives))

@@ -1,7 +1,7 @@
 -- The call search: the first run that is reached or full, or none, by the call run on the sheets that carry the plans, and by worlds; its
 -- eight bytes. Assumes nothing.
 use mathlib.Core.Path.{_≡_, refl, sym, ap, subst, _∙_}
-use mathlib.Core.Bool.{Bool, true, false, true≢false}
+use mathlib.Core.Bool.{Bool, true, false, cond, true≢false}
 use mathlib.Core.List.{List, []}
 use mathlib.Core.Logic.{_⊎_, inl, inr, _↔_}
 use Prim.Native.Nat.{ℕ, _≤_}
@@ -23,15 +23,18 @@ use Rattle.table.specs.Start.{startTable}
 use Rattle.table.specs.Calls.{startOf}
 use Rattle.table.specs.CallWords.{Starts}
 use Rattle.table.proofs.Demands as tables
+use Rattle.table.proofs.CallTables.{start-some}
 use Rattle.table.proofs.CallDemands.{start-else}
+use Rattle.plan.specs.declared.Ran.{Ran}
 use Rattle.plan.specs.declared.Searched.{Searched}
+use Rattle.plan.specs.declared.Verdict as case
 use Rattle.plan.specs.declared.Verdict.the-variants as ran
 use Rattle.plan.specs.declared.Kind.the-variants as kind
 use Rattle.plan.specs.Run.{actionsOf, Verdict, reached, short, stopped, full, runFrom}
 use Rattle.plan.specs.Search.{Answer, found, fullAt, nothing}
 use Rattle.plan.specs.Calls.{verdictOf, refusedSearch, answered, searchedFrom, searched, searchOf}
 use Rattle.plan.specs.Order.{Earlier, PlanOf, Fails, FirstPlan}
-use Rattle.plan.specs.Demand3.{fullVerdict, runFull}
+use Rattle.plan.specs.Demand3.{fullVerdict, runFull, SamePlanSheet}
 use Rattle.plan.specs.DemandWords.{Solves, Spoiled, runWith, Misses, FirstRun, planFound}
 use Rattle.plan.proofs.TableRuns.{verdict-is}
 use Rattle.plan.proofs.CallRuns.{not-full}
@@ -60,6 +63,22 @@ misses-unfull reached f = absurd f
 misses-unfull short f = refl
 misses-unfull (stopped k N) f = refl
 misses-unfull (full k) f = absurd f
+
+-- a run by a verdict that is not full
+unfull-run : (r : Ran) (v : case.Verdict) → r .verdict ≡ v → fullVerdict v ≡ false → runFull r ≡ false
+unfolding runFull
+unfull-run r v e f = ap fullVerdict e ∙ f
+
+missed-unfull : (r : Ran) → Misses (r .verdict) → runFull r ≡ false
+unfolding runFull
+missed-unfull r = go (r .verdict)
+  where
+    go : (v : case.Verdict) → Misses v → fullVerdict v ≡ false
+    go ran.Reached m = absurd m
+    go ran.Short m = unfold fullVerdict in refl
+    go (ran.Stopped place number) m = unfold fullVerdict in refl
+    go (ran.Full place) m = absurd m
+    go (ran.Refused number position) m = absurd m
 
 -- what the answer of a search says
 reached-is : (a : Answer) → answered a .kind ≡ kind.Reached → (q : List ℕ) × (a ≡ found q)
@@ -212,6 +231,9 @@ module _ (s : List ℕ) (x : Statement) (says : Says s x) (limit : ℕ) (le : li
     found-by e = searches.found-worlds (x .problem) hπ t starts limit (planFound (searchOf (sheetOf s) limit)) (its-found e)
 
     -- by the worlds
+    spoiled-by : (r : List ℕ) → PlanOf moves limit r → Misses (runWith (x .problem) r .verdict) → Spoiled (x .problem) r
+    spoiled-by r h m = searches.fails-world (x .problem) hπ t starts r (h .0) (misses-fails (verdict-of r) (subst Misses (gives r h) m))
+
     unfull : (q : List ℕ) → PlanOf moves limit q → runFull (runWith (x .problem) q) ≡ false → (k : ℕ) → verdict-of q ≡ full k → ⊥
     unfolding runFull
     unfull q h f = not-full (verdict-of q) (ap fullVerdict (sym (gives q h)) ∙ f)
@@ -280,7 +302,7 @@ module _ (s : List ℕ) (x : Statement) (says : Says s x) (limit : ℕ) (le : li
       go (inl r) = absurd (let z : _≡_ {A = ℕ} 0 1 = cc (call-refused (r .0) (r .1), e) in omega arith)
       go (inr r) = ends (r .0) (r .1) k e
 
-  pub found-worlds : searchOf (sheetOf s) limit .kind ≡ kind.Reached
+  found-worlds : searchOf (sheetOf s) limit .kind ≡ kind.Reached
       → Solves (x .problem) (planFound (searchOf (sheetOf s) limit))
       × ((r : List ℕ) → PlanOf moves limit r → Earlier r (planFound (searchOf (sheetOf s) limit)) → Spoiled (x .problem) r)
   found-worlds e = go (outcomes (x .problem))
@@ -290,7 +312,7 @@ module _ (s : List ℕ) (x : Statement) (says : Says s x) (limit : ℕ) (le : li
       go (inl r) = absurd (let z : _≡_ {A = ℕ} 0 1 = cc (call-refused (r .0) (r .1), e) in omega arith)
       go (inr r) = found-by (r .0) (r .1) e
 
-  pub worlds-found : (w : ℕ) → Starts (x .problem) w → (q : List ℕ) → PlanOf moves limit q → runFull (runWith (x .problem) q) ≡ false → Solves (x .problem) q
+  worlds-found : (w : ℕ) → Starts (x .problem) w → (q : List ℕ) → PlanOf moves limit q → runFull (runWith (x .problem) q) ≡ false → Solves (x .problem) q
       → ((r : List ℕ) → PlanOf moves limit r → Earlier r q → (runFull (runWith (x .problem) r) ≡ false) × Spoiled (x .problem) r)
       → (searchOf (sheetOf s) limit .kind ≡ kind.Reached) × (planFound (searchOf (sheetOf s) limit) ≡ q)
   worlds-found w st q h f g k = go (start-else s x says w st)
@@ -318,13 +340,33 @@ module _ (s : List ℕ) (x : Statement) (says : Says s x) (limit : ℕ) (le : li
           full-by (inr e) = unfold runFull fullVerdict in ap fullVerdict (run-refused 21 (tables.start-number s x says 21 0 .0 e .1) [] empty)
       go (inr r) = nothing-by (r .0) (r .1)
 
--- a limit above 8 is refused
-pub within-limit : (s : List ℕ) (x : Statement) → Says s x → (limit : ℕ) → ((j i : ℕ) → searchOf (sheetOf s) limit .kind ≡ kind.Refused j i → ⊥) → limit ≤ 8
-within-limit s x says limit f = go (ltb 8 limit) refl
-  where
-    go : (b : Bool) → ltb 8 limit ≡ b → limit ≤ 8
-    go true e = absurd (f 8 0 (unfold refusedSearch in ap (λ (r : Searched). r .kind) (search-8 s x says limit (ltb-true 8 limit e))))
-    go false e = ltb-false 8 limit e
+  -- by worlds, both ways
+  pub reached-worlds : (q : List ℕ) → ((searchOf (sheetOf s) limit .kind ≡ kind.Reached) × (planFound (searchOf (sheetOf s) limit) ≡ q))
+      ↔ (((w : ℕ) × Starts (x .problem) w) × PlanOf moves limit q × (runFull (runWith (x .problem) q) ≡ false) × Solves (x .problem) q
+      × ((r : List ℕ) → PlanOf moves limit r → Earlier r q → (runFull (runWith (x .problem) r) ≡ false) × Spoiled (x .problem) r))
+  reached-worlds q = (λ h. go (outcomes (x .problem)) h, λ h. worlds-found (h .0 .0) (h .0 .1) q (h .1) (h .2) (h .3) (h .4))
+    where
+      go : Outcomes (x .problem) → (searchOf (sheetOf s) limit .kind ≡ kind.Reached) × (planFound (searchOf (sheetOf s) limit) ≡ q)
+          → ((w : ℕ) × Starts (x .problem) w) × PlanOf moves limit q × (runFull (runWith (x .problem) q) ≡ false) × Solves (x .problem) q
+          × ((r : List ℕ) → PlanOf moves limit r → Earlier r q → (runFull (runWith (x .problem) r) ≡ false) × Spoiled (x .problem) r)
+      go (inl r) h = absurd (let z : _≡_ {A = ℕ} 0 1 = cc (call-refused (r .0) (r .1), h .0) in omega arith)
+      go (inr t) h =
+          let f = search-reached q .0 h in (
+            start-some s x says (t .0) (t .1),
+            f .plan,
+            unfull-run (runWith (x .problem) q) ran.Reached (f .gives) (unfold fullVerdict in refl),
+            subst (Solves (x .problem)) (h .1) (found-worlds (h .0) .0),
+            λ r i l. (missed-unfull (runWith (x .problem) r) (f .earlier r i l), spoiled-by (t .0) (t .1) r i (f .earlier r i l)),
+          )
+
+  -- every plan before one that is full fails for some starting world
+  pub full-worlds : (k : ℕ) → searchOf (sheetOf s) limit .kind ≡ kind.Full k
+      → (r : List ℕ) → PlanOf moves limit r → Earlier r (planFound (searchOf (sheetOf s) limit)) → Spoiled (x .problem) r
+  full-worlds k e r h l = go (outcomes (x .problem))
+    where
+      go : Outcomes (x .problem) → Spoiled (x .problem) r
+      go (inl i) = absurd (let z : _≡_ {A = ℕ} 0 1 = cc (call-refused (i .0) (i .1), e) in omega arith)
+      go (inr t) = spoiled-by (t .0) (t .1) r h (search-full (planFound (searchOf (sheetOf s) limit)) k .0 (e, refl) .earlier r h l)
 
 -- ---- the eight bytes of a search
 abbrev Padded : Searched → Type 0
@@ -392,3 +434,15 @@ unplanned-refused k q e = refl
 
 pub search-no-plan : (s : List ℕ) (limit : ℕ) → searchOf (sheetOf s) limit .kind ≡ kind.Nothing → searchOf (sheetOf s) limit .length ≡ 0
 search-no-plan = search-any Unplanned unplanned-refused (λ a h. unplanned a)
+
+-- ---- the sheet's own plan is ignored
+searched-by : (s : List ℕ) (x : Statement) → Says s x → (limit : ℕ)
+    → searchOf (sheetOf s) limit ≡ cond (ltb 8 limit) (refusedSearch 8 0) (searched (x .problem) limit (startTable 128 (x .problem)))
+unfolding searchOf
+searched-by s x says limit = rw says
+
+pub plan-ignored : (s r : List ℕ) (x y : Statement) → SamePlanSheet s r x y → (limit : ℕ) → searchOf (sheetOf r) limit ≡ searchOf (sheetOf s) limit
+plan-ignored s r x y same limit =
+    searched-by r y (same .second) limit
+    ∙ ap (λ (p : Problem). cond (ltb 8 limit) (refusedSearch 8 0) (searched p limit (startTable 128 p))) (sym (same .alike))
+    ∙ sym (searched-by s x (same .first) limit)

@@ -63,7 +63,7 @@ runRefused r = refusedVerdict (r .verdict)
 unfoldable pub finalClauses : Ran → Option (List Literals)
 finalClauses r = cond (runRefused r) none (picture (entries (r .table)))
 
--- the bytes that the picture call writes for the returned table, none after them
+-- their bytes; that the picture call writes just these for the returned table is the law `final-is`
 unfoldable pub finalPicture : Ran → Option (List ℕ)
 finalPicture r = andThen (finalClauses r) (λ s. some (pictureBytes s))
 

@@ -48,18 +48,18 @@ abbrev pub Becomes : List ℕ → Statement → ℕ → ℕ → Type 0
 Becomes s x rows = Comes (x .problem .n) (Starting (x .problem)) (actionsOf (x .problem) (taken s x rows))
 
 -- what comes with an accepted call
-abbrev pub given : {A : Type 0} → Answer → A → Option A
-given Accepted t = some t
-given (Refused number position) t = none
+abbrev pub whenAccepted : {A : Type 0} → Answer → A → Option A
+whenAccepted Accepted t = some t
+whenAccepted (Refused number position) t = none
 
 -- the table after some moves from the table t, by the call step
 abbrev pub stepped : List ℕ → List ℕ → Table → Option Table
 stepped s [] t = some t
-stepped s (m ∷ ms) t = andThen (given (stepOf (sheetOf s) t m .answer) (stepOf (sheetOf s) t m .table)) (λ u. stepped s ms u)
+stepped s (m ∷ ms) t = andThen (whenAccepted (stepOf (sheetOf s) t m .answer) (stepOf (sheetOf s) t m .table)) (λ u. stepped s ms u)
 
 -- the table after some moves, by the calls start and step
 abbrev pub arrived : List ℕ → List ℕ → Option Table
-arrived s ms = andThen (given (startOf (sheetOf s) .answer) (startOf (sheetOf s) .table)) (λ t. stepped s ms t)
+arrived s ms = andThen (whenAccepted (startOf (sheetOf s) .answer) (startOf (sheetOf s) .table)) (λ t. stepped s ms t)
 
 -- the plan comes to place k - 1, and the call step by its k-th move gives the number N there
 pub record StepRefused (s : List ℕ) (plan : List ℕ) (k N : ℕ) : Type 0 where
@@ -72,18 +72,18 @@ pub record StepRefused (s : List ℕ) (plan : List ℕ) (k N : ℕ) : Type 0 whe
   pub arrives : arrived s (take before plan) ≡ some last
   pub gives : stepOf (sheetOf s) last move .answer ≡ Refused N 0
 
--- "picture clauses (257 if that picture is full)"
+-- "picture clauses (257 if that picture is full)": of a table as described the call with 2,050 bytes gives no other number than 21
 abbrev pub clausesOr : Answer → ℕ → ℕ
 clausesOr Accepted clauses = clauses
 clausesOr (Refused number position) clauses = 257
 
 -- "A run's final picture is what the picture call writes for the table that the run returns: the two bytes of count and the clauses, nothing
--- after them": none if that call gives 21, or the run is refused (then its table is empty, and the call gives 22)
+-- after them": none if that call gives 21, or the run is refused (on an accepted sheet its table is then empty, and the call gives 22)
 unfoldable pub finalOf : List ℕ → ℕ → Option (List ℕ)
 finalOf s rows =
     let t = runOf (sheetOf s) rows .table in
     let r = pictureOf (sheetOf s) t 2050 in
-    given (r .answer) (take (2 + 8 * (r .clauses)) (bufferOf (sheetOf s) t (replicate 2050 0)))
+    whenAccepted (r .answer) (take (2 + 8 * (r .clauses)) (bufferOf (sheetOf s) t (replicate 2050 0)))
 
 -- ---- searches
 -- the call run on the sheet that carries the plan q

@@ -1,11 +1,15 @@
 -- The three demands, sentence by sentence: statements only, over the calls' own definitions (`judgeOf`, `startOf`, `stepOf`, `pictureOf`,
 -- `bufferOf`, `runOf`, `rowsAfter`, `searchOf` on what the bytes say, `sheetOf s`) and over worlds (`Starting`, `stepWorld`, `runWorld`,
--- `InGoal`). A demand is a record; its fields are the sentences, put in groups, one record to a call, so that what a group speaks of is said
--- once: the bytes s, which say x (`Says s x`: they are accepted as the sheet of x), a table t, a move m, rows, a limit. These are any; a field
--- says what else it takes. Words are in sheet/specs/Faults, table/specs/CallWords and DemandWords. Proved in proofs/Demands.
+-- `InGoal`); where document 01 states a working order, also over that (the form of a sheet, `growAll`, `putImages`, `picture`).
+-- A demand is a record; its fields are the sentences, put in groups, one record to a call, so that what a group speaks of is said once: the
+-- bytes s, which say x (`Says s x`: they are accepted as the sheet of x), a table t, a move m, rows, a limit. These are any; a field says what
+-- else it takes. Proved in proofs/Demands.
+-- Words, in reading order: sheet/specs/Literals, Problem, Form, Format, Encoding, Calls, Faults; table/specs/Worlds, Minimal, Slots, Start,
+-- Step, Picture, Prime, Calls, PictureCalls, CallWords; Run, Cases, Calls, Meaning, Order, Exchange, Demand3, DemandWords beside this page.
+-- The program `check` prints what `report` writes (specs/Text), by the same run; of it the page has only the output that document 01 shows.
 use mathlib.Core.Path.{_≡_}
 use mathlib.Core.Bool.{Bool, true, false, not, _&&_, _||_}
-use mathlib.Core.List.{List, [], _∷_, _++_}
+use mathlib.Core.List.{List, [], _∷_, _++_, List·Memᴰ}
 use mathlib.Core.Logic.{_⊎_, _↔_}
 use mathlib.Core.Option.{Option, none, some}
 use Prim.Native.Nat.{ℕ, _+_, _*_, _/_, _^_, _≤_, _<_}
@@ -14,30 +18,31 @@ use lib.ListN.{length, take, drop, getD, replicate}
 use Rattle.sheet.specs.declared.Literals.{Literals}
 use Rattle.sheet.specs.declared.Effect.{Effect}
 use Rattle.sheet.specs.declared.Answer.the-variants.{Accepted, Refused}
-use Rattle.sheet.specs.Literals.{mem, within, consistent, state}
+use Rattle.sheet.specs.Literals.{has, mem, within, consistent, state, meets}
 use Rattle.sheet.specs.Lists.{Any, pad}
 use Rattle.sheet.specs.Problem.{Action, Statement}
 use Rattle.sheet.specs.Form.{Form, byte, due}
 use Rattle.sheet.specs.Format.{countFault, literalFault, numberFault, sheet, sheetOf}
-use Rattle.sheet.specs.Encoding.{ProperStatement, encode}
+use Rattle.sheet.specs.Encoding.{ProperAction, ProperStatement, encode}
 use Rattle.sheet.specs.Calls.{judgeOf}
 use Rattle.sheet.specs.Faults.{Says, FirstFault, ByteDue}
 use Rattle.sheet.specs.Printed.{printed}
 use Rattle.table.specs.declared.Table.{Table}
 use Rattle.table.specs.Worlds.{results, stepWorld, Starting, InGoal}
-use Rattle.table.specs.Minimal.{In, table}
+use Rattle.table.specs.Minimal.{In, Least, table}
 use Rattle.table.specs.Start.{clausesOf, growAll}
 use Rattle.table.specs.Picture.{Ascending, picture, pictureBytes}
 use Rattle.table.specs.Prime.{Exactly}
 use Rattle.table.specs.Slots.{entries, tableOf}
 use Rattle.table.specs.Calls.{startOf, actionAt, stepOf}
 use Rattle.table.specs.PictureCalls.{pictureOf, bufferOf}
-use Rattle.table.specs.CallWords.{OnSheet, AsDescribed, ZeroAfter, Starts, WorldOf, Unsure, Contradictory, Untaken, StartStops, images}
+use Rattle.table.specs.CallWords.{OnSheet, AsDescribed, ZeroAfter, Starts, WorldOf, Unsure, Contradictory, Untaken, StartStops, images, putImages}
 use Rattle.plan.specs.declared.Row.{Row}
 use Rattle.plan.specs.declared.Verdict.the-variants as ran
 use Rattle.plan.specs.declared.Kind.the-variants as kind
 use Rattle.plan.specs.Run.{actionsOf}
 use Rattle.plan.specs.Calls.{runOf, rowsAfter, searchOf}
+use Rattle.plan.specs.Text.{ascii, outputOf}
 use Rattle.plan.specs.Meaning.{Ends, Outside, Every, Some, StopsAt}
 use Rattle.plan.specs.Order.{Earlier, PlanOf}
 use Rattle.plan.specs.Exchange.{touch, exchanges}
@@ -46,6 +51,17 @@ use Rattle.plan.specs.DemandWords.{Solves, Spoiled, taken, Becomes, arri
 
 -- ==== Demand 1: "A sheet, table, move or length that document 01 admits is worked through to the answer stated there. Anything else comes
 -- back with the number of its first fault, any table handed in as it was, and every lent byte and row untouched."
+
+-- ---- sets of literals as masks, "bit p for proposition p": the tests that all below rests on, by single literals
+pub record MaskDemand : Type 0 where
+  -- "all to hold together", "No entry's literals all lie in another's": all literals of a lie in b
+  pub lies-in : (a b : Literals) → T (within a b) ↔ ((sign : Bool) (p : ℕ) → T (mem a sign p) → T (mem b sign p))
+  -- "no literal with its complement", "have no complementary pair"
+  pub no-pair : (a : Literals) → T (consistent a) ↔ ((p : ℕ) → T (mem a true p) → T (mem a false p) → ⊥)
+  -- "if each has a literal true there": the clause c has a literal in d
+  pub has-true : (c d : Literals) → T (meets c d) ↔ ((sign : Bool) × (p : ℕ) × T (mem c sign p) × T (mem d sign p))
+  -- "A world gives each proposition a value": the literals of the world w say the value of each of its n propositions
+  pub world : (n w : ℕ) → w < 2 ^ n → (sign : Bool) (p : ℕ) → T (mem (state n w) sign p) ↔ ((p < n) × (has w p ≡ sign))
 
 -- ---- judge a sheet, any bytes s
 pub record JudgeDemand (s : List ℕ) : Type 0 where
@@ -75,6 +91,10 @@ pub record JudgeDemand (s : List ℕ) : Type 0 where
   pub on-6 : (p : ℕ) → (judgeOf s ≡ Refused 6 p) ↔ ((p < length s) × (judgeOf (take p s) ≡ Accepted))
   -- "7 move number not on the sheet"
   pub on-7 : (p : ℕ) → (judgeOf s ≡ Refused 7 p) ↔ ((m : ℕ) × (b : ℕ) × ByteDue s p (numberFault m) b × (m ≤ b))
+  -- "No accepted sheet exceeds 3,711 bytes"
+  pub longest : judgeOf s ≡ Accepted → length s ≤ 3711
+  -- "so the first 4,096 decide"
+  pub first-decide : judgeOf (take 4096 s) ≡ judgeOf s
 
 -- ---- every other call on bytes at fault: "The sheet is judged …. After it, for each call …"
 pub record FaultDemand (s : List ℕ) (k p : ℕ) : Type 0 where
@@ -115,11 +135,11 @@ pub record StepDemand (s : List ℕ) (x : Statement) (t : Table) (m : ℕ) : Typ
   pub on-25 : (stepOf (sheetOf s) t m .answer ≡ Refused 25 0) ↔ (OnSheet x m × AsDescribed x t × (Unsure x t m → ⊥) × Contradictory x t m)
   -- "21 table … full"; "A contradiction anywhere is reported before a full table"
   pub on-21 : (stepOf (sheetOf s) t m .answer ≡ Refused 21 0)
-      ↔ (OnSheet x m × AsDescribed x t × (Unsure x t m → ⊥) × (Contradictory x t m → ⊥) × (images x t m ≡ none))
+      ↔ (OnSheet x m × AsDescribed x t × (Unsure x t m → ⊥) × (Contradictory x t m → ⊥) × (putImages x t m ≡ none))
   -- accepted under none of these, with the table of the images as put
   pub accepted : (stepOf (sheetOf s) t m .answer ≡ Accepted)
       ↔ (OnSheet x m × AsDescribed x t × (Unsure x t m → ⊥) × (Contradictory x t m → ⊥)
-      × ((u : List Literals) × (images x t m ≡ some u) × (stepOf (sheetOf s) t m .table ≡ tableOf u)))
+      × ((u : List Literals) × (putImages x t m ≡ some u) × (stepOf (sheetOf s) t m .table ≡ tableOf u)))
   -- no other number than these five, each at position 0
   pub numbers : (k q : ℕ) → stepOf (sheetOf s) t m .answer ≡ Refused k q → (q ≡ 0) × ((k ≡ 7) ⊎ ((k ≡ 22) ⊎ ((k ≡ 24) ⊎ ((k ≡ 25) ⊎ (k ≡ 21)))))
   -- what an accepted step returns is a table as described, unused slots zero
@@ -207,6 +227,7 @@ pub record BackDemand (s : List ℕ) : Type 0 where
       × ((len : ℕ) → pictureOf (sheetOf s) t len ≡ pictureOf (sheetOf s) u len) × ((buffer : List ℕ) → bufferOf (sheetOf s) t buffer ≡ bufferOf (sheetOf s) u buffer)
 
 pub record Demand1 : Type 0 where
+  pub masks : MaskDemand
   pub judge : (s : List ℕ) → JudgeDemand s
   pub fault : (s : List ℕ) (k p : ℕ) → judgeOf s ≡ Refused k p → FaultDemand s k p
   pub start : (s : List ℕ) (x : Statement) → Says s x → StartDemand s x
@@ -215,6 +236,8 @@ pub record Demand1 : Type 0 where
   pub run : (s : List ℕ) (x : Statement) → Says s x → RunDemand s x
   pub search : (s : List ℕ) (x : Statement) → Says s x → SearchDemand s x
   pub back : (s : List ℕ) → BackDemand s
+  -- "Whole output" of the program `check` for the sheet that document 01 prints
+  pub output : outputOf (sheetOf printed) ≡ ascii "place entries clauses\n0 3 4\n1 2 3\n2 1 3\nreached\n"
 
 -- ==== Demand 2: "A move turns a table into one for exactly the worlds got by stepping each world alone, as To, Son and Pontelli define it, and
 -- is undefined exactly when some world can't take it; else it fails only where the new table fills. On a sheet with a starting world, a run
@@ -222,19 +245,19 @@ pub record Demand1 : Type 0 where
 -- shortest such run, or "none" exactly when there is none within its limit, unless an earlier run fills the table, which it names. … the
 -- published definition must carry this and not our turret."
 
--- ---- "as To, Son and Pontelli define it": the step of a world is source 000's, for every effect, state and world
+-- ---- "as To, Son and Pontelli define it": the step of a world is source 000's, for every move over n propositions, every state and world
 pub record PaperDemand : Type 0 where
   -- equation (1): e(a, state) is the set of literals of the results whose conditions hold in the state d
   pub equation-1 : (es : List Effect) (d : Literals) (sign : Bool) (p : ℕ)
       → T (mem (results es d) sign p) ↔ Any (λ e. T (within (e .condition) d) × T (mem (e .result) sign p)) es
   -- equation (2): the state without the complements of e(a, state), with e(a, state), as a complete state, if it has the precondition and
   -- e(a, state) is consistent; else undefined
-  pub equation-2 : (s : List ℕ) (x : Statement) → Says s x → (m : ℕ) → OnSheet x m → (w : ℕ) → w < 2 ^ x .problem .n
-      → let a = actionAt (x .problem) m in let before = state (x .problem .n) w in let e = results (a .effects) before in
-      ((v : ℕ) → (stepWorld (x .problem .n) a w ≡ some v)
-      ↔ (T (within (a .precondition) before) × T (consistent e) × (v < 2 ^ x .problem .n)
-      × ((sign : Bool) (p : ℕ) → mem (state (x .problem .n) v) sign p ≡ ((mem before sign p && not (mem e (not sign) p)) || mem e sign p))))
-      × ((stepWorld (x .problem .n) a w ≡ none) ↔ (T (within (a .precondition) before) × T (consistent e) → ⊥))
+  pub equation-2 : (n : ℕ) (a : Action) → ProperAction n a → (w : ℕ) → w < 2 ^ n
+      → let before = state n w in let e = results (a .effects) before in
+      ((v : ℕ) → (stepWorld n a w ≡ some v)
+      ↔ (T (within (a .precondition) before) × T (consistent e) × (v < 2 ^ n)
+      × ((sign : Bool) (p : ℕ) → mem (state n v) sign p ≡ ((mem before sign p && not (mem e (not sign) p)) || mem e sign p))))
+      × ((stepWorld n a w ≡ none) ↔ (T (within (a .precondition) before) × T (consistent e) → ⊥))
 
 -- ---- tables
 pub record TableWorlds (s : List ℕ) (x : Statement) : Type 0 where
@@ -246,23 +269,26 @@ pub record TableWorlds (s : List ℕ) (x : Statement) : Type 0 where
       → ((stepOf (sheetOf s) t m .answer ≡ Refused 24 0) ⊎ (stepOf (sheetOf s) t m .answer ≡ Refused 25 0)) ↔ Untaken x t m
   -- "else it fails only where the new table fills"
   pub step-else : (t : Table) (m : ℕ) → OnSheet x m → AsDescribed x t → (Untaken x t m → ⊥)
-      → (stepOf (sheetOf s) t m .answer ≡ Accepted) ⊎ ((stepOf (sheetOf s) t m .answer ≡ Refused 21 0) × (images x t m ≡ none))
+      → (stepOf (sheetOf s) t m .answer ≡ Accepted) ⊎ ((stepOf (sheetOf s) t m .answer ≡ Refused 21 0) × (putImages x t m ≡ none))
+  -- "as To, Son and Pontelli define it", for tables: the new entries are min of the images of the pieces (source 001, Definition 4)
+  pub step-least : (t : Table) (m : ℕ) → stepOf (sheetOf s) t m .answer ≡ Accepted → (d : Literals)
+      → List·Memᴰ d (entries (stepOf (sheetOf s) t m .table)) ↔ Least (images x t m) d
   -- the first table stands for exactly the starting worlds
   pub start : startOf (sheetOf s) .answer ≡ Accepted → (w : ℕ) → WorldOf x (startOf (sheetOf s) .table) w ↔ Starts (x .problem) w
   -- and where there is one, the start fails only where a table fills
   pub start-else : (w : ℕ) → Starts (x .problem) w → (startOf (sheetOf s) .answer ≡ Accepted) ⊎ (startOf (sheetOf s) .answer ≡ Refused 21 0)
 
--- ---- runs: "On a sheet with a starting world, a run that fills no table is …"
+-- ---- runs: "On a sheet with a starting world, a run that fills no table is …"; short and stopped name such a world themselves
 pub record RunWorlds (s : List ℕ) (x : Statement) : Type 0 where
   -- ""reached" exactly when every starting world takes every move and ends in the goal"
   pub reached : (w : ℕ) → Starts (x .problem) w → (rows : ℕ) → 65 ≤ rows → runFull (runOf (sheetOf s) rows) ≡ false
       → (runOf (sheetOf s) rows .verdict ≡ ran.Reached) ↔ Solves (x .problem) (x .plan)
   -- short exactly when each takes every move and some ends outside
-  pub short : (w : ℕ) → Starts (x .problem) w → (rows : ℕ) → 65 ≤ rows → runFull (runOf (sheetOf s) rows) ≡ false → let p = x .problem in
+  pub short : (rows : ℕ) → 65 ≤ rows → runFull (runOf (sheetOf s) rows) ≡ false → let p = x .problem in
       (runOf (sheetOf s) rows .verdict ≡ ran.Short)
       ↔ (Every (p .n) (Starting p) Ends (actionsOf p (x .plan)) × Some (p .n) (Starting p) (Outside (p .n) (p .goal)) (actionsOf p (x .plan)))
   -- stopped exactly at the first move that some world cannot take, by 24 where one then lacks the precondition, else 25
-  pub stopped : (w : ℕ) → Starts (x .problem) w → (rows : ℕ) → 65 ≤ rows → runFull (runOf (sheetOf s) rows) ≡ false
+  pub stopped : (rows : ℕ) → 65 ≤ rows → runFull (runOf (sheetOf s) rows) ≡ false
       → (k N : ℕ) → (runOf (sheetOf s) rows .verdict ≡ ran.Stopped k N) ↔ StopsAt (x .problem .n) (Starting (x .problem)) (actionsOf (x .problem) (x .plan)) k N
   -- "which steps every world through all of them": whatever the verdict, every starting world takes the moves taken
   pub takes-all : (rows : ℕ) → runRefused (runOf (sheetOf s) rows) ≡ false
@@ -273,9 +299,11 @@ pub record RunWorlds (s : List ℕ) (x : Statement) : Type 0 where
 
 -- ---- searches, to a limit of at most 8; the run of a plan q is the call run on the sheet that carries q
 pub record SearchFinds (s : List ℕ) (x : Statement) : Type 0 where
-  -- that sheet is accepted, for every plan of the sheet's moves
+  -- that sheet is accepted, for every plan of up to 64 of the sheet's moves
   pub carried : (q : List ℕ) → PlanOf (length (x .problem .actions)) 64 q
       → Says (encode (record { problem = x .problem; plan = q })) (record { problem = x .problem; plan = q })
+  -- "the sheet's plan is ignored"
+  pub plan-ignored : (r : List ℕ) (y : Statement) → SamePlanSheet s r x y → (limit : ℕ) → searchOf (sheetOf r) limit ≡ searchOf (sheetOf s) limit
   -- "The search gives the first shortest such run"
   pub reached : (limit : ℕ) → limit ≤ 8 → (q : List ℕ)
       → ((searchOf (sheetOf s) limit .kind ≡ kind.Reached) × (planFound (searchOf (sheetOf s) limit) ≡ q)) ↔ FirstRun (x .problem) limit q ran.Reached
@@ -286,16 +314,16 @@ pub record SearchFinds (s : List ℕ) (x : Statement) : Type 0 where
   pub full : (limit : ℕ) → limit ≤ 8 → (q : List ℕ) (k : ℕ)
       → ((searchOf (sheetOf s) limit .kind ≡ kind.Full k) × (planFound (searchOf (sheetOf s) limit) ≡ q)) ↔ FirstRun (x .problem) limit q (ran.Full k)
   -- which is the length of its plan
-  pub full-at-end : (limit k : ℕ) → searchOf (sheetOf s) limit .kind ≡ kind.Full k → k ≡ searchOf (sheetOf s) limit .length
-  -- the same by worlds: a plan found takes every starting world to the goal, and each earlier plan fails for some
-  pub found-worlds : (limit : ℕ) → searchOf (sheetOf s) limit .kind ≡ kind.Reached
-      → Solves (x .problem) (planFound (searchOf (sheetOf s) limit))
-      × ((r : List ℕ) → PlanOf (length (x .problem .actions)) limit r → Earlier r (planFound (searchOf (sheetOf s) limit)) → Spoiled (x .problem) r)
-  -- and the first plan that does so is found, if there is a starting world and neither its run nor an earlier one is full
-  pub worlds-found : (w : ℕ) → Starts (x .problem) w → (limit : ℕ) → limit ≤ 8
-      → (q : List ℕ) → PlanOf (length (x .problem .actions)) limit q → runFull (runWith (x .problem) q) ≡ false → Solves (x .problem) q
-      → ((r : List ℕ) → PlanOf (length (x .problem .actions)) limit r → Earlier r q → (runFull (runWith (x .problem) r) ≡ false) × Spoiled (x .problem) r)
-      → (searchOf (sheetOf s) limit .kind ≡ kind.Reached) × (planFound (searchOf (sheetOf s) limit) ≡ q)
+  pub full-at-end : (limit : ℕ) → limit ≤ 8 → (k : ℕ) → searchOf (sheetOf s) limit .kind ≡ kind.Full k → k ≡ searchOf (sheetOf s) limit .length
+  -- the same by worlds: the plan found is the first within the limit that takes every starting world to the goal; each earlier one fails for
+  -- some; there is a starting world, and no run up to that plan is full
+  pub reached-worlds : (limit : ℕ) → limit ≤ 8 → (q : List ℕ)
+      → ((searchOf (sheetOf s) limit .kind ≡ kind.Reached) × (planFound (searchOf (sheetOf s) limit) ≡ q))
+      ↔ (((w : ℕ) × Starts (x .problem) w) × PlanOf (length (x .problem .actions)) limit q × (runFull (runWith (x .problem) q) ≡ false) × Solves (x .problem) q
+      × ((r : List ℕ) → PlanOf (length (x .problem .actions)) limit r → Earlier r q → (runFull (runWith (x .problem) r) ≡ false) × Spoiled (x .problem) r))
+  -- every plan before one that is full fails for some starting world
+  pub full-worlds : (limit : ℕ) → limit ≤ 8 → (k : ℕ) → searchOf (sheetOf s) limit .kind ≡ kind.Full k
+      → (r : List ℕ) → PlanOf (length (x .problem .actions)) limit r → Earlier r (planFound (searchOf (sheetOf s) limit)) → Spoiled (x .problem) r
   -- none exactly if every plan within the limit fails for some starting world, and no run is full
   pub nothing-worlds : (limit : ℕ) → limit ≤ 8
       → (searchOf (sheetOf s) limit .kind ≡ kind.Nothing)
@@ -333,13 +361,13 @@ pub record ExchangeDemand (f : ℕ → Action) : Type 0 where
 
 -- ---- the run and the final picture of one plan
 pub record FinalDemand (s : List ℕ) (x : Statement) : Type 0 where
-  -- "each made in the plan that the one before left": what exchanges leave is a plan on that sheet
+  -- what exchanges leave of a sheet's plan is again a plan on that sheet
   pub exchanged : (ks : List ℕ) → (r : List ℕ) × (y : Statement) × SamePlanSheet s r x y × (y .plan ≡ exchanges (actionAt (x .problem)) ks (x .plan))
   -- "It is full if that call gives 21. A refused run has none": else there is a final picture
   pub no-picture : (rows : ℕ) → (finalOf s rows ≡ none)
       ↔ ((runRefused (runOf (sheetOf s) rows) ≡ true) ⊎ (pictureOf (sheetOf s) (runOf (sheetOf s) rows .table) 2050 .answer ≡ Refused 21 0))
-  -- "what the picture call writes for the table that the run returns": any longer buffer gets the same bytes
-  pub written : (rows : ℕ) (b : List ℕ) → finalOf s rows ≡ some b → (buffer : List ℕ) → 2050 ≤ length buffer
+  -- "what the picture call writes for the table that the run returns", into any buffer that it fits into
+  pub written : (rows : ℕ) (b : List ℕ) → finalOf s rows ≡ some b → (buffer : List ℕ) → length b ≤ length buffer
       → bufferOf (sheetOf s) (runOf (sheetOf s) rows .table) buffer ≡ b ++ drop (length b) buffer
 
 -- ---- two plans on one sheet
@@ -360,7 +388,7 @@ pub record TwoPlans (s₁ s₂ : List ℕ) (x y : Statement) : Type 0 where
   pub pictures-worlds : (rows₁ rows₂ : ℕ) (b₁ b₂ : List ℕ) → finalOf s₁ rows₁ ≡ some b₁ → finalOf s₂ rows₂ ≡ some b₂
       → (b₁ ≡ b₂) ↔ ((v : ℕ) → v < 2 ^ x .problem .n → Becomes s₁ x rows₁ v ↔ Becomes s₂ y rows₂ v)
 
--- ---- all this can be met: two plans on one sheet, one list of exchanges from the other, both reached, with final pictures
+-- ---- what demand 3 asks for can be met: two plans on one sheet, one list of exchanges from the other, both reached, with final pictures
 pub record Met (s₁ s₂ : List ℕ) (ks : List ℕ) : Type 0 where
   pub first : Statement
   pub second : Statement

@@ -8,10 +8,10 @@ pub mod Weak
 pub mod Places
 pub mod Meaning
 pub mod Demand3
-pub mod DemandWords
-pub mod Demands
 pub mod Order
 pub mod Course
 pub mod Rows
 pub mod Text
 pub mod Walks
+pub mod DemandWords
+pub mod Demands

@@ -1,7 +1,7 @@
 -- What is proved of the sheet layer, over the definition that the contract of `judge` cites (`judgeOf`, by `sheetOf`), for every
 -- list of bytes and with no hypothesis. Read the definitions in specs/ beside them. Each number of the call on its own condition is passed
 -- on from `Faults`, sheets alike in sections 1 to 6 from `Alike`. Assumes nothing.
-use mathlib.Core.Path.{_≡_}
+use mathlib.Core.Path.{_≡_, ap}
 use mathlib.Core.Logic.{_↔_}
 use mathlib.Core.List.{List, _∷_, _++_}
 use Prim.Native.Nat.{ℕ, _+_, _≤_, _<_}
@@ -10,13 +10,14 @@ use Rattle.sheet.specs.declared.Answer.the-variants.{Accepted}
 use Rattle.sheet.specs.Problem.{Statement}
 use Rattle.sheet.specs.Format.{refused, sheetOf}
 use Rattle.sheet.specs.Encoding.{ProperStatement, encode}
-use Rattle.sheet.specs.Calls.{judgeOf}
+use Rattle.sheet.specs.Calls.{answerOf, judgeOf}
 use Rattle.sheet.specs.Faults.{Says}
 use Rattle.sheet.proofs.Judging as J
 use Rattle.sheet.proofs.Encoded as E
 use Rattle.sheet.proofs.Faults as F
 pub use Rattle.sheet.proofs.Faults.{judge-says, judge-refuses, judge-refused, judge-numbers, judge-1, judge-2, judge-3, judge-4, judge-5, judge-6, judge-7}
 pub use Rattle.sheet.proofs.Alike.{alike}
+pub use Rattle.sheet.proofs.LiteralTests.{within-iff, consistent-iff, meets-iff, state-iff}
 
 -- ---- TH1 (a): accepted exactly for the encodings of statements within document 01's ranges and list rules; these are unique, and
 -- no longer than 3,711 bytes. So an accepted sheet's literal sets are consistent and below n, its counts in range, and its plan's
@@ -37,8 +38,8 @@ statement-proper s x e = accepted-encoding s x .0 e .0
 pub encoding-unique : (x y : Statement) → ProperStatement x → ProperStatement y → encode x ≡ encode y → x ≡ y
 encoding-unique = E.encode-unique
 
-pub longest : (s : List ℕ) (x : Statement) → Says s x → length s ≤ 3711
-longest = J.longest
+pub judge-longest : (s : List ℕ) → judgeOf s ≡ Accepted → length s ≤ 3711
+judge-longest s e = let r = F.judge-says s .0 e in J.longest s (r .0) (r .1)
 
 -- ---- TH1 (b): the first fault by the roles of bytes: `judge-refused`, and `judge-1` to `judge-7`
 
@@ -61,3 +62,7 @@ longer = J.longer
 -- ---- TH1 (e): the first 4,096 bytes decide
 pub first-bytes : (s : List ℕ) → sheetOf (take 4096 s) ≡ sheetOf s
 first-bytes = J.first-bytes
+
+pub judge-first : (s : List ℕ) → judgeOf (take 4096 s) ≡ judgeOf s
+unfolding judgeOf
+judge-first s = ap answerOf (J.first-bytes s)

@@ -21,6 +21,7 @@ pub mod SlotLaws
 pub mod Sections
 pub mod Rules
 pub mod Members
+pub mod LiteralTests
 pub mod Faults
 pub mod Alike
 pub mod Demands

@@ -31,7 +31,7 @@ use Rattle.table.specs.Prime.{Exactly}
 use Rattle.table.specs.Slots.{entries, tableOf}
 use Rattle.table.specs.Calls.{startOf, actionAt, stepOf}
 use Rattle.table.specs.PictureCalls.{refusal, tooLong, given, pictureOf}
-use Rattle.table.specs.CallWords.{OnSheet, AsDescribed, Starts, Unsure, Contradictory, Untaken, StartStops, images}
+use Rattle.table.specs.CallWords.{OnSheet, AsDescribed, Starts, Unsure, Contradictory, Untaken, StartStops, putImages}
 use Rattle.table.proofs.Started.{at-proper}
 use Rattle.table.proofs.Demands as tables
 use Rattle.table.proofs.Stepping as stepping
@@ -146,7 +146,7 @@ module _ (s : List ℕ) (x : Statement) (says : Says s x) (t : Table) (m : ℕ) 
           λ k. r .1 (sure (k .0), (k .1 .0, (k .1 .1 .1, (k .1 .1 .0, k .1 .2)))),
         )
 
-    filled : (o ≡ Outcome.refused 21) ↔ ((Unsure x t m → ⊥) × (Contradictory x t m → ⊥) × (images x t m ≡ none))
+    filled : (o ≡ Outcome.refused 21) ↔ ((Unsure x t m → ⊥) × (Contradictory x t m → ⊥) × (putImages x t m ≡ none))
     filled =
         let r = tables.step-21 n (step-hp .n-most) a ha (entries t) fits 128 in (
           λ e. (
@@ -160,13 +160,13 @@ module _ (s : List ℕ) (x : Statement) (says : Says s x) (t : Table) (m : ℕ) 
           ),
         )
 
-    came : (u : List Literals) → o ≡ Outcome.table u → (Unsure x t m → ⊥) × (Contradictory x t m → ⊥) × (images x t m ≡ some u)
+    came : (u : List Literals) → o ≡ Outcome.table u → (Unsure x t m → ⊥) × (Contradictory x t m → ⊥) × (putImages x t m ≡ some u)
     came u e = (not-unsure, λ c. let z : _≡_ {A = ℕ} 0 1 = cc (unclear .1 (not-unsure, c), e) in omega arith, stepping.put-images n (step-hp .n-most) a ha (entries t) (fits .proper) 128 u e .1 .1)
       where
         not-unsure : Unsure x t m → ⊥
         not-unsure k = let z : _≡_ {A = ℕ} 0 1 = cc (unsure .1 k, e) in omega arith
 
-    comes : (Unsure x t m → ⊥) → (Contradictory x t m → ⊥) → (u : List Literals) → images x t m ≡ some u → (v : List Literals) × (o ≡ Outcome.table v)
+    comes : (Unsure x t m → ⊥) → (Contradictory x t m → ⊥) → (u : List Literals) → putImages x t m ≡ some u → (v : List Literals) × (o ≡ Outcome.table v)
     comes f g u e = go (tables.step-kind n (step-hp .n-most) a ha (entries t) fits 128)
       where
         go : (o ≡ Outcome.refused 24) ⊎ ((o ≡ Outcome.refused 25) ⊎ ((o ≡ Outcome.refused 21) ⊎ ((v : List Literals) × (o ≡ Outcome.table v)))) → (v : List Literals) × (o ≡ Outcome.table v)
@@ -191,11 +191,11 @@ module _ (s : List ℕ) (x : Statement) (says : Says s x) (t : Table) (m : ℕ) 
         split (inr e) = inr (number 25 (inr (inl refl)) .1 (on, fits, e))
 
     -- else it fails only where the new table fills
-    pub step-else : (Untaken x t m → ⊥) → (stepOf (sheetOf s) t m .answer ≡ Accepted) ⊎ ((stepOf (sheetOf s) t m .answer ≡ Refused 21 0) × (images x t m ≡ none))
+    pub step-else : (Untaken x t m → ⊥) → (stepOf (sheetOf s) t m .answer ≡ Accepted) ⊎ ((stepOf (sheetOf s) t m .answer ≡ Refused 21 0) × (putImages x t m ≡ none))
     step-else f = go (tables.step-kind n (step-hp .n-most) a ha (entries t) fits 128)
       where
         go : (o ≡ Outcome.refused 24) ⊎ ((o ≡ Outcome.refused 25) ⊎ ((o ≡ Outcome.refused 21) ⊎ ((u : List Literals) × (o ≡ Outcome.table u))))
-            → (stepOf (sheetOf s) t m .answer ≡ Accepted) ⊎ ((stepOf (sheetOf s) t m .answer ≡ Refused 21 0) × (images x t m ≡ none))
+            → (stepOf (sheetOf s) t m .answer ≡ Accepted) ⊎ ((stepOf (sheetOf s) t m .answer ≡ Refused 21 0) × (putImages x t m ≡ none))
         go (inl e) = absurd (f (step-undefined .0 (inl (number 24 (inl refl) .1 (on, fits, e)))))
         go (inr (inl e)) = absurd (f (step-undefined .0 (inr (number 25 (inr (inl refl)) .1 (on, fits, e)))))
         go (inr (inr (inl e))) = inr (number 21 (inr (inr refl)) .1 (on, fits, e), filled .0 e .2)
@@ -214,7 +214,7 @@ module _ (s : List ℕ) (x : Statement) (says : Says s x) (t : Table) (m : ℕ) 
   )
 
   pub step-21 : (stepOf (sheetOf s) t m .answer ≡ Refused 21 0)
-      ↔ (OnSheet x m × AsDescribed x t × (Unsure x t m → ⊥) × (Contradictory x t m → ⊥) × (images x t m ≡ none))
+      ↔ (OnSheet x m × AsDescribed x t × (Unsure x t m → ⊥) × (Contradictory x t m → ⊥) × (putImages x t m ≡ none))
   step-21 = (
     λ e. let k = number 21 (inr (inr refl)) .0 e in let c = filled (k .0) (k .1) .0 (k .2) in (k .0, k .1, c .0, c .1, c .2),
     λ k. number 21 (inr (inr refl)) .1 (k .0, k .1, filled (k .0) (k .1) .1 (k .2, k .3, k .4)),
@@ -222,7 +222,7 @@ module _ (s : List ℕ) (x : Statement) (says : Says s x) (t : Table) (m : ℕ) 
 
   pub step-accepted : (stepOf (sheetOf s) t m .answer ≡ Accepted)
       ↔ (OnSheet x m × AsDescribed x t × (Unsure x t m → ⊥) × (Contradictory x t m → ⊥)
-      × ((u : List Literals) × (images x t m ≡ some u) × (stepOf (sheetOf s) t m .table ≡ tableOf u)))
+      × ((u : List Literals) × (putImages x t m ≡ some u) × (stepOf (sheetOf s) t m .table ≡ tableOf u)))
   step-accepted = (
     λ e.
         let k = tables.step-accepted s x says t m .0 e in

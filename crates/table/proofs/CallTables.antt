@@ -1,7 +1,7 @@
 -- The tables that the calls start and step return on an accepted sheet: as described, unused slots zero, and their worlds. Assumes nothing.
 use mathlib.Core.Path.{_≡_, sym, ap, _∙_}
-use mathlib.Core.List.{List, []}
-use mathlib.Core.Logic.{_↔_}
+use mathlib.Core.List.{List, [], _∷_, List·Memᴰ}
+use mathlib.Core.Logic.{inl, _↔_}
 use mathlib.Core.Option.{some}
 use Prim.Native.Nat.{ℕ, _^_, _≤_, _<_}
 use native.Mathlib.Omega.{arith}
@@ -12,20 +12,24 @@ use Rattle.sheet.specs.declared.Answer.the-variants.{Accepted}
 use Rattle.sheet.specs.Problem.{Action, Problem, Statement}
 use Rattle.sheet.specs.Format.{sheetOf}
 use Rattle.sheet.specs.Faults.{Says}
+use Rattle.sheet.specs.Lists.{All}
+use Rattle.sheet.specs.Literals.{Proper}
 use Rattle.sheet.specs.Encoding.{ProperProblem}
+use Rattle.sheet.proofs.Members.{some-world}
 use Rattle.sheet.proofs.Demands.{statement-proper}
 use Rattle.table.specs.declared.Table.{Table}
 use Rattle.table.specs.declared.Tabled.{Tabled}
-use Rattle.table.specs.Worlds.{stepWorld}
-use Rattle.table.specs.Minimal.{In, Described, Outcome}
+use Rattle.table.specs.Worlds.{stepWorld, Starting}
+use Rattle.table.specs.Minimal.{In, Described, Least, Outcome}
 use Rattle.table.specs.Start.{startTable}
 use Rattle.table.specs.Step.{stepTable}
 use Rattle.table.specs.Slots.{entries, tableOf}
 use Rattle.table.specs.Calls.{orGiven, startOf, actionAt, stepOf}
-use Rattle.table.specs.CallWords.{AsDescribed, ZeroAfter, Starts, WorldOf}
+use Rattle.table.specs.CallWords.{AsDescribed, ZeroAfter, Starts, WorldOf, images}
 use Rattle.table.proofs.Pads.{entriesOf-pad}
 use Rattle.table.proofs.Started.{at-proper}
-use Rattle.table.proofs.Stepping.{step-below}
+use Rattle.table.proofs.Stepping.{step-below, put-images}
+use Rattle.table.proofs.ClausePut.{put-least}
 use Rattle.table.proofs.Demands as tables
 
 -- ---- a table in its slots
@@ -69,6 +73,14 @@ module _ (s : List ℕ) (x : Statement) (says : Says s x) where
     λ h. (h .0, tables.start-table p hp 128 (started e .0) (started e .1) .1 w (h .0) .1 (h .1)),
   )
 
+  -- an accepted start has a starting world
+  pub start-some : (t : List Literals) → startTable 128 (x .problem) ≡ Outcome.table t → (w : ℕ) × Starts (x .problem) w
+  start-some t e = go t (start-described t e .least) (start-described t e .proper) (tables.start-table p hp 128 t e .1)
+    where
+      go : (u : List Literals) → 1 ≤ length u → All (Proper (p .n)) u → ((w : ℕ) → w < 2 ^ p .n → In (p .n) u w ↔ Starting p w) → (w : ℕ) × Starts p w
+      go [] l h f = absurd (omega arith)
+      go (d ∷ u) l h f = let k = some-world (p .n) d (h .0) in (k .0, (k .1 .0, f (k .0) (k .1 .0) .0 (inl (k .1 .1))))
+
   -- the step
   module _ (t : Table) (m : ℕ) where
     abbrev a : Action
@@ -99,3 +111,9 @@ module _ (s : List ℕ) (x : Statement) (says : Says s x) where
         λ h. (let k = law .1 v (h .0) .0 (h .1) in (k .0, (k .1 .1 .0, k .1 .0), k .1 .1 .1)),
         λ h. (let l = step-below (p .n) a (at-proper p hp m on-sheet) (h .0) v (h .1 .0) (h .2) in (l, law .1 v l .1 (h .0, (h .1 .1, (h .1 .0, h .2))))),
       )
+
+      -- its entries are the least images of the pieces
+      pub step-least : (d : Literals) → List·Memᴰ d (entries (stepOf (sheetOf s) t m .table)) ↔ Least (images x t m) d
+      step-least d = rw (stepped-to e .2, entries-table (stepped-to e .0) (law .0 .most))
+          (put-least 128 (images x t m) (stepped-to e .0)
+          (put-images (p .n) (hp .n-most) a (at-proper p hp m on-sheet) (entries t) (was .proper) 128 (stepped-to e .0) (stepped-to e .1) .1 .1) d)

@@ -1,6 +1,6 @@
 -- Lists of clauses by their members: what `unions` makes, and what stays of clauses that are put. Assumes nothing.
 use mathlib.Core.Path.{_≡_, refl, sym, _∙_, subst}
-use mathlib.Core.Logic.{_⊎_, inl, inr}
+use mathlib.Core.Logic.{_⊎_, inl, inr, _↔_}
 use mathlib.Core.Bool.{Bool, not}
 use mathlib.Core.Option.{Option, none, some, Option·some-injective, Option·none-ne-some}
 use mathlib.Core.List.{List, [], _∷_, _++_, map, List·Memᴰ, List·Memᴰ·head, List·Memᴰ·tail, List·Memᴰ·not-nil, List·Memᴰ·cases-cons, Memᴰ·cast, Memᴰ·map, Memᴰ·of-map}
@@ -14,9 +14,9 @@ use Rattle.sheet.proofs.ListFacts.{any-map, any-append-l, any-append-r, any-tes
 use Rattle.sheet.proofs.LiteralSets.{within-antisym}
 use Rattle.sheet.proofs.Members.{any-member, all-members, any-passed, within-refl, within-trans}
 use Rattle.table.specs.Worlds.{andThen}
-use Rattle.table.specs.Minimal.{Antichain, put, putAll}
+use Rattle.table.specs.Minimal.{Antichain, put, putAll, Least}
 use Rattle.table.specs.Picture.{unions}
-use Rattle.table.proofs.PutLaws.{others, Placed, put-cases, put-all-all}
+use Rattle.table.proofs.PutLaws.{others, Placed, put-cases, put-all-all, put-all-antichain}
 
 -- ---- equal sets
 
@@ -147,3 +147,21 @@ module _ (x : Literals) where
 pub put-covers : (cap : ℕ) (cs r : List Literals) → putAll cap cs [] ≡ some r → (x : Literals) → List·Memᴰ x cs → (y : Literals) × List·Memᴰ y r × T (within y x)
 put-covers cap cs r e x m =
     some-member (λ y. T (within y x)) r (put-all-inside x cap cs [] r e (inr (any-member (λ y. T (within y x)) cs x m (within-refl x))))
+
+-- and the new list is the least candidates (source document 001, Definition 1)
+pub put-least : (cap : ℕ) (cs r : List Literals) → putAll cap cs [] ≡ some r → (d : Literals) → List·Memᴰ d r ↔ Least cs d
+put-least cap cs r e d = (there, back)
+  where
+    there : List·Memᴰ d r → Least cs d
+    there m = (put-from cap cs r e d m, least)
+      where
+        least : (c : Literals) → List·Memᴰ c cs → T (within c d) → c ≡ d
+        least c k t =
+            let y = put-covers cap cs r e c k in
+            let q = antichain-equal r (put-all-antichain cap cs [] r e tt) (y .0) d (y .1) m (within-trans (y .0) c d (y .2) t) in
+            within-equal c d t (subst (λ (z : Literals). T (within z c)) q (y .2))
+
+    back : Least cs d → List·Memᴰ d r
+    back h =
+        let y = put-covers cap cs r e d (h .0) in
+        Memᴰ·cast (sym (h .1 (y .0) (put-from cap cs r e (y .0) (y .1)) (y .2))) (y .1)

@@ -56,6 +56,10 @@ Untaken x t m = (w : ℕ) × WorldOf x t w × (stepWorld (x .problem .n) (action
 abbrev pub StartStops : Problem → Option (List Literals) → Type 0
 StartStops p o = Stops 128 o (clausesOf p) (p .known ∷ [])
 
--- the images of the pieces, put in working order into a new table; none: it fills
-abbrev pub images : Statement → Table → ℕ → Option (List Literals)
-images x t m = putAll 128 (map (image (actionAt (x .problem) m .effects)) (collect (pieces (actionAt (x .problem) m .effects)) (entries t))) []
+-- the images of the pieces of a table by move m, in working order
+abbrev pub images : Statement → Table → ℕ → List Literals
+images x t m = map (image (actionAt (x .problem) m .effects)) (collect (pieces (actionAt (x .problem) m .effects)) (entries t))
+
+-- and put in that order into a new table; none: it fills
+abbrev pub putImages : Statement → Table → ℕ → Option (List Literals)
+putImages x t m = putAll 128 (images x t m) []

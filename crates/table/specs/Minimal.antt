@@ -1,7 +1,8 @@
 -- Tables as lists of entries (source document 001, Definition 1: minimal DNF-states), and how a candidate is put.
 -- An entry is a partial state: it stands for every world that has its literals.
+use mathlib.Core.Path.{_≡_}
 use mathlib.Core.Bool.{Bool, true, false, not, _&&_, _||_}
-use mathlib.Core.List.{List, [], _∷_, _++_}
+use mathlib.Core.List.{List, [], _∷_, _++_, List·Memᴰ}
 use mathlib.Core.Option.{Option, none, some}
 use Prim.Native.Nat.{ℕ, _≤_}
 use lib.Dec.{T, eqb, leb}
@@ -61,6 +62,10 @@ put cap t c = putNew (anyOf (λ e. within e c) t) cap t c
 abbrev pub putAll : ℕ → List Literals → List Literals → Option (List Literals)
 putAll cap [] t = some t
 putAll cap (c ∷ cs) t = andThen (put cap t c) (λ u. putAll cap cs u)
+
+-- d is in min of the candidates cs (Definition 1): it is one of them, and no other lies in it
+abbrev pub Least : List Literals → Literals → Type 0
+Least cs d = List·Memᴰ d cs × ((c : Literals) → List·Memᴰ c cs → T (within c d) → c ≡ d)
 
 -- ---- a table, or a refusal by its number
 pub data Outcome : Type 0 where
