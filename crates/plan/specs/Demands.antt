@@ -4,8 +4,9 @@
 -- A demand is a record; its fields are the sentences, put in groups, one record to a call, so that what a group speaks of is said once: the
 -- bytes s, which say x (`Says s x`: they are accepted as the sheet of x), a table t, a move m, rows, a limit. These are any; a field says what
 -- else it takes. Proved in proofs/Demands.
--- Words, in reading order: sheet/specs/Literals, Problem, Form, Format, Encoding, Calls, Faults; table/specs/Worlds, Minimal, Slots, Start,
--- Step, Picture, Prime, Calls, PictureCalls, CallWords; Run, Cases, Calls, Meaning, Order, Exchange, Demand3, DemandWords beside this page.
+-- Words, in reading order: sheet/specs/Lists, Literals, Problem, Form, Format, Encoding, Calls, Faults; table/specs/Worlds, Minimal, Slots,
+-- Start, Step, Picture, Prime, Calls, PictureCalls, CallWords; beside this page Run, Search, Cases, Calls, Meaning, Order, Exchange, Demand3,
+-- DemandWords.
 -- The program `check` prints what `report` writes (specs/Text), by the same run; of it the page has only the output that document 01 shows.
 use mathlib.Core.Path.{_≡_}
 use mathlib.Core.Bool.{Bool, true, false, not, _&&_, _||_}
