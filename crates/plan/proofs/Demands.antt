@@ -30,7 +30,7 @@ use Rattle.plan.proofs.ExchangeMet as example
 use Rattle.plan.proofs.PaperRuns as printed
 use Rattle.plan.proofs.TextExamples as text
 
--- ---- demand 1
+-- ---- the groups of demand 1
 masks : MaskDemand
 masks = record { lies-in = sheets.within-iff; no-pair = sheets.consistent-iff; has-true = sheets.meets-iff; world = sheets.state-iff }
 
@@ -114,21 +114,7 @@ back s = record {
   unread = λ t u e. (unread.step-unread t u e (sheetOf s), unread.picture-unread t u e (sheetOf s), unread.buffer-unread t u e (sheetOf s));
 }
 
-pub demand-1 : Demand1
-demand-1 = record {
-  masks = masks;
-  judge = judge;
-  fault = called.fault-first;
-  start = start;
-  step = step;
-  picture = picture;
-  run = run;
-  search = search;
-  back = back;
-  output = text.paper-output;
-}
-
--- ---- demand 2
+-- ---- the groups of demand 2
 equations : PaperDemand
 equations = record {
   equation-1 = paper.results-are;
@@ -169,10 +155,7 @@ search-finds s x says = record {
   nothing-worlds = searches.none-worlds s x says;
 }
 
-pub demand-2 : Demand2
-demand-2 = record { paper = equations; tables = table-worlds; runs = run-worlds; searches = search-finds }
-
--- ---- demand 3
+-- ---- the groups of demand 3
 exchange : (f : ℕ → Action) → ExchangeDemand f
 exchange f = record {
   touching = touching.touching;
@@ -196,6 +179,24 @@ two-plans s₁ s₂ x y same = record {
   exchange-pictures = λ w st ks e rows₁ rows₂. exchanges.exchange-pictures s₁ s₂ x y same rows₁ rows₂ w st ks e;
   pictures-worlds = exchanges.pictures-worlds s₁ s₂ x y same;
 }
+
+-- ---- the three demands
+pub demand-1 : Demand1
+demand-1 = record {
+  masks = masks;
+  judge = judge;
+  fault = called.fault-first;
+  start = start;
+  step = step;
+  picture = picture;
+  run = run;
+  search = search;
+  back = back;
+  output = text.paper-output;
+}
+
+pub demand-2 : Demand2
+demand-2 = record { paper = equations; tables = table-worlds; runs = run-worlds; searches = search-finds }
 
 pub demand-3 : Demand3
 demand-3 = record {
