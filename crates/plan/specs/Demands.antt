@@ -70,7 +70,7 @@ pub record JudgeDemand (s : List ℕ) : Type 0 where
   pub accepted : (judgeOf s ≡ Accepted) ↔ ((x : Statement) × ProperStatement x × (s ≡ encode x))
   -- and then they say that statement
   pub says : (x : Statement) → Says s x ↔ (ProperStatement x × (s ≡ encode x))
-  -- "with the number of its first fault": else refused with the number and position of the first byte that breaks the rule of its role
+  -- "with the number of its first fault": else refused with the number and position of the first place where the rule of what is due is broken
   pub refused : (k p : ℕ) → (judgeOf s ≡ Refused k p) ↔ FirstFault s k p
   -- no other number than these seven
   pub numbers : (k p : ℕ) → judgeOf s ≡ Refused k p → (1 ≤ k) × (k ≤ 7)
@@ -246,7 +246,7 @@ pub record Demand1 : Type 0 where
 -- shortest such run, or "none" exactly when there is none within its limit, unless an earlier run fills the table, which it names. … the
 -- published definition must carry this and not our turret."
 
--- ---- "as To, Son and Pontelli define it": the step of a world is source 000's, for every move over n propositions, every state and world
+-- ---- "as To, Son and Pontelli define it": the step of a world is source 000's, for every move within the sheet's ranges (`ProperAction`)
 pub record PaperDemand : Type 0 where
   -- equation (1): e(a, state) is the set of literals of the results whose conditions hold in the state d
   pub equation-1 : (es : List Effect) (d : Literals) (sign : Bool) (p : ℕ)
@@ -271,7 +271,8 @@ pub record TableWorlds (s : List ℕ) (x : Statement) : Type 0 where
   -- "else it fails only where the new table fills"
   pub step-else : (t : Table) (m : ℕ) → OnSheet x m → AsDescribed x t → (Untaken x t m → ⊥)
       → (stepOf (sheetOf s) t m .answer ≡ Accepted) ⊎ ((stepOf (sheetOf s) t m .answer ≡ Refused 21 0) × (putImages x t m ≡ none))
-  -- "as To, Son and Pontelli define it", for tables: the new entries are min of the images of the pieces (source 001, Definition 4)
+  -- for tables: the new entries are min of the images of the pieces, as in source 001, Definition 4; but the pieces are document 01's, without
+  -- the min that 001 takes between conditions
   pub step-least : (t : Table) (m : ℕ) → stepOf (sheetOf s) t m .answer ≡ Accepted → (d : Literals)
       → List·Memᴰ d (entries (stepOf (sheetOf s) t m .table)) ↔ Least (images x t m) d
   -- the first table stands for exactly the starting worlds
