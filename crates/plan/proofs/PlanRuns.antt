@@ -12,6 +12,7 @@ use Rattle.sheet.specs.Lists.{allOf, pad}
 use Rattle.sheet.specs.Problem.{Action}
 use Rattle.sheet.specs.Decoded.{planIn}
 use Rattle.sheet.specs.Rows.{setsRow}
+use Rattle.sheet.proofs.ListFacts.{all-at}
 use Rattle.sheet.proofs.Prefixes.{part-step, part-end}
 use Rattle.table.specs.declared.Table.{Table}
 use Rattle.table.specs.declared.Tabled.{Tabled}
@@ -22,7 +23,6 @@ use Rattle.table.specs.Step.{stepTable}
 use Rattle.table.specs.Slots.{entriesOf, entries}
 use Rattle.table.specs.Calls.{orGiven}
 use Rattle.table.specs.Moves.{lent, tabled}
-use Rattle.table.proofs.Started.{all-at}
 use Rattle.plan.specs.declared.Row.{Row}
 use Rattle.plan.specs.declared.Counts.{Counts}
 use Rattle.plan.specs.declared.Course.{Course}

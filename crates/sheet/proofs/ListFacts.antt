@@ -4,9 +4,11 @@ use mathlib.Core.Path.{_≡_, refl, ap}
 use mathlib.Core.Bool.{Bool, true, false, not}
 use mathlib.Core.List.{List, [], _∷_, _++_, map}
 use mathlib.Core.Logic.{_⊎_, inl, inr}
-use Prim.Native.Nat.{ℕ, zero, suc}
+use Prim.Native.Nat.{ℕ, zero, suc, _<_}
+use native.Mathlib.Nat.{not-suc-le-zero, le-of-suc-le-suc}
+use native.Mathlib.Omega.{arith}
 use lib.Dec.{T}
-use lib.ListN.{take, drop}
+use lib.ListN.{length, getD, take, drop}
 use Rattle.sheet.specs.Lists.{Any, All, anyOf, allOf, addIf, keep, collect}
 use Rattle.sheet.proofs.Bools.{true-T, false-T, and-l, and-r, and-in, and-not, or-out, or-not-l, or-not-r}
 
@@ -65,6 +67,16 @@ module _ {A : Type 0} where
   pub all-parts : (P : A → Type 0) (xs ys : List A) → All P (xs ++ ys) → All P xs × All P ys
   all-parts P [] ys k = (tt, k)
   all-parts P (x ∷ xs) ys k = let r = all-parts P xs ys (k .1) in ((k .0, r .0), r .1)
+
+  -- a member of a list has what all have, and what each has all have
+  pub all-at : (P : A → Type 0) (xs : List A) (i : ℕ) (e : A) → i < length xs → All P xs → P (getD xs i e)
+  all-at P [] i e h p = absurd (not-suc-le-zero h)
+  all-at P (x ∷ xs) zero e h p = p .0
+  all-at P (x ∷ xs) (suc i) e h p = all-at P xs i e (le-of-suc-le-suc h) (p .1)
+
+  pub all-places : (P : A → Type 0) (xs : List A) (e : A) → ((i : ℕ) → i < length xs → P (getD xs i e)) → All P xs
+  all-places P [] e f = tt
+  all-places P (x ∷ xs) e f = (f 0 (omega arith), all-places P xs e (λ i h. f (suc i) (omega arith)))
 
   -- tests
   pub any-test : (f : A → Bool) (xs : List A) → T (anyOf f xs) → Any (λ x. T (f x)) xs

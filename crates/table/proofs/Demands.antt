@@ -1,23 +1,32 @@
 -- The theorems about tables: putting, the start (TH2), the step (TH3), each number on its own condition (TH4), the picture (TH8), the test
--- of a table, contradictory results by pairs. TH4 and TH8 are passed on from `Answers`, `PictureAnswers` and `Pictures`. Assumes nothing.
-use mathlib.Core.Path.{_≡_}
-use mathlib.Core.Bool.{true, not}
+-- of a table, contradictory results by pairs, and the requests that specs/Demands states (W3: the test of a candidate). TH4 and TH8 are
+-- passed on from `Answers`, `PictureAnswers` and `Pictures`. Assumes nothing.
+use mathlib.Core.Path.{_≡_, refl, sym}
+use mathlib.Core.Bool.{true, false, not}
 use mathlib.Core.List.{List, [], _∷_, map}
 use mathlib.Core.Logic.{_⊎_, _↔_}
 use mathlib.Core.Option.{none, some}
 use Prim.Native.Nat.{ℕ, _^_, _≤_, _<_}
 use lib.Dec.{T}
+use lib.ListN.{length, getD}
+use borrow.Author.Tests.{eq-eqb, ne-eqb}
 use Rattle.sheet.specs.declared.Literals.{Literals}
 use Rattle.sheet.specs.declared.Effect.{Effect}
-use Rattle.sheet.specs.Literals.{within, consistent, state, Proper}
-use Rattle.sheet.specs.Lists.{All, allOf, collect}
+use Rattle.sheet.specs.Literals.{noLiteral, within, consistent, state, Proper}
+use Rattle.sheet.specs.Lists.{All, anyOf, allOf, collect}
 use Rattle.sheet.specs.Problem.{Action, Problem}
 use Rattle.sheet.specs.Encoding.{ProperEffect, ProperAction, ProperProblem}
+use Rattle.table.specs.declared.slots.Found.the-variants.{At, Nothing}
+use Rattle.table.specs.declared.slots.Fate.the-variants.{Dropped}
 use Rattle.table.specs.Worlds.{results, stepWorld, Starting}
 use Rattle.table.specs.Minimal.{In, Antichain, Described, described, put, putAll, refused, table}
 use Rattle.table.specs.Start.{clausesOf, startTable, Stops}
 use Rattle.table.specs.Step.{pieces, image, stepTable}
 use Rattle.table.specs.Pairs.{contradicts}
+use Rattle.table.specs.Slots.{lastWithin, left, fateOf}
+use Rattle.table.specs.Demands.{RequestW3}
+use Rattle.table.proofs.Scan as scan
+use Rattle.table.proofs.PutSlots as slots
 use Rattle.table.proofs.PutLaws as putting
 use Rattle.table.proofs.Stepping as stepping
 use Rattle.table.proofs.Starting as starting
@@ -101,3 +110,33 @@ module _ (n : ℕ) (hn : n ≤ 32) (a : Action) (ha : ProperAction n a) (t : Lis
 pub pairs-contradict : (n : ℕ) → n ≤ 32 → (es : List Effect) → All (ProperEffect n) es → (d : Literals) → Proper n d
     → not (contradicts es d) ≡ allOf (λ q. consistent (results es q)) (pieces es d)
 pairs-contradict = pairs.pairs-contradict
+
+-- ---- W3: the test of a candidate, from the last entry to the first
+-- by whether some entry lies in the candidate
+found : (t : List Literals) (c : Literals) (i : ℕ) → lastWithin t c ≡ At i → anyOf (λ e. within e c) t ≡ true
+found t c i e = scan.found-some (λ e. within e c) t (At i) i (sym e) refl
+
+unfound : (t : List Literals) (c : Literals) → lastWithin t c ≡ Nothing → anyOf (λ e. within e c) t ≡ false
+unfound t c e = scan.found-none (λ e. within e c) t Nothing (sym e) refl
+
+pub last-within : (t : List Literals) (c : Literals) (i : ℕ)
+    → (lastWithin t c ≡ At i)
+    ↔ ((i < length t) × T (within (getD t i noLiteral) c) × ((j : ℕ) → i < j → j < length t → T (not (within (getD t j noLiteral) c))))
+last-within t c = scan.last-at (λ e. within e c) t
+
+pub last-none : (t : List Literals) (c : Literals) → (lastWithin t c ≡ Nothing) ↔ All (λ e. T (not (within e c))) t
+last-none t c = scan.last-none (λ e. within e c) t
+
+-- a candidate is dropped exactly if the test finds an entry
+pub dropped-found : (cap : ℕ) (t : List Literals) (c : Literals) → (fateOf cap t c ≡ Dropped) ↔ ((i : ℕ) × (lastWithin t c ≡ At i))
+dropped-found cap t c = (λ e. scan.some-found (λ e. within e c) t (slots.dropped-within cap t c e), λ h. slots.fate-dropped cap t c (found t c (h .0) (h .1)))
+
+pub request-w3 : (t : List Literals) (c : Literals) → RequestW3 t c
+request-w3 t c = record {
+  last-within = last-within t c;
+  last-none = last-none t c;
+  dropped-found = λ cap. dropped-found cap t c;
+  kept = λ cap i e. slots.put-dropped cap t c (found t c i e);
+  full = λ cap e q. slots.put-full cap t c (unfound t c e) (eq-eqb (length (left t c)) cap q);
+  added = λ cap e q. slots.put-added cap t c (unfound t c e) (ne-eqb (length (left t c)) cap q);
+}

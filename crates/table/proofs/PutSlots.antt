@@ -11,6 +11,7 @@ use borrow.Author.Tests.{eq-eqb, ne-eqb}
 use Rattle.sheet.specs.declared.Literals.{Literals}
 use Rattle.sheet.specs.Literals.{within}
 use Rattle.sheet.specs.Lists.{anyOf}
+use Rattle.sheet.proofs.Bools.{true-T}
 use Rattle.table.specs.declared.slots.Fate.{Fate}
 use Rattle.table.specs.declared.slots.Fate.the-variants.{Dropped, Added, Full}
 use Rattle.table.specs.declared.slots.Grown.{Grown}
@@ -22,6 +23,11 @@ use Rattle.table.proofs.Pads.{length-entriesOf, holds-push, holds-entri
 use Rattle.table.proofs.Compact.{keep-length, keep-all}
 
 -- ---- lists
+
+abbrev is-dropped : Fate → Bool
+is-dropped Dropped = true
+is-dropped (Added r k) = false
+is-dropped Full = false
 
 module _ (cap : ℕ) (es : List Literals) (l : Literals) where
   abbrev pub some-within : Bool
@@ -58,6 +64,15 @@ module _ (cap : ℕ) (es : List Literals) (l : Literals) where
   pub fate-added : some-within ≡ false → no-room ≡ false → fateOf cap es l ≡ added
   unfolding fateOf
   fate-added s q = ap (λ (b : Bool). cond b Dropped (cond no-room Full added)) s ∙ ap (λ (b : Bool). cond b Full added) q
+
+  -- dropped only where some entry lies in the candidate
+  pub dropped-within : fateOf cap es l ≡ Dropped → some-within ≡ true
+  dropped-within e = at some-within no-room refl refl
+    where
+      at : (a b : Bool) → some-within ≡ a → no-room ≡ b → some-within ≡ true
+      at true b p q = p
+      at false true p q = absurd (true-T false (ap is-dropped (sym (fate-full p q) ∙ e)))
+      at false false p q = absurd (true-T false (ap is-dropped (sym (fate-added p q) ∙ e)))
 
   pub after-is : (r : List Literals) (o : Option (List Literals)) → put cap es l ≡ o → orElse es o ≡ r → after cap es l ≡ r
   unfolding after

@@ -14,6 +14,7 @@ use Rattle.sheet.specs.Format.{refused as faulty, sheetOf}
 use Rattle.sheet.specs.Lists.{All, keep, collect, pad}
 use Rattle.sheet.specs.Problem.{Problem}
 use Rattle.sheet.specs.Encoding.{ProperAction, ProperProblem}
+use Rattle.sheet.proofs.ListFacts.{all-at}
 use Rattle.sheet.proofs.SlotLaws.{not-both}
 use Rattle.table.specs.declared.slots.Grown.{Grown}
 use Rattle.table.specs.declared.slots.Grown.the-variants as grown
@@ -28,12 +29,6 @@ use Rattle.table.specs.Moves.{tabled, lent}
 use Rattle.table.specs.Calls.{orGiven, startOf, actionAt}
 use Rattle.table.proofs.Pads.{length-pad, length-entriesOf, holds-trues-long, holds-falses-long, holds-entries, held as held-of}
 use Rattle.table.proofs.PutLaws.{put-all-size}
-
--- a member of a list has what all have
-pub all-at : {A : Type 0} (P : A → Type 0) (xs : List A) (i : ℕ) (e : A) → i < length xs → All P xs → P (getD xs i e)
-all-at P [] i e h p = absurd (not-suc-le-zero h)
-all-at P (x ∷ xs) zero e h p = p .0
-all-at P (x ∷ xs) (suc i) e h p = all-at P xs i e (le-of-suc-le-suc h) (p .1)
 
 -- the moves of a problem are proper
 pub at-proper : (p : Problem) → ProperProblem p → (i : ℕ) → i < length (p .actions) → ProperAction (p .n) (actionAt p i)

@@ -14,3 +14,4 @@ pub mod Counts
 pub mod Calls
 pub mod PictureCalls
 pub mod CallWords
+pub mod Demands

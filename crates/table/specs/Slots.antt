@@ -65,6 +65,10 @@ unfoldable pub lastOf : (Literals → Bool) → List Literals → Found
 lastOf f [] = Nothing
 lastOf f (x ∷ xs) = shifted (f x) (lastOf f xs)
 
+-- the last entry of t whose literals all lie in c (document 02, W3); nothing exactly if there is none
+abbrev pub lastWithin : List Literals → Literals → Found
+lastWithin t c = lastOf (λ e. within e c) t
+
 -- the members that do not contain c
 abbrev pub left : List Literals → Literals → List Literals
 left s c = keep (λ e. not (within c e)) s

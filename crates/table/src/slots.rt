@@ -9,7 +9,7 @@ ghost use lib.Seq.{paste};
 ghost use lib.ListN.{length};
 ghost use Rattle.sheet.specs.Literals as L;
 ghost use Rattle.sheet.specs.Lists.{anyOf};
-ghost use Rattle.table.specs.Slots.{entriesOf, Holds, Held, lastOf, left, after, fateOf, Puts};
+ghost use Rattle.table.specs.Slots.{entriesOf, Holds, Held, lastWithin, left, after, fateOf, Puts};
 
 // The place of an entry, if there is one.
 pub enum Found {
@@ -33,7 +33,7 @@ pub enum Grown {
 // The last of the first n entries whose literals all lie in l.
 pub(crate) fn last_within(trues: &[u32], falses: &[u32], n: usize, l: Literals) -> Found
     requires { ⌜ (n ≤ length (now trues)) × (n ≤ length (now falses)) ⌝ }
-    ensures { λ r. ⌜ r ≡ lastOf (λ e. L.within e l) (entriesOf n (now (trues .entry)) (now (falses .entry))) ⌝ }
+    ensures { λ r. ⌜ r ≡ lastWithin (entriesOf n (now (trues .entry)) (now (falses .entry))) l ⌝ }
 {
     let mut i = n;
     while 0 < i {
