@@ -5,13 +5,13 @@ use mathlib.Core.List.{List, [], _∷_, _++_, map}
 use mathlib.Core.Option.{Option, none, some}
 use native.Mathlib.Nat.{not-suc-le-zero, le-of-suc-le-suc}
 use native.Mathlib.Omega.{arith}
-use lib.ListN.{length, getD, drop, take, replicate, set, length-map, take-append-drop}
+use lib.ListN.{length, drop, take, replicate, set, length-map, take-append-drop}
 use lib.Seq.{paste, take-all, length-take-le}
 use Rattle.sheet.specs.declared.Answer.the-variants.{Accepted, Refused}
 use Rattle.sheet.specs.declared.Literals.{Literals}
 use Rattle.sheet.specs.Literals.{consistent}
 use Rattle.sheet.specs.Format.{refused as faulty, sheetOf}
-use Rattle.sheet.specs.Lists.{All, keep, collect, pad}
+use Rattle.sheet.specs.Lists.{keep, collect, pad}
 use Rattle.sheet.specs.Problem.{Problem}
 use Rattle.sheet.specs.Encoding.{ProperAction, ProperProblem}
 use Rattle.sheet.proofs.ListFacts.{all-at}
