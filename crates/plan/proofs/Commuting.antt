@@ -21,8 +21,7 @@ use Rattle.sheet.proofs.Results.{has-names, named, within-other, replace-join}
 use Rattle.table.specs.Worlds.{addResult, results, takes, after, when, stepWorld, andThen}
 use Rattle.table.proofs.Stepping.{after-world}
 use Rattle.plan.specs.Exchange as spec
-use Rattle.plan.specs.Exchange.{changedBy, readBy, changed, reads, touch}
-use Rattle.plan.specs.Weak.{resultsBy, weakTouch}
+use Rattle.plan.specs.Exchange.{resultsBy, changedBy, readBy, changed, reads, touch, touchAnywhere}
 
 -- ---- masks without a bit in common
 fewer : (a b c : ℕ) → Sub a b → bitAnd b c ≡ 0 → bitAnd a c ≡ 0
@@ -120,9 +119,9 @@ module _ (n : ℕ) (a b : Action) (ha : ProperAction n a) (f : Unseen a b) (w : 
       go true e = ap₂ when (then-takes (true-T (takes n a w) e)) (then-after (true-T (takes n a w) e))
 
 -- the results of a and of b do not clash, and neither reads what the other changes
-weak-parts : (a b : Action) → weakTouch a b ≡ false → (clash (resultsBy (a .effects)) (resultsBy (b .effects)) ≡ false) × Unseen a b × Unseen b a
-unfolding weakTouch
-weak-parts a b h = (
+touch-parts : (a b : Action) → touch a b ≡ false → (clash (resultsBy (a .effects)) (resultsBy (b .effects)) ≡ false) × Unseen a b × Unseen b a
+unfolding touch
+touch-parts a b h = (
   T-false c (or-not-l c (not x || not y) t),
   eqb→eq (bitAnd (changed a) (reads b)) 0 (not-not x (or-not-l (not x) (not y) r)),
   eqb→eq (bitAnd (changed b) (reads a)) 0 (not-not y (or-not-r (not x) (not y) r)),
@@ -143,12 +142,14 @@ weak-parts a b h = (
     r : T (not (not x || not y))
     r = or-not-r c (not x || not y) t
 
-weak-by : (a b : Action) → clash (resultsBy (a .effects)) (resultsBy (b .effects)) ≡ false → Unseen a b → Unseen b a → weakTouch a b ≡ false
-unfolding weakTouch
-weak-by a b c f g = rw (c, eq-eqb (bitAnd (changed a) (reads b)) 0 f, eq-eqb (bitAnd (changed b) (reads a)) 0 g)
+-- moves whose results do not clash, and of which neither reads what the other changes, do not touch
+pub touch-apart : (a b : Action) → clash (resultsBy (a .effects)) (resultsBy (b .effects)) ≡ false
+    → bitAnd (changed a) (reads b) ≡ 0 → bitAnd (changed b) (reads a) ≡ 0 → touch a b ≡ false
+unfolding touch
+touch-apart a b c f g = rw (c, eq-eqb (bitAnd (changed a) (reads b)) 0 f, eq-eqb (bitAnd (changed b) (reads a)) 0 g)
 
 -- two moves that do not touch may change places, in every world
-pub commute : (n : ℕ) (a b : Action) → ProperAction n a → ProperAction n b → weakTouch a b ≡ false → (w : ℕ) → w < 2 ^ n
+pub commute : (n : ℕ) (a b : Action) → ProperAction n a → ProperAction n b → touch a b ≡ false → (w : ℕ) → w < 2 ^ n
     → andThen (stepWorld n a w) (stepWorld n b) ≡ andThen (stepWorld n b w) (stepWorld n a)
 commute n a b ha hb h w l =
     in-turn n a b ha (k .1) w l
@@ -157,7 +158,7 @@ commute n a b ha hb h w l =
     ∙ sym (in-turn n b a hb (k .2) w l)
   where
     k : (clash (resultsBy (a .effects)) (resultsBy (b .effects)) ≡ false) × Unseen a b × Unseen b a
-    k = weak-parts a b h
+    k = touch-parts a b h
 
     x : Literals
     x = state n w
@@ -176,11 +177,11 @@ commute n a b ha hb h w l =
     apart : clash ra rb ≡ false
     apart = of-apart ra rb (λ s p m. go s p m (mem rb (not s) p) refl)
 
--- moves that touch by the weaker test touch
-pub touch-weak : (a b : Action) → touch a b ≡ false → weakTouch a b ≡ false
-unfolding touch spec.named
-touch-weak a b h =
-    weak-by a b (of-apart (resultsBy (a .effects)) (resultsBy (b .effects)) (λ s p m. go s p m (mem (resultsBy (b .effects)) (not s) p) refl))
+-- what does not touch by document 01's wording before W2 does not touch
+pub touch-fewer : (a b : Action) → touchAnywhere a b ≡ false → touch a b ≡ false
+unfolding touchAnywhere spec.named
+touch-fewer a b h =
+    touch-apart a b (of-apart (resultsBy (a .effects)) (resultsBy (b .effects)) (λ s p m. go s p m (mem (resultsBy (b .effects)) (not s) p) refl))
     (part (changed a) (reads b) (changed b) (or-sub-l (reads b) (changed b)) f) (part (changed b) (reads a) (changed a) (or-sub-l (reads a) (changed a)) g)
   where
     x : Bool

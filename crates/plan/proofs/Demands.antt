@@ -1,4 +1,4 @@
--- The three demands, as specs/Demands states them, each proved whole. Assumes nothing.
+-- The three demands and the request W2, as specs/Demands states them, each proved whole. Assumes nothing.
 use mathlib.Core.Path.{_≡_, refl}
 use mathlib.Core.List.{List}
 use Prim.Native.Nat.{ℕ}
@@ -17,13 +17,14 @@ use Rattle.table.proofs.Unread as unread
 use Rattle.plan.specs.Run.{reached, short, stopped}
 use Rattle.plan.specs.Calls.{verdictOf}
 use Rattle.plan.specs.Demand3.{SamePlanSheet}
-use Rattle.plan.specs.Demands.{MaskDemand, JudgeDemand, StartDemand, StepDemand, PictureDemand, RunDemand, SearchDemand, BackDemand, Demand1, PaperDemand, TableWorlds, RunWorlds, SearchFinds, Demand2, ExchangeDemand, FinalDemand, TwoPlans, Demand3}
+use Rattle.plan.specs.Demands.{MaskDemand, JudgeDemand, StartDemand, StepDemand, PictureDemand, RunDemand, SearchDemand, BackDemand, Demand1, PaperDemand, TableWorlds, RunWorlds, SearchFinds, Demand2, ExchangeDemand, FinalDemand, TwoPlans, Demand3, RequestW2}
 use Rattle.plan.proofs.CallAnswers as answers
 use Rattle.plan.proofs.RunAnswers as ran
 use Rattle.plan.proofs.CallDemands as called
 use Rattle.plan.proofs.RunPlaces as places
 use Rattle.plan.proofs.RunDemands as runs
 use Rattle.plan.proofs.SearchDemands as searches
+use Rattle.plan.proofs.Commuting as commuting
 use Rattle.plan.proofs.Touching as touching
 use Rattle.plan.proofs.ExchangeDemands as exchanges
 use Rattle.plan.proofs.ExchangeMet as example
@@ -207,4 +208,15 @@ demand-3 = record {
   met = example.met;
   differ = example.differ;
   met-printed = printed.met;
+}
+
+-- ---- the request W2
+pub request-w2 : RequestW2
+request-w2 = record {
+  before = touching.touch-before;
+  touching = touching.touching;
+  fewer = commuting.touch-fewer;
+  lamp = λ f k a b lamp first rest h pa pb ra rb else. touching.exchange-swaps f k a b first rest h (touching.touch-lamp (f a) (f b) lamp pa pb ra rb else);
+  commute = commuting.commute;
+  exchange = demand-3;
 }

@@ -36,7 +36,7 @@ use Rattle.plan.specs.Meaning.{Comes}
 use Rattle.plan.specs.Exchange.{touch, exchangesBy, exchanges}
 use Rattle.plan.specs.Demand3.{Class, isStopped, classOf, takenBy, runFull, runRefused, finalClauses, finalPicture, SamePlanSheet, SameEnd}
 use Rattle.plan.specs.DemandWords.{taken, Becomes, finalOf}
-use Rattle.plan.proofs.Commuting.{commute, touch-weak}
+use Rattle.plan.proofs.Commuting.{commute}
 use Rattle.plan.proofs.Exchanging.{exchanges-all, exchanges-length, exchanges-world}
 use Rattle.plan.proofs.CallRuns.{called-class, called-both-ways, called, called-unless-full, last-described, last-entries}
 use Rattle.plan.proofs.CallAnswers.{run-back}
@@ -217,8 +217,7 @@ module _ (s₁ s₂ : List ℕ) (x y : Statement) (same : SamePlanSheet s₁ s�
   -- TH7: the second plan is what a list of exchanges makes of the first
   pub exchange-runs : (w : ℕ) → w < 2 ^ σ .n → Starting σ w → (ks : List ℕ) → y .plan ≡ exchanges (actionAt σ) ks (x .plan)
       → runFull run₁ ≡ false → runFull run₂ ≡ false → SameEnd run₁ run₂
-  exchange-runs w l st ks e =
-      exchange-runs-by touch (λ a b ha hb k. commute (σ .n) a b ha hb (touch-weak a b k)) w l st ks e
+  exchange-runs w l st ks e = exchange-runs-by touch (commute (σ .n)) w l st ks e
 
   -- TH9: for any two plans and any verdicts
   pub pictures-both-ways : runRefused run₁ ≡ false → runRefused run₂ ≡ false → (b₁ b₂ : List ℕ) → finalPicture run₁ ≡ some b₁ → finalPicture run₂ ≡ some b₂

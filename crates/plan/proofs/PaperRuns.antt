@@ -22,7 +22,7 @@ use Rattle.plan.specs.declared.Ran.{Ran}
 use Rattle.plan.specs.declared.Verdict.the-variants as ran
 use Rattle.plan.specs.Run.{actionsOf, inGoal, Verdict, reached, runFrom, lastTable}
 use Rattle.plan.specs.Calls.{verdictOf, runOf}
-use Rattle.plan.specs.Exchange.{changed, reads, named, touch, exchanges}
+use Rattle.plan.specs.Exchange.{changed, reads, touch, exchanges}
 use Rattle.plan.specs.Demand3.{refusedVerdict, runRefused, finalClauses, finalPicture}
 use Rattle.plan.specs.Demands.{Met}
 use Rattle.plan.proofs.CallRuns.{run-call}
@@ -50,7 +50,7 @@ unfolding within state
 in-first = tt
 
 stays : exchanges (actionAt (paper .problem)) (1 ∷ []) (paper .plan) ≡ paper .plan
-unfolding actionAt touch named reads changed names
+unfolding actionAt touch clash join noLiteral reads changed names
 stays = refl
 
 -- its run is reached, and its final picture has the three clauses f, ¬g, ¬h

@@ -1,7 +1,7 @@
 -- The words of the page `Demands` about runs, searches and exchanges, by the calls' own definitions and by worlds. Words about sheets and
 -- tables are in sheet/specs/Faults and table/specs/CallWords.
 use mathlib.Core.Path.{_≡_}
-use mathlib.Core.Bool.{true, false}
+use mathlib.Core.Bool.{Bool, true, false, not}
 use mathlib.Core.List.{List, [], _∷_}
 use mathlib.Core.Logic.{_⊎_}
 use mathlib.Core.Option.{Option, none, some}
@@ -108,8 +108,12 @@ pub record FirstRun (p : Problem) (limit : ℕ) (q : List ℕ) (v : case.Verdict
 abbrev pub planFound : Searched → List ℕ
 planFound r = take (r .length) (r .plan)
 
--- ---- moves that touch
--- the proposition q is named in some literals
+-- ---- moves that touch (document 02, W2)
+-- a result of the move is the literal of sign s at the proposition q
+abbrev pub ResultOf : Action → Bool → ℕ → Type 0
+ResultOf a s q = Any (λ e. T (mem (e .result) s q)) (a .effects)
+
+-- q is named in some literals
 abbrev pub Names : Literals → ℕ → Type 0
 Names d q = T (mem d true q) ⊎ T (mem d false q)
 
@@ -117,11 +121,21 @@ Names d q = T (mem d true q) ⊎ T (mem d false q)
 abbrev pub InResult : Action → ℕ → Type 0
 InResult a q = Any (λ e. Names (e .result) q) (a .effects)
 
--- q is named anywhere in the move
-abbrev pub NamedIn : Action → ℕ → Type 0
-NamedIn a q = Names (a .precondition) q ⊎ Any (λ e. Names (e .condition) q ⊎ Names (e .result) q) (a .effects)
+-- q is named in the move's precondition or conditions
+abbrev pub ReadIn : Action → ℕ → Type 0
+ReadIn a q = Names (a .precondition) q ⊎ Any (λ e. Names (e .condition) q) (a .effects)
+
+-- at q a result of one has its complement among the other's results, or q is in a result of one and read in the other
+abbrev pub TouchesAt : Action → Action → ℕ → Type 0
+TouchesAt a b q = ((s : Bool) × ResultOf a s q × ResultOf b (not s) q) ⊎ ((InResult a q × ReadIn b q) ⊎ (InResult b q × ReadIn a q))
+
+-- the move puts q out: that q is false is a result of it, that q is true is none
+abbrev pub PutsOut : Action → ℕ → Type 0
+PutsOut a q = ResultOf a false q × (ResultOf a true q → ⊥)
 
 -- ---- an example
--- two moves that do not touch, one makes proposition 0 true, the other proposition 1; both are the goal; the plan is a, b
-abbrev pub twoMoves : ℕ → ℕ → List ℕ
-twoMoves a b = 2 ∷ 0 ∷ 0 ∷ 0 ∷ 2 ∷ 0 ∷ 1 ∷ 0 ∷ 1 ∷ 0 ∷ 0 ∷ 1 ∷ 0 ∷ 1 ∷ 2 ∷ 2 ∷ 1 ∷ 0 ∷ 1 ∷ 2 ∷ 2 ∷ a ∷ b ∷ []
+-- two moves that both put the lamp out, proposition 2; one makes proposition 0 true, the other proposition 1; the lamp is lit at first, and
+-- all three are the goal; the plan is a, b
+abbrev pub lampSheet : ℕ → ℕ → List ℕ
+lampSheet a b =
+    3 ∷ 1 ∷ 4 ∷ 0 ∷ 0 ∷ 2 ∷ 0 ∷ 1 ∷ 0 ∷ 2 ∷ 0 ∷ 5 ∷ 0 ∷ 1 ∷ 0 ∷ 2 ∷ 2 ∷ 5 ∷ 3 ∷ 1 ∷ 0 ∷ 1 ∷ 2 ∷ 1 ∷ 5 ∷ 2 ∷ a ∷ b ∷ []

@@ -29,7 +29,7 @@ use Rattle.sheet.specs.Calls.{judgeOf}
 use Rattle.sheet.specs.Faults.{Says, FirstFault, ByteDue}
 use Rattle.sheet.specs.Printed.{printed}
 use Rattle.table.specs.declared.Table.{Table}
-use Rattle.table.specs.Worlds.{results, stepWorld, Starting, InGoal}
+use Rattle.table.specs.Worlds.{results, stepWorld, andThen, Starting, InGoal}
 use Rattle.table.specs.Minimal.{In, Least, table}
 use Rattle.table.specs.Start.{clausesOf, growAll}
 use Rattle.table.specs.Picture.{Ascending, picture, pictureBytes}
@@ -46,9 +46,9 @@ use Rattle.plan.specs.Calls.{runOf, rowsAfter, searchOf}
 use Rattle.plan.specs.Text.{ascii, outputOf}
 use Rattle.plan.specs.Meaning.{Ends, Outside, Every, Some, StopsAt}
 use Rattle.plan.specs.Order.{Earlier, PlanOf}
-use Rattle.plan.specs.Exchange.{touch, exchanges}
+use Rattle.plan.specs.Exchange.{touch, touchAnywhere, exchanges}
 use Rattle.plan.specs.Demand3.{Class, classOf, runFull, runRefused, SamePlanSheet}
-use Rattle.plan.specs.DemandWords.{Solves, Spoiled, taken, Becomes, arrived, StepRefused, clausesOr, finalOf, runWith, Misses, FirstRun, planFound, InResult, NamedIn, twoMoves}
+use Rattle.plan.specs.DemandWords.{Solves, Spoiled, taken, Becomes, arrived, StepRefused, clausesOr, finalOf, runWith, Misses, FirstRun, planFound, ReadIn, TouchesAt, PutsOut, lampSheet}
 
 -- ==== Demand 1: "A sheet, table, move or length that document 01 admits is worked through to the answer stated there. Anything else comes
 -- back with the number of its first fault, any table handed in as it was, and every lent byte and row untouched."
@@ -346,8 +346,9 @@ pub record Demand2 : Type 0 where
 
 -- ---- touching moves and exchanges, for any moves f by their numbers
 pub record ExchangeDemand (f : ℕ → Action) : Type 0 where
-  -- "Two moves touch if a proposition in a result of one is named anywhere in the other."
-  pub touching : (a b : Action) → (touch a b ≡ true) ↔ ((q : ℕ) × ((InResult a q × NamedIn b q) ⊎ (InResult b q × NamedIn a q)))
+  -- document 02, W2, in the place of document 01's wording: "two moves touch if a result of one has its complement among the other's results,
+  -- or if a proposition in a result of one is named in the other's precondition or conditions"
+  pub touching : (a b : Action) → (touch a b ≡ true) ↔ ((q : ℕ) × TouchesAt a b q)
   -- "An exchange is a number k from 1. It swaps moves k and k + 1 of the plan it gets"
   pub swaps : (k a b : ℕ) (first rest : List ℕ) → k ≡ length first + 1 → touch (f a) (f b) ≡ false
       → exchanges f (k ∷ []) (first ++ (a ∷ b ∷ rest)) ≡ first ++ (b ∷ a ∷ rest)
@@ -407,9 +408,29 @@ pub record Demand3 : Type 0 where
   pub exchange : (f : ℕ → Action) → ExchangeDemand f
   pub final : (s : List ℕ) (x : Statement) → Says s x → FinalDemand s x
   pub plans : (s₁ s₂ : List ℕ) (x y : Statement) → SamePlanSheet s₁ s₂ x y → TwoPlans s₁ s₂ x y
-  -- by two moves that do not touch, in either order
-  pub met : Met (twoMoves 0 1) (twoMoves 1 0) (1 ∷ [])
+  -- by two moves that both put the lamp out, in either order
+  pub met : Met (lampSheet 0 1) (lampSheet 1 0) (1 ∷ [])
   -- which are two sheets that differ
-  pub differ : twoMoves 0 1 ≡ twoMoves 1 0 → ⊥
+  pub differ : lampSheet 0 1 ≡ lampSheet 1 0 → ⊥
   -- and by document 01's own sheet, whose one move touches itself
   pub met-printed : Met printed printed (1 ∷ [])
+
+-- ==== Request W2 of document 02, "Moves that share the lamp". That "no run or picture changes" is about two versions of the project and no
+-- statement here: docs/changes/W2.md.
+pub record RequestW2 : Type 0 where
+  -- "Every command of the new stand also puts the lamp out, so by the present wording all moves touch": by document 01's wording
+  pub before : (a b : Action) (lamp : ℕ) → PutsOut a lamp → PutsOut b lamp → touchAnywhere a b ≡ true
+  -- "From now on two moves touch if a result of one has its complement among the other's results, or if a proposition in a result of one is
+  -- named in the other's precondition or conditions."
+  pub touching : (a b : Action) → (touch a b ≡ true) ↔ ((q : ℕ) × TouchesAt a b q)
+  -- which are no moves but such as touched before: no exchange is lost
+  pub fewer : (a b : Action) → touchAnywhere a b ≡ false → touch a b ≡ false
+  -- "Two moves that both put the lamp out, don't read it and touch in nothing else may be exchanged."
+  pub lamp : (f : ℕ → Action) (k a b lamp : ℕ) (first rest : List ℕ) → k ≡ length first + 1
+      → PutsOut (f a) lamp → PutsOut (f b) lamp → (ReadIn (f a) lamp → ⊥) → (ReadIn (f b) lamp → ⊥) → ((q : ℕ) → TouchesAt (f a) (f b) q → q ≡ lamp)
+      → exchanges f (k ∷ []) (first ++ (a ∷ b ∷ rest)) ≡ first ++ (b ∷ a ∷ rest)
+  -- what does not touch may be taken in either order: in every world both come to the same world, or both to none
+  pub commute : (n : ℕ) (a b : Action) → ProperAction n a → ProperAction n b → touch a b ≡ false → (w : ℕ) → w < 2 ^ n
+      → andThen (stepWorld n a w) (stepWorld n b) ≡ andThen (stepWorld n b w) (stepWorld n a)
+  -- "The exchange statement is to be proved again with this wording": demand 3, whose exchanges go by `touch`
+  pub exchange : Demand3

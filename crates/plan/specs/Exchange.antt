@@ -1,13 +1,18 @@
--- Touching moves and exchanges (document 01, "Two moves touch if", "For demand 3").
-use mathlib.Core.Bool.{Bool, true, false, not, _&&_}
+-- Touching moves (document 02, W2, "two moves touch if") and exchanges (document 01, "For demand 3").
+use mathlib.Core.Bool.{Bool, true, false, not, _&&_, _||_}
 use mathlib.Core.List.{List, [], _∷_}
 use Prim.Native.Nat.{ℕ, zero, suc}
 use lib.Dec.{eqb}
 use lib.Bits.{bitAnd, bitOr}
 use Rattle.sheet.specs.declared.Literals.{Literals}
 use Rattle.sheet.specs.declared.Effect.{Effect}
-use Rattle.sheet.specs.Literals.{names}
+use Rattle.sheet.specs.Literals.{noLiteral, join, clash, names}
 use Rattle.sheet.specs.Problem.{Action}
+
+-- the results of all effects, whatever their conditions
+abbrev pub resultsBy : List Effect → Literals
+resultsBy [] = noLiteral
+resultsBy (e ∷ es) = join (e .result) (resultsBy es)
 
 -- the propositions named in one part of each of some effects
 abbrev pub namedBy : (Effect → Literals) → List Effect → ℕ
@@ -33,9 +38,16 @@ reads a = bitOr (names (a .precondition)) (readBy (a .effects))
 unfoldable pub named : Action → ℕ
 named a = bitOr (reads a) (changed a)
 
--- a proposition in a result of one is named anywhere in the other
+-- document 02, W2: a result of one has its complement among the other's results, or a proposition in a result of one is named in the
+-- other's precondition or conditions
 unfoldable pub touch : Action → Action → Bool
-touch a b = not (eqb (bitAnd (changed a) (named b)) 0 && eqb (bitAnd (changed b) (named a)) 0)
+touch a b =
+    clash (resultsBy (a .effects)) (resultsBy (b .effects))
+    || (not (eqb (bitAnd (changed a) (reads b)) 0) || not (eqb (bitAnd (changed b) (reads a)) 0))
+
+-- document 01's wording before W2: a proposition in a result of one is named anywhere in the other
+unfoldable pub touchAnywhere : Action → Action → Bool
+touchAnywhere a b = not (eqb (bitAnd (changed a) (named b)) 0 && eqb (bitAnd (changed b) (named a)) 0)
 
 abbrev pub swap : Bool → ℕ → ℕ → List ℕ → List ℕ
 swap true a b plan = a ∷ b ∷ plan

@@ -4,7 +4,6 @@ pub mod Exchange
 pub mod Search
 pub mod Cases
 pub mod Calls
-pub mod Weak
 pub mod Places
 pub mod Meaning
 pub mod Demand3
