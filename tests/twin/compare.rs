@@ -223,6 +223,7 @@ impl Comparer {
         if sheet.n <= 10 {
             self.checked(bytes, worlds::check_start(&sheet));
             self.checked(bytes, worlds::check_run(&sheet));
+            self.checked(bytes, worlds::check_exchange(&sheet));
             for limit in [2, 4, 8] {
                 self.checked(bytes, worlds::check_search(&sheet, limit, budget.min(400)));
             }

@@ -173,3 +173,28 @@ pub fn check_search(sheet: &Sheet, limit: u64, budget: usize) -> Checked {
         }
     }
 }
+
+/// Document 02, W2: "two moves touch if a result of one has its complement among the other's results, or if a proposition in a result of one
+/// is named in the other's precondition or conditions."
+fn touch(a: &Move, b: &Move) -> bool {
+    let results = |m: &Move| m.effects.iter().flat_map(|e| e.result.clone()).collect::<Vec<Literal>>();
+    let reads = |m: &Move, p: u8| m.precondition.iter().chain(m.effects.iter().flat_map(|e| &e.condition)).any(|x| x.proposition == p);
+    let (of_a, of_b) = (results(a), results(b));
+    of_a.iter().any(|x| of_b.contains(&x.complement()) || reads(b, x.proposition)) || of_b.iter().any(|x| reads(a, x.proposition))
+}
+
+/// What makes an exchange safe: two moves that do not touch take every world to the same world in either order, or to none in both.
+pub fn check_exchange(sheet: &Sheet) -> Checked {
+    let both = |first: &Move, second: &Move, w: World| moved(first, w).and_then(|v| moved(second, v)).ok();
+    let mut pairs = 0;
+    for (i, a) in sheet.moves.iter().enumerate() {
+        for (j, b) in sheet.moves[..i].iter().enumerate().filter(|(_, b)| !touch(a, b)) {
+            if let Some(w) = (0..1 << sheet.n).find(|w| both(a, b, *w) != both(b, a, *w)) {
+                let (there, back) = (both(a, b, w), both(b, a, w));
+                return Err(format!("moves {i} and {j} do not touch, but take world {w} to {there:?}, the other way round to {back:?}"));
+            }
+            pairs += 1;
+        }
+    }
+    Ok(pairs)
+}

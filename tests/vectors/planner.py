@@ -1,4 +1,4 @@
-"""Document 01 once more, from its text alone: sheets, worlds, tables, pictures, runs and searches.
+"""Document 01 once more, from its text alone: sheets, worlds, tables, pictures, runs, searches and exchanges (by document 02's W2).
 
 Literal sets are Python sets of (proposition, truth) pairs, worlds are tuples of truth values. Nothing here is shared with
 the library; the vectors made with it are compared with what the library prints.
@@ -277,6 +277,37 @@ def search(sheet, limit):
                 return verdict, list(plan)
     return ("none",), []
 
+
+# ---- touching moves and exchanges
+
+def results_of(move):
+    """The results of all effects, whatever their conditions."""
+    return {l for _, result in move[1] for l in result}
+
+
+def read_by(move):
+    """The propositions named in the precondition or conditions."""
+    precondition, effects = move
+    return {q for literals in [precondition] + [condition for condition, _ in effects] for q, _ in literals}
+
+
+def touch(a, b):
+    """Document 02, W2: "a result of one has its complement among the other's results, or [..] a proposition in a result of one is named
+    in the other's precondition or conditions"."""
+    return (any(flip(l) in results_of(b) for l in results_of(a))
+            or any(q in read_by(b) for q, _ in results_of(a))
+            or any(q in read_by(a) for q, _ in results_of(b)))
+
+
+def exchange(sheet, plan, k):
+    """"An exchange is a number k from 1. It swaps moves k and k + 1 of the plan it gets; if they touch or there is no move k + 1, the plan
+    stays.\""""
+    if not 1 <= k < len(plan) or touch(sheet["moves"][plan[k - 1]], sheet["moves"][plan[k]]):
+        return plan
+    return plan[:k - 1] + [plan[k], plan[k - 1]] + plan[k + 1:]
+
+
+# ---- the program
 
 def text(data):
     """What `check` prints."""

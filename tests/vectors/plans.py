@@ -8,15 +8,15 @@ other line is bytes in hexadecimal, the first of them says what to do:
               of all slots), and the rows written (how many, and a digest of their entries and clauses)
   03          the run with 65 rows: the verdict, the table, and a digest of all 65 rows, zeros in those that are not written
   04 LIMIT    the search with this limit (8 bytes): how it ends, the length of the plan and a digest of its eight bytes
-Beside it, for n up to 10, every world is stepped alone.
+Beside it, for n up to 10, every world is stepped alone, and exchanges are tried on random sheets.
 """
 
-from itertools import product
+from itertools import combinations, product
 from pathlib import Path
 import random
 
 import planner as p
-from tables import PAPER, Lines, digest, no, random_sheet, sheet, yes
+from tables import PAPER, Lines, digest, no, random_set, random_sheet, sheet, yes
 
 OUTSIDE = Path(__file__).resolve().parent / "outside"
 
@@ -322,6 +322,92 @@ def search_cases():
     b.write()
 
 
+# ---- exchanges: no case for a program, a check of how the words are read
+
+def lamp_sheet(rng):
+    """A sheet with few conditions, so that moves often do not touch; most results also put the last proposition, the lamp, out."""
+    n = rng.randint(3, 5)
+    seldom = lambda share: random_set(rng, n, 0, 1) if rng.random() < share else []
+    result = lambda: random_set(rng, n - 1, 1, 2) + ([no(n - 1)] if rng.random() < 0.8 else [])
+    effects = lambda: [(seldom(0.3), result()) for _ in range(rng.randint(0, 2))]
+    clauses = lambda: [[random_set(rng, n, 1, 2) for _ in range(rng.randint(2, 3))] for _ in range(rng.randint(0, 1))]
+    moves = [(seldom(0.2), effects()) for _ in range(rng.randint(2, 4))]
+    plan = [rng.randrange(len(moves)) for _ in range(rng.randint(2, 6))]
+    goal = [random_set(rng, n, 1, 2) for _ in range(rng.randint(0, 2))]
+    return p.read(sheet(n, seldom(0.5), clauses(), clauses(), moves, goal, plan))
+
+
+def ending(sheet, plan):
+    """Reached, short or stopped, and the bytes of the final picture, None if that is full; None for a run that is full or refused."""
+    try:
+        _, verdict, entries = p.run(sheet, plan)
+    except p.Fault:
+        return None
+    try:
+        return None if verdict[0] == "full" else (verdict[0], p.picture_bytes(p.picture(entries)))
+    except p.Fault:
+        return verdict[0], None
+
+
+def commute(n, a, b):
+    """In every world both orders come to the same, or both to nothing."""
+    def after(world, *moves):
+        for move in moves:
+            world = p.move_world(move, world)
+            if world in (24, 25):
+                return None
+        return world
+
+    return all(after(w, a, b) == after(w, b, a) for w in product((False, True), repeat=n))
+
+
+def weaker_tests():
+    """W2's test of touching with one of its parts left out."""
+    clash = lambda a, b: any(p.flip(l) in p.results_of(b) for l in p.results_of(a))
+    precondition = lambda move: set(move[0])
+    conditions = lambda move: {l for condition, _ in move[1] for l in condition}
+    both = lambda move: precondition(move) | conditions(move)
+    sees = lambda a, b, read: bool({q for q, _ in p.results_of(a)} & {q for q, _ in read(b)})
+    same_sign = lambda a, b: bool(p.results_of(a) & both(b))
+    either = lambda a, b, read: sees(a, b, read) or sees(b, a, read)
+    return {
+        "complements left out": lambda a, b: either(a, b, both),
+        "preconditions left out": lambda a, b: clash(a, b) or either(a, b, conditions),
+        "conditions left out": lambda a, b: clash(a, b) or either(a, b, precondition),
+        "one way only": lambda a, b: clash(a, b) or sees(a, b, both),
+        "literals instead of propositions": lambda a, b: clash(a, b) or same_sign(a, b) or same_sign(b, a),
+    }
+
+
+def check_exchanges():
+    """Demand 3 with W2's wording on random sheets: moves that do not touch commute in every world; after a list of exchanges a run is
+    reached, short or stopped as before, and unless stopped its final picture is the same. With any part of the test left out, moves are
+    found that do not commute."""
+    rng, weaker, refuted = random.Random(8), weaker_tests(), set()
+    apart = shared = compared = changed = 0
+    for _ in range(3000):
+        s = lamp_sheet(rng)
+        for a, b in combinations(s["moves"], 2):
+            good = commute(s["n"], a, b)
+            assert good or p.touch(a, b), (a, b)
+            apart += not p.touch(a, b)
+            shared += not p.touch(a, b) and bool(p.results_of(a) & p.results_of(b))
+            refuted |= {name for name, test in weaker.items() if not good and not test(a, b)}
+        plan = s["plan"]
+        for _ in range(rng.randint(1, 6)):
+            plan = p.exchange(s, plan, rng.randint(1, len(plan)))
+        ends = ending(s, s["plan"]), ending(s, plan)
+        if None in ends:
+            continue
+        (first, drawn), (last, redrawn) = ends
+        assert first == last, (s, plan, first, last)
+        assert first == "stopped" or None in (drawn, redrawn) or drawn == redrawn, (s, plan)
+        compared, changed = compared + 1, changed + (plan != s["plan"])
+    assert refuted == set(weaker), set(weaker) - refuted
+    print("exchanges: %d pairs of moves that do not touch commute, %d of them share a result; %d pairs of runs end alike, %d of different plans"
+          % (apart, shared, compared, changed))
+
+
 SEARCHED = {"lit_vacuum_solution": 4, "lit_vacuum_short": 3, "lit_ring_2": 5, "lit_corner_3": 4, "lit_corner_4": 6, "lit_safe_3": 3, "lit_safe_8": 8, "lit_safe_8_short": 7,
             "lit_square_3": 6, "lit_bomb_5": 5, "lit_bomb_8": 8, "lit_dispose_2_1": 6, "lit_sortnet_4": 5, "lit_turret_4": 7, "lit_lamp_6": 6}
 
@@ -329,3 +415,4 @@ if __name__ == "__main__":
     check_cases()
     run_cases()
     search_cases()
+    check_exchanges()

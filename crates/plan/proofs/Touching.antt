@@ -23,14 +23,28 @@ use Rattle.sheet.proofs.Results.{has-names}
 use Rattle.plan.specs.Exchange.{resultsBy, namedBy, readBy, changed, reads, named, touch, touchAnywhere, swap, exchangeBy, exchanges}
 use Rattle.plan.specs.DemandWords.{Names, ResultOf, InResult, ReadIn, TouchesAt, PutsOut}
 
--- ---- masks
-or-iff : (m k q : ℕ) → (has (bitOr m k) q ≡ true) ↔ ((has m q ≡ true) ⊎ (has k q ≡ true))
-or-iff m k q = (λ e. or-cases (has m q) (has k q) (sym (has-or m k q) ∙ e), back)
-  where
-    back : (has m q ≡ true) ⊎ (has k q ≡ true) → has (bitOr m k) q ≡ true
-    back (inl e) = has-or m k q ∙ or-left (has m q) (has k q) e
-    back (inr e) = has-or m k q ∙ or-right (has m q) (has k q) e
+-- ---- tests, as what they say
+test-iff : (x : Bool) → (x ≡ true) ↔ T x
+test-iff x = (true-T x, T-true x)
 
+or-iff : (z x y : Bool) (P Q : Type 0) → z ≡ (x || y) → (x ≡ true) ↔ P → (y ≡ true) ↔ Q → (z ≡ true) ↔ (P ⊎ Q)
+or-iff z x y P Q e p q = (λ h. there (or-cases x y (sym e ∙ h)), λ h. e ∙ back h)
+  where
+    there : (x ≡ true) ⊎ (y ≡ true) → P ⊎ Q
+    there (inl h) = inl (p .0 h)
+    there (inr h) = inr (q .0 h)
+
+    back : P ⊎ Q → (x || y) ≡ true
+    back (inl h) = or-left x y (p .1 h)
+    back (inr h) = or-right x y (q .1 h)
+
+-- a test of some effects that asks each of them
+any-iff : (f : List Effect → Bool) (t : Effect → Bool) (P : Effect → Type 0) → f [] ≡ false → ((e : Effect) (es : List Effect) → f (e ∷ es) ≡ (t e || f es))
+    → ((e : Effect) → (t e ≡ true) ↔ P e) → (es : List Effect) → (f es ≡ true) ↔ Any P es
+any-iff f t P z s k [] = (λ h. absurd (true≢false (sym h ∙ z)), λ h. absurd h)
+any-iff f t P z s k (e ∷ es) = or-iff (f (e ∷ es)) (t e) (f es) (P e) (Any P es) (s e es) (k e) (any-iff f t P z s k es)
+
+-- a bit of two masks
 common : (m k : ℕ) → not (eqb (bitAnd m k) 0) ≡ true → (q : ℕ) × (has m q ≡ true) × (has k q ≡ true)
 common m k e = not-disjoint m k (λ z. true≢false (sym e ∙ ap not (eq-eqb (bitAnd m k) 0 z)))
 
@@ -41,111 +55,85 @@ in-common m k q h g = go (eqb (bitAnd m k) 0) refl
     go false e = ap not e
     go true e = absurd (true≢false (sym g ∙ disjoint-of m k (eqb-true (bitAnd m k) 0 e) q h))
 
+-- ---- the propositions that are named, and the results
 names-iff : (d : Literals) (q : ℕ) → (has (names d) q ≡ true) ↔ Names d q
-names-iff d q = (λ e. there (or-cases (mem d true q) (mem d false q) (sym (has-names d q) ∙ e)), back)
-  where
-    there : (mem d true q ≡ true) ⊎ (mem d false q ≡ true) → Names d q
-    there (inl e) = inl (true-T (mem d true q) e)
-    there (inr e) = inr (true-T (mem d false q) e)
+names-iff d q =
+    or-iff (has (names d) q) (mem d true q) (mem d false q) (T (mem d true q)) (T (mem d false q)) (has-names d q) (test-iff (mem d true q)) (test-iff (mem d false q))
 
-    back : Names d q → has (names d) q ≡ true
-    back (inl h) = has-names d q ∙ or-left (mem d true q) (mem d false q) (T-true (mem d true q) h)
-    back (inr h) = has-names d q ∙ or-right (mem d true q) (mem d false q) (T-true (mem d false q) h)
-
--- the propositions named in one part of some effects
+-- in one part of some effects
 named-iff : (part : Effect → Literals) (es : List Effect) (q : ℕ) → (has (namedBy part es) q ≡ true) ↔ Any (λ e. Names (part e) q) es
-named-iff part [] q = (λ e. absurd (true≢false (sym e ∙ has-none q)), λ h. absurd h)
-named-iff part (e ∷ es) q = (
-  λ h. there (or-iff (names (part e)) (namedBy part es) q .0 h) (named-iff part es q),
-  λ h. or-iff (names (part e)) (namedBy part es) q .1 (back h (named-iff part es q)),
-)
-  where
-    there : (has (names (part e)) q ≡ true) ⊎ (has (namedBy part es) q ≡ true) → (has (namedBy part es) q ≡ true) ↔ Any (λ f. Names (part f) q) es
-        → Names (part e) q ⊎ Any (λ f. Names (part f) q) es
-    there (inl h) ih = inl (names-iff (part e) q .0 h)
-    there (inr h) ih = inr (ih .0 h)
+named-iff part es q =
+    any-iff (λ fs. has (namedBy part fs) q) (λ e. has (names (part e)) q) (λ e. Names (part e) q) (has-none q)
+    (λ e fs. has-or (names (part e)) (namedBy part fs) q) (λ e. names-iff (part e) q) es
 
-    back : Names (part e) q ⊎ Any (λ f. Names (part f) q) es → (has (namedBy part es) q ≡ true) ↔ Any (λ f. Names (part f) q) es
-        → (has (names (part e)) q ≡ true) ⊎ (has (namedBy part es) q ≡ true)
-    back (inl h) ih = inl (names-iff (part e) q .1 h)
-    back (inr h) ih = inr (ih .1 h)
+results-iff : (a : Action) (s : Bool) (q : ℕ) → (mem (resultsBy (a .effects)) s q ≡ true) ↔ ResultOf a s q
+results-iff a s q =
+    any-iff (λ fs. mem (resultsBy fs) s q) (λ e. mem (e .result) s q) (λ e. T (mem (e .result) s q)) (mem-none s q)
+    (λ e fs. mem-join (e .result) (resultsBy fs) s q) (λ e. test-iff (mem (e .result) s q)) (a .effects)
 
--- a literal among the results of some effects
-results-iff : (es : List Effect) (s : Bool) (q : ℕ) → (mem (resultsBy es) s q ≡ true) ↔ Any (λ e. T (mem (e .result) s q)) es
-results-iff [] s q = (λ e. absurd (true≢false (sym e ∙ mem-none s q)), λ h. absurd h)
-results-iff (e ∷ es) s q = (
-  λ h. there (or-cases (mem (e .result) s q) (mem (resultsBy es) s q) (sym (mem-join (e .result) (resultsBy es) s q) ∙ h)) (results-iff es s q),
-  λ h. mem-join (e .result) (resultsBy es) s q ∙ back h (results-iff es s q),
-)
-  where
-    there : (mem (e .result) s q ≡ true) ⊎ (mem (resultsBy es) s q ≡ true) → (mem (resultsBy es) s q ≡ true) ↔ Any (λ f. T (mem (f .result) s q)) es
-        → T (mem (e .result) s q) ⊎ Any (λ f. T (mem (f .result) s q)) es
-    there (inl h) ih = inl (true-T (mem (e .result) s q) h)
-    there (inr h) ih = inr (ih .0 h)
-
-    back : T (mem (e .result) s q) ⊎ Any (λ f. T (mem (f .result) s q)) es → (mem (resultsBy es) s q ≡ true) ↔ Any (λ f. T (mem (f .result) s q)) es
-        → (mem (e .result) s q || mem (resultsBy es) s q) ≡ true
-    back (inl h) ih = or-left (mem (e .result) s q) (mem (resultsBy es) s q) (T-true (mem (e .result) s q) h)
-    back (inr h) ih = or-right (mem (e .result) s q) (mem (resultsBy es) s q) (ih .1 h)
-
--- ---- moves
 in-result : (a : Action) (q : ℕ) → (has (changed a) q ≡ true) ↔ InResult a q
 unfolding changed
 in-result a q = named-iff (λ e. e .result) (a .effects) q
 
 read-in : (a : Action) (q : ℕ) → (has (reads a) q ≡ true) ↔ ReadIn a q
 unfolding reads
-read-in a q = (
-  λ h. there (or-iff (names (a .precondition)) (readBy (a .effects)) q .0 h),
-  λ h. or-iff (names (a .precondition)) (readBy (a .effects)) q .1 (back h),
-)
-  where
-    there : (has (names (a .precondition)) q ≡ true) ⊎ (has (readBy (a .effects)) q ≡ true) → ReadIn a q
-    there (inl h) = inl (names-iff (a .precondition) q .0 h)
-    there (inr h) = inr (named-iff (λ e. e .condition) (a .effects) q .0 h)
+read-in a q =
+    or-iff (has (reads a) q) (has (names (a .precondition)) q) (has (readBy (a .effects)) q) (Names (a .precondition) q) (Any (λ e. Names (e .condition) q) (a .effects))
+    (has-or (names (a .precondition)) (readBy (a .effects)) q) (names-iff (a .precondition) q) (named-iff (λ e. e .condition) (a .effects) q)
 
-    back : ReadIn a q → (has (names (a .precondition)) q ≡ true) ⊎ (has (readBy (a .effects)) q ≡ true)
-    back (inl h) = inl (names-iff (a .precondition) q .1 h)
-    back (inr h) = inr (named-iff (λ e. e .condition) (a .effects) q .1 h)
-
--- a changes what b reads
-sees-iff : (a b : Action) → (not (eqb (bitAnd (changed a) (reads b)) 0) ≡ true) ↔ ((q : ℕ) × InResult a q × ReadIn b q)
-sees-iff a b = (there, λ h. in-common (changed a) (reads b) (h .0) (in-result a (h .0) .1 (h .1)) (read-in b (h .0) .1 (h .2)))
+-- ---- moves that touch
+-- b reads what a changes
+read-iff : (a b : Action) → (not (eqb (bitAnd (changed a) (reads b)) 0) ≡ true) ↔ ((q : ℕ) × InResult a q × ReadIn b q)
+read-iff a b = (there, λ h. in-common (changed a) (reads b) (h .0) (in-result a (h .0) .1 (h .1)) (read-in b (h .0) .1 (h .2)))
   where
     there : not (eqb (bitAnd (changed a) (reads b)) 0) ≡ true → (q : ℕ) × InResult a q × ReadIn b q
     there e = let k = common (changed a) (reads b) e in (k .0, in-result a (k .0) .0 (k .1), read-in b (k .0) .0 (k .2))
 
 -- a result of a has its complement among b's results
 clash-iff : (a b : Action) → (clash (resultsBy (a .effects)) (resultsBy (b .effects)) ≡ true) ↔ ((q : ℕ) × (s : Bool) × ResultOf a s q × ResultOf b (not s) q)
-clash-iff a b = (there, λ h. clash-here (resultsBy (a .effects)) (resultsBy (b .effects)) (h .1) (h .0) (results-iff (a .effects) (h .1) (h .0) .1 (h .2)) (results-iff (b .effects) (not (h .1)) (h .0) .1 (h .3)))
+clash-iff a b = (there, back)
   where
-    there : clash (resultsBy (a .effects)) (resultsBy (b .effects)) ≡ true → (q : ℕ) × (s : Bool) × ResultOf a s q × ResultOf b (not s) q
-    there e =
-        let k = clash-at (resultsBy (a .effects)) (resultsBy (b .effects)) e in
-        (k .1, k .0, results-iff (a .effects) (k .0) (k .1) .0 (k .2), results-iff (b .effects) (not (k .0)) (k .1) .0 (k .3))
+    ra : Literals
+    ra = resultsBy (a .effects)
+
+    rb : Literals
+    rb = resultsBy (b .effects)
+
+    there : clash ra rb ≡ true → (q : ℕ) × (s : Bool) × ResultOf a s q × ResultOf b (not s) q
+    there e = let k = clash-at ra rb e in (k .1, k .0, results-iff a (k .0) (k .1) .0 (k .2), results-iff b (not (k .0)) (k .1) .0 (k .3))
+
+    back : (q : ℕ) × (s : Bool) × ResultOf a s q × ResultOf b (not s) q → clash ra rb ≡ true
+    back h = clash-here ra rb (h .1) (h .0) (results-iff a (h .1) (h .0) .1 (h .2)) (results-iff b (not (h .1)) (h .0) .1 (h .3))
 
 pub touching : (a b : Action) → (touch a b ≡ true) ↔ ((q : ℕ) × TouchesAt a b q)
-unfolding touch
-touching a b = (λ e. there (or-cases (clash (resultsBy (a .effects)) (resultsBy (b .effects))) (x || y) e), λ h. back (h .0) (h .1))
+touching a b = (λ e. there (parts .0 e), λ h. parts .1 (back (h .0) (h .1)))
   where
-    x : Bool
-    x = not (eqb (bitAnd (changed a) (reads b)) 0)
+    Clash : Type 0
+    Clash = (q : ℕ) × (s : Bool) × ResultOf a s q × ResultOf b (not s) q
 
-    y : Bool
-    y = not (eqb (bitAnd (changed b) (reads a)) 0)
+    Read : Action → Action → Type 0
+    Read c d = (q : ℕ) × InResult c q × ReadIn d q
 
-    seen : (x ≡ true) ⊎ (y ≡ true) → (q : ℕ) × TouchesAt a b q
-    seen (inl e) = let k = sees-iff a b .0 e in (k .0, inr (inl (k .1, k .2)))
-    seen (inr e) = let k = sees-iff b a .0 e in (k .0, inr (inr (k .1, k .2)))
+    parts : (touch a b ≡ true) ↔ (Clash ⊎ (Read a b ⊎ Read b a))
+    parts = unfold touch in
+        or-iff (touch a b) (clash (resultsBy (a .effects)) (resultsBy (b .effects))) (x || y) Clash (Read a b ⊎ Read b a) refl (clash-iff a b)
+        (or-iff (x || y) x y (Read a b) (Read b a) refl (read-iff a b) (read-iff b a))
+      where
+        x : Bool
+        x = not (eqb (bitAnd (changed a) (reads b)) 0)
 
-    there : (clash (resultsBy (a .effects)) (resultsBy (b .effects)) ≡ true) ⊎ ((x || y) ≡ true) → (q : ℕ) × TouchesAt a b q
-    there (inl e) = let k = clash-iff a b .0 e in (k .0, inl (k .1, k .2, k .3))
-    there (inr e) = seen (or-cases x y e)
+        y : Bool
+        y = not (eqb (bitAnd (changed b) (reads a)) 0)
 
-    back : (q : ℕ) → TouchesAt a b q → (clash (resultsBy (a .effects)) (resultsBy (b .effects)) || (x || y)) ≡ true
-    back q (inl h) = or-left (clash (resultsBy (a .effects)) (resultsBy (b .effects))) (x || y) (clash-iff a b .1 (q, h .0, h .1, h .2))
-    back q (inr (inl h)) = or-right (clash (resultsBy (a .effects)) (resultsBy (b .effects))) (x || y) (or-left x y (sees-iff a b .1 (q, h .0, h .1)))
-    back q (inr (inr h)) = or-right (clash (resultsBy (a .effects)) (resultsBy (b .effects))) (x || y) (or-right x y (sees-iff b a .1 (q, h .0, h .1)))
+    there : Clash ⊎ (Read a b ⊎ Read b a) → (q : ℕ) × TouchesAt a b q
+    there (inl k) = (k .0, inl (k .1, k .2, k .3))
+    there (inr (inl k)) = (k .0, inr (inl (k .1, k .2)))
+    there (inr (inr k)) = (k .0, inr (inr (k .1, k .2)))
+
+    back : (q : ℕ) → TouchesAt a b q → Clash ⊎ (Read a b ⊎ Read b a)
+    back q (inl h) = inl (q, h .0, h .1, h .2)
+    back q (inr (inl h)) = inr (inl (q, h .0, h .1))
+    back q (inr (inr h)) = inr (inr (q, h .0, h .1))
 
 -- ---- moves that both put the lamp out
 result-in : (a : Action) (s : Bool) (q : ℕ) → ResultOf a s q → InResult a q
@@ -160,7 +148,7 @@ touch-before a b lamp h k = go (eqb (bitAnd (changed a) (named b)) 0) (eqb (bitA
     ina = in-result a lamp .1 (result-in a false lamp (h .0))
 
     inb : has (named b) lamp ≡ true
-    inb = or-iff (reads b) (changed b) lamp .1 (inr (in-result b lamp .1 (result-in b false lamp (k .0))))
+    inb = has-or (reads b) (changed b) lamp ∙ or-right (has (reads b) lamp) (has (changed b) lamp) (in-result b lamp .1 (result-in b false lamp (k .0)))
 
     go : (x y : Bool) → not x ≡ true → not (x && y) ≡ true
     go true y e = absurd (true≢false (sym e))

@@ -1,6 +1,7 @@
--- The three demands, sentence by sentence: statements only, over the calls' own definitions (`judgeOf`, `startOf`, `stepOf`, `pictureOf`,
--- `bufferOf`, `runOf`, `rowsAfter`, `searchOf` on what the bytes say, `sheetOf s`) and over worlds (`Starting`, `stepWorld`, `runWorld`,
--- `InGoal`); where document 01 states a working order, also over that (the form of a sheet, `growAll`, `putImages`, `picture`).
+-- The three demands, sentence by sentence, and after them the request W2 of document 02: statements only, over the calls' own definitions
+-- (`judgeOf`, `startOf`, `stepOf`, `pictureOf`, `bufferOf`, `runOf`, `rowsAfter`, `searchOf` on what the bytes say, `sheetOf s`) and over worlds
+-- (`Starting`, `stepWorld`, `runWorld`, `InGoal`); where document 01 states a working order, also over that (the form of a sheet, `growAll`,
+-- `putImages`, `picture`).
 -- A demand is a record; its fields are the sentences, put in groups, one record to a call, so that what a group speaks of is said once: the
 -- bytes s, which say x (`Says s x`: they are accepted as the sheet of x), a table t, a move m, rows, a limit. These are any; a field says what
 -- else it takes. Proved in proofs/Demands.

@@ -27,14 +27,15 @@ changedBy es = namedBy (λ e. e .result) es
 abbrev pub readBy : List Effect → ℕ
 readBy es = namedBy (λ e. e .condition) es
 
+-- the propositions in a move's results
 unfoldable pub changed : Action → ℕ
 changed a = changedBy (a .effects)
 
--- the propositions named in the precondition and the conditions
+-- the propositions named in its precondition and conditions
 unfoldable pub reads : Action → ℕ
 reads a = bitOr (names (a .precondition)) (readBy (a .effects))
 
--- the propositions named anywhere in a move
+-- the propositions named anywhere in it
 unfoldable pub named : Action → ℕ
 named a = bitOr (reads a) (changed a)
 
@@ -49,6 +50,7 @@ touch a b =
 unfoldable pub touchAnywhere : Action → Action → Bool
 touchAnywhere a b = not (eqb (bitAnd (changed a) (named b)) 0 && eqb (bitAnd (changed b) (named a)) 0)
 
+-- two moves and the rest of the plan: as they are if they touch, else changed over
 abbrev pub swap : Bool → ℕ → ℕ → List ℕ → List ℕ
 swap true a b plan = a ∷ b ∷ plan
 swap false a b plan = b ∷ a ∷ plan
@@ -67,6 +69,6 @@ abbrev pub exchangesBy : (Action → Action → Bool) → (ℕ → Action) → L
 exchangesBy touches f [] plan = plan
 exchangesBy touches f (k ∷ ks) plan = exchangesBy touches f ks (exchangeBy touches f k plan)
 
--- exchanges as document 01 has them
+-- by W2's test
 abbrev pub exchanges : (ℕ → Action) → List ℕ → List ℕ → List ℕ
 exchanges f ks plan = exchangesBy touch f ks plan
