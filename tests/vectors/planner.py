@@ -300,8 +300,8 @@ def touch(a, b):
 
 
 def exchange(sheet, plan, k):
-    """"An exchange is a number k from 1. It swaps moves k and k + 1 of the plan it gets; if they touch or there is no move k + 1, the plan
-    stays.\""""
+    """"An exchange is a number k from 1. It swaps moves k and k + 1 of the plan it gets; if they touch, or there is no move k + 1, the
+    plan stays.\""""
     if not 1 <= k < len(plan) or touch(sheet["moves"][plan[k - 1]], sheet["moves"][plan[k]]):
         return plan
     return plan[:k - 1] + [plan[k], plan[k - 1]] + plan[k + 1:]

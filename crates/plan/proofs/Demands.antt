@@ -213,6 +213,7 @@ demand-3 = record {
 -- ---- the request W2
 pub request-w2 : RequestW2
 request-w2 = record {
+  anywhere = touching.touching-anywhere;
   before = touching.touch-before;
   touching = touching.touching;
   fewer = commuting.touch-fewer;

@@ -21,7 +21,7 @@ use Rattle.sheet.proofs.Ascending.{mem-none}
 use Rattle.sheet.proofs.ListFacts.{any-map}
 use Rattle.sheet.proofs.Results.{has-names}
 use Rattle.plan.specs.Exchange.{resultsBy, namedBy, readBy, changed, reads, named, touch, touchAnywhere, swap, exchangeBy, exchanges}
-use Rattle.plan.specs.DemandWords.{Names, ResultOf, InResult, ReadIn, TouchesAt, PutsOut}
+use Rattle.plan.specs.DemandWords.{Names, ResultOf, InResult, ReadIn, NamedIn, TouchesAt, PutsOut}
 
 -- ---- tests, as what they say
 test-iff : (x : Bool) → (x ≡ true) ↔ T x
@@ -44,16 +44,22 @@ any-iff : (f : List Effect → Bool) (t : Effect → Bool) (P : Effect → Type 
 any-iff f t P z s k [] = (λ h. absurd (true≢false (sym h ∙ z)), λ h. absurd h)
 any-iff f t P z s k (e ∷ es) = or-iff (f (e ∷ es)) (t e) (f es) (P e) (Any P es) (s e es) (k e) (any-iff f t P z s k es)
 
--- a bit of two masks
-common : (m k : ℕ) → not (eqb (bitAnd m k) 0) ≡ true → (q : ℕ) × (has m q ≡ true) × (has k q ≡ true)
-common m k e = not-disjoint m k (λ z. true≢false (sym e ∙ ap not (eq-eqb (bitAnd m k) 0 z)))
-
-in-common : (m k q : ℕ) → has m q ≡ true → has k q ≡ true → not (eqb (bitAnd m k) 0) ≡ true
-in-common m k q h g = go (eqb (bitAnd m k) 0) refl
+-- a bit in common
+common-iff : (m k : ℕ) (P Q : ℕ → Type 0) → ((q : ℕ) → (has m q ≡ true) ↔ P q) → ((q : ℕ) → (has k q ≡ true) ↔ Q q)
+    → (not (eqb (bitAnd m k) 0) ≡ true) ↔ ((q : ℕ) × P q × Q q)
+common-iff m k P Q f g = (there, λ h. back (h .0) (f (h .0) .1 (h .1)) (g (h .0) .1 (h .2)))
   where
-    go : (t : Bool) → eqb (bitAnd m k) 0 ≡ t → not (eqb (bitAnd m k) 0) ≡ true
-    go false e = ap not e
-    go true e = absurd (true≢false (sym g ∙ disjoint-of m k (eqb-true (bitAnd m k) 0 e) q h))
+    there : not (eqb (bitAnd m k) 0) ≡ true → (q : ℕ) × P q × Q q
+    there e =
+        let r = not-disjoint m k (λ z. true≢false (sym e ∙ ap not (eq-eqb (bitAnd m k) 0 z))) in
+        (r .0, f (r .0) .0 (r .1), g (r .0) .0 (r .2))
+
+    back : (q : ℕ) → has m q ≡ true → has k q ≡ true → not (eqb (bitAnd m k) 0) ≡ true
+    back q h l = go (eqb (bitAnd m k) 0) refl
+      where
+        go : (t : Bool) → eqb (bitAnd m k) 0 ≡ t → not (eqb (bitAnd m k) 0) ≡ true
+        go false e = ap not e
+        go true e = absurd (true≢false (sym l ∙ disjoint-of m k (eqb-true (bitAnd m k) 0 e) q h))
 
 -- ---- the propositions that are named, and the results
 names-iff : (d : Literals) (q : ℕ) → (has (names d) q ≡ true) ↔ Names d q
@@ -81,14 +87,11 @@ read-in a q =
     or-iff (has (reads a) q) (has (names (a .precondition)) q) (has (readBy (a .effects)) q) (Names (a .precondition) q) (Any (λ e. Names (e .condition) q) (a .effects))
     (has-or (names (a .precondition)) (readBy (a .effects)) q) (names-iff (a .precondition) q) (named-iff (λ e. e .condition) (a .effects) q)
 
--- ---- moves that touch
--- b reads what a changes
-read-iff : (a b : Action) → (not (eqb (bitAnd (changed a) (reads b)) 0) ≡ true) ↔ ((q : ℕ) × InResult a q × ReadIn b q)
-read-iff a b = (there, λ h. in-common (changed a) (reads b) (h .0) (in-result a (h .0) .1 (h .1)) (read-in b (h .0) .1 (h .2)))
-  where
-    there : not (eqb (bitAnd (changed a) (reads b)) 0) ≡ true → (q : ℕ) × InResult a q × ReadIn b q
-    there e = let k = common (changed a) (reads b) e in (k .0, in-result a (k .0) .0 (k .1), read-in b (k .0) .0 (k .2))
+named-in : (a : Action) (q : ℕ) → (has (named a) q ≡ true) ↔ NamedIn a q
+unfolding named
+named-in a q = or-iff (has (named a) q) (has (reads a) q) (has (changed a) q) (ReadIn a q) (InResult a q) (has-or (reads a) (changed a) q) (read-in a q) (in-result a q)
 
+-- ---- moves that touch
 -- a result of a has its complement among b's results
 clash-iff : (a b : Action) → (clash (resultsBy (a .effects)) (resultsBy (b .effects)) ≡ true) ↔ ((q : ℕ) × (s : Bool) × ResultOf a s q × ResultOf b (not s) q)
 clash-iff a b = (there, back)
@@ -117,7 +120,8 @@ touching a b = (λ e. there (parts .0 e), λ h. parts .1 (back (h .0) (h .1)))
     parts : (touch a b ≡ true) ↔ (Clash ⊎ (Read a b ⊎ Read b a))
     parts = unfold touch in
         or-iff (touch a b) (clash (resultsBy (a .effects)) (resultsBy (b .effects))) (x || y) Clash (Read a b ⊎ Read b a) refl (clash-iff a b)
-        (or-iff (x || y) x y (Read a b) (Read b a) refl (read-iff a b) (read-iff b a))
+        (or-iff (x || y) x y (Read a b) (Read b a) refl (common-iff (changed a) (reads b) (InResult a) (ReadIn b) (in-result a) (read-in b))
+        (common-iff (changed b) (reads a) (InResult b) (ReadIn a) (in-result b) (read-in a)))
       where
         x : Bool
         x = not (eqb (bitAnd (changed a) (reads b)) 0)
@@ -135,24 +139,43 @@ touching a b = (λ e. there (parts .0 e), λ h. parts .1 (back (h .0) (h .1)))
     back q (inr (inl h)) = inr (inl (q, h .0, h .1))
     back q (inr (inr h)) = inr (inr (q, h .0, h .1))
 
+-- by document 01's wording
+pub touching-anywhere : (a b : Action) → (touchAnywhere a b ≡ true) ↔ ((q : ℕ) × ((InResult a q × NamedIn b q) ⊎ (InResult b q × NamedIn a q)))
+touching-anywhere a b = (λ e. there (parts .0 e), λ h. parts .1 (back (h .0) (h .1)))
+  where
+    Both : Action → Action → Type 0
+    Both c d = (q : ℕ) × InResult c q × NamedIn d q
+
+    not-both : (x y : Bool) → not (x && y) ≡ (not x || not y)
+    not-both true y = refl
+    not-both false y = refl
+
+    parts : (touchAnywhere a b ≡ true) ↔ (Both a b ⊎ Both b a)
+    parts = unfold touchAnywhere in
+        or-iff (touchAnywhere a b) (not x) (not y) (Both a b) (Both b a) (not-both x y) (common-iff (changed a) (named b) (InResult a) (NamedIn b) (in-result a) (named-in b))
+        (common-iff (changed b) (named a) (InResult b) (NamedIn a) (in-result b) (named-in a))
+      where
+        x : Bool
+        x = eqb (bitAnd (changed a) (named b)) 0
+
+        y : Bool
+        y = eqb (bitAnd (changed b) (named a)) 0
+
+    there : Both a b ⊎ Both b a → (q : ℕ) × ((InResult a q × NamedIn b q) ⊎ (InResult b q × NamedIn a q))
+    there (inl k) = (k .0, inl (k .1, k .2))
+    there (inr k) = (k .0, inr (k .1, k .2))
+
+    back : (q : ℕ) → (InResult a q × NamedIn b q) ⊎ (InResult b q × NamedIn a q) → Both a b ⊎ Both b a
+    back q (inl h) = inl (q, h .0, h .1)
+    back q (inr h) = inr (q, h .0, h .1)
+
 -- ---- moves that both put the lamp out
 result-in : (a : Action) (s : Bool) (q : ℕ) → ResultOf a s q → InResult a q
 result-in a true q h = any-map (λ e. T (mem (e .result) true q)) (λ e. Names (e .result) q) (λ e k. inl k) (a .effects) h
 result-in a false q h = any-map (λ e. T (mem (e .result) false q)) (λ e. Names (e .result) q) (λ e k. inr k) (a .effects) h
 
 pub touch-before : (a b : Action) (lamp : ℕ) → PutsOut a lamp → PutsOut b lamp → touchAnywhere a b ≡ true
-unfolding touchAnywhere named
-touch-before a b lamp h k = go (eqb (bitAnd (changed a) (named b)) 0) (eqb (bitAnd (changed b) (named a)) 0) (in-common (changed a) (named b) lamp ina inb)
-  where
-    ina : has (changed a) lamp ≡ true
-    ina = in-result a lamp .1 (result-in a false lamp (h .0))
-
-    inb : has (named b) lamp ≡ true
-    inb = has-or (reads b) (changed b) lamp ∙ or-right (has (reads b) lamp) (has (changed b) lamp) (in-result b lamp .1 (result-in b false lamp (k .0)))
-
-    go : (x y : Bool) → not x ≡ true → not (x && y) ≡ true
-    go true y e = absurd (true≢false (sym e))
-    go false y e = refl
+touch-before a b lamp h k = touching-anywhere a b .1 (lamp, inl (result-in a false lamp (h .0), inr (result-in b false lamp (k .0))))
 
 pub touch-lamp : (a b : Action) (lamp : ℕ) → PutsOut a lamp → PutsOut b lamp → (ReadIn a lamp → ⊥) → (ReadIn b lamp → ⊥)
     → ((q : ℕ) → TouchesAt a b q → q ≡ lamp) → touch a b ≡ false

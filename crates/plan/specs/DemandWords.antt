@@ -125,6 +125,10 @@ InResult a q = Any (λ e. Names (e .result) q) (a .effects)
 abbrev pub ReadIn : Action → ℕ → Type 0
 ReadIn a q = Names (a .precondition) q ⊎ Any (λ e. Names (e .condition) q) (a .effects)
 
+-- q is named anywhere in the move
+abbrev pub NamedIn : Action → ℕ → Type 0
+NamedIn a q = ReadIn a q ⊎ InResult a q
+
 -- at q a result of one has its complement among the other's results, or q is in a result of one and read in the other
 abbrev pub TouchesAt : Action → Action → ℕ → Type 0
 TouchesAt a b q = ((s : Bool) × ResultOf a s q × ResultOf b (not s) q) ⊎ ((InResult a q × ReadIn b q) ⊎ (InResult b q × ReadIn a q))

@@ -49,7 +49,7 @@ use Rattle.plan.specs.Meaning.{Ends, Outside, Every, Some, StopsAt}
 use Rattle.plan.specs.Order.{Earlier, PlanOf}
 use Rattle.plan.specs.Exchange.{touch, touchAnywhere, exchanges}
 use Rattle.plan.specs.Demand3.{Class, classOf, runFull, runRefused, SamePlanSheet}
-use Rattle.plan.specs.DemandWords.{Solves, Spoiled, taken, Becomes, arrived, StepRefused, clausesOr, finalOf, runWith, Misses, FirstRun, planFound, ReadIn, TouchesAt, PutsOut, lampSheet}
+use Rattle.plan.specs.DemandWords.{Solves, Spoiled, taken, Becomes, arrived, StepRefused, clausesOr, finalOf, runWith, Misses, FirstRun, planFound, InResult, ReadIn, NamedIn, TouchesAt, PutsOut, lampSheet}
 
 -- ==== Demand 1: "A sheet, table, move or length that document 01 admits is worked through to the answer stated there. Anything else comes
 -- back with the number of its first fault, any table handed in as it was, and every lent byte and row untouched."
@@ -419,7 +419,9 @@ pub record Demand3 : Type 0 where
 -- ==== Request W2 of document 02, "Moves that share the lamp". That "no run or picture changes" is about two versions of the project and no
 -- statement here: docs/changes/W2.md.
 pub record RequestW2 : Type 0 where
-  -- "Every command of the new stand also puts the lamp out, so by the present wording all moves touch": by document 01's wording
+  -- the wording before, document 01's: "Two moves touch if a proposition in a result of one is named anywhere in the other."
+  pub anywhere : (a b : Action) → (touchAnywhere a b ≡ true) ↔ ((q : ℕ) × ((InResult a q × NamedIn b q) ⊎ (InResult b q × NamedIn a q)))
+  -- "Every command of the new stand also puts the lamp out, so by the present wording all moves touch"
   pub before : (a b : Action) (lamp : ℕ) → PutsOut a lamp → PutsOut b lamp → touchAnywhere a b ≡ true
   -- "From now on two moves touch if a result of one has its complement among the other's results, or if a proposition in a result of one is
   -- named in the other's precondition or conditions."

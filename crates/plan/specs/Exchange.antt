@@ -50,7 +50,7 @@ touch a b =
 unfoldable pub touchAnywhere : Action → Action → Bool
 touchAnywhere a b = not (eqb (bitAnd (changed a) (named b)) 0 && eqb (bitAnd (changed b) (named a)) 0)
 
--- two moves and the rest of the plan: as they are if they touch, else changed over
+-- two moves before the rest of a plan: as they stand if they touch, else swapped
 abbrev pub swap : Bool → ℕ → ℕ → List ℕ → List ℕ
 swap true a b plan = a ∷ b ∷ plan
 swap false a b plan = b ∷ a ∷ plan
