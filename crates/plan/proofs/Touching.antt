@@ -38,6 +38,18 @@ or-iff z x y P Q e p q = (λ h. there (or-cases x y (sym e ∙ h)), λ h. e ∙ 
     back (inl h) = or-left x y (p .1 h)
     back (inr h) = or-right x y (q .1 h)
 
+-- at some proposition
+or-at : (z x y : Bool) (P Q : ℕ → Type 0) → z ≡ (x || y) → (x ≡ true) ↔ ((q : ℕ) × P q) → (y ≡ true) ↔ ((q : ℕ) × Q q) → (z ≡ true) ↔ ((q : ℕ) × (P q ⊎ Q q))
+or-at z x y P Q e p q = (λ h. there (or-iff z x y ((i : ℕ) × P i) ((i : ℕ) × Q i) e p q .0 h), λ h. or-iff z x y ((i : ℕ) × P i) ((i : ℕ) × Q i) e p q .1 (back (h .0) (h .1)))
+  where
+    there : ((i : ℕ) × P i) ⊎ ((i : ℕ) × Q i) → (i : ℕ) × (P i ⊎ Q i)
+    there (inl h) = (h .0, inl (h .1))
+    there (inr h) = (h .0, inr (h .1))
+
+    back : (i : ℕ) → P i ⊎ Q i → ((i : ℕ) × P i) ⊎ ((i : ℕ) × Q i)
+    back i (inl h) = inl (i, h)
+    back i (inr h) = inr (i, h)
+
 -- a test of some effects that asks each of them
 any-iff : (f : List Effect → Bool) (t : Effect → Bool) (P : Effect → Type 0) → f [] ≡ false → ((e : Effect) (es : List Effect) → f (e ∷ es) ≡ (t e || f es))
     → ((e : Effect) → (t e ≡ true) ↔ P e) → (es : List Effect) → (f es ≡ true) ↔ Any P es
@@ -46,13 +58,13 @@ any-iff f t P z s k (e ∷ es) = or-iff (f (e ∷ es)) (t e) (f es) (P e) (Any P
 
 -- a bit in common
 common-iff : (m k : ℕ) (P Q : ℕ → Type 0) → ((q : ℕ) → (has m q ≡ true) ↔ P q) → ((q : ℕ) → (has k q ≡ true) ↔ Q q)
-    → (not (eqb (bitAnd m k) 0) ≡ true) ↔ ((q : ℕ) × P q × Q q)
-common-iff m k P Q f g = (there, λ h. back (h .0) (f (h .0) .1 (h .1)) (g (h .0) .1 (h .2)))
+    → (not (eqb (bitAnd m k) 0) ≡ true) ↔ ((q : ℕ) × (P q × Q q))
+common-iff m k P Q f g = (there, λ h. back (h .0) (f (h .0) .1 (h .1 .0)) (g (h .0) .1 (h .1 .1)))
   where
-    there : not (eqb (bitAnd m k) 0) ≡ true → (q : ℕ) × P q × Q q
+    there : not (eqb (bitAnd m k) 0) ≡ true → (q : ℕ) × (P q × Q q)
     there e =
         let r = not-disjoint m k (λ z. true≢false (sym e ∙ ap not (eq-eqb (bitAnd m k) 0 z))) in
-        (r .0, f (r .0) .0 (r .1), g (r .0) .0 (r .2))
+        (r .0, (f (r .0) .0 (r .1), g (r .0) .0 (r .2)))
 
     back : (q : ℕ) → has m q ≡ true → has k q ≡ true → not (eqb (bitAnd m k) 0) ≡ true
     back q h l = go (eqb (bitAnd m k) 0) refl
@@ -93,8 +105,8 @@ named-in a q = or-iff (has (named a) q) (has (reads a) q) (has (changed a) q) (R
 
 -- ---- moves that touch
 -- a result of a has its complement among b's results
-clash-iff : (a b : Action) → (clash (resultsBy (a .effects)) (resultsBy (b .effects)) ≡ true) ↔ ((q : ℕ) × (s : Bool) × ResultOf a s q × ResultOf b (not s) q)
-clash-iff a b = (there, back)
+clash-iff : (a b : Action) → (clash (resultsBy (a .effects)) (resultsBy (b .effects)) ≡ true) ↔ ((q : ℕ) × ((s : Bool) × ResultOf a s q × ResultOf b (not s) q))
+clash-iff a b = (there, λ h. back (h .0) (h .1 .0) (h .1 .1) (h .1 .2))
   where
     ra : Literals
     ra = resultsBy (a .effects)
@@ -102,72 +114,42 @@ clash-iff a b = (there, back)
     rb : Literals
     rb = resultsBy (b .effects)
 
-    there : clash ra rb ≡ true → (q : ℕ) × (s : Bool) × ResultOf a s q × ResultOf b (not s) q
-    there e = let k = clash-at ra rb e in (k .1, k .0, results-iff a (k .0) (k .1) .0 (k .2), results-iff b (not (k .0)) (k .1) .0 (k .3))
+    there : clash ra rb ≡ true → (q : ℕ) × ((s : Bool) × ResultOf a s q × ResultOf b (not s) q)
+    there e = let k = clash-at ra rb e in (k .1, (k .0, results-iff a (k .0) (k .1) .0 (k .2), results-iff b (not (k .0)) (k .1) .0 (k .3)))
 
-    back : (q : ℕ) × (s : Bool) × ResultOf a s q × ResultOf b (not s) q → clash ra rb ≡ true
-    back h = clash-here ra rb (h .1) (h .0) (results-iff a (h .1) (h .0) .1 (h .2)) (results-iff b (not (h .1)) (h .0) .1 (h .3))
+    back : (q : ℕ) (s : Bool) → ResultOf a s q → ResultOf b (not s) q → clash ra rb ≡ true
+    back q s h k = clash-here ra rb s q (results-iff a s q .1 h) (results-iff b (not s) q .1 k)
 
 pub touching : (a b : Action) → (touch a b ≡ true) ↔ ((q : ℕ) × TouchesAt a b q)
-touching a b = (λ e. there (parts .0 e), λ h. parts .1 (back (h .0) (h .1)))
+unfolding touch
+touching a b =
+    or-at (touch a b) (clash (resultsBy (a .effects)) (resultsBy (b .effects))) (x || y) (λ q. (s : Bool) × ResultOf a s q × ResultOf b (not s) q)
+    (λ q. (InResult a q × ReadIn b q) ⊎ (InResult b q × ReadIn a q)) refl (clash-iff a b)
+    (or-at (x || y) x y (λ q. InResult a q × ReadIn b q) (λ q. InResult b q × ReadIn a q) refl
+    (common-iff (changed a) (reads b) (InResult a) (ReadIn b) (in-result a) (read-in b)) (common-iff (changed b) (reads a) (InResult b) (ReadIn a) (in-result b) (read-in a)))
   where
-    Clash : Type 0
-    Clash = (q : ℕ) × (s : Bool) × ResultOf a s q × ResultOf b (not s) q
+    x : Bool
+    x = not (eqb (bitAnd (changed a) (reads b)) 0)
 
-    Read : Action → Action → Type 0
-    Read c d = (q : ℕ) × InResult c q × ReadIn d q
-
-    parts : (touch a b ≡ true) ↔ (Clash ⊎ (Read a b ⊎ Read b a))
-    parts = unfold touch in
-        or-iff (touch a b) (clash (resultsBy (a .effects)) (resultsBy (b .effects))) (x || y) Clash (Read a b ⊎ Read b a) refl (clash-iff a b)
-        (or-iff (x || y) x y (Read a b) (Read b a) refl (common-iff (changed a) (reads b) (InResult a) (ReadIn b) (in-result a) (read-in b))
-        (common-iff (changed b) (reads a) (InResult b) (ReadIn a) (in-result b) (read-in a)))
-      where
-        x : Bool
-        x = not (eqb (bitAnd (changed a) (reads b)) 0)
-
-        y : Bool
-        y = not (eqb (bitAnd (changed b) (reads a)) 0)
-
-    there : Clash ⊎ (Read a b ⊎ Read b a) → (q : ℕ) × TouchesAt a b q
-    there (inl k) = (k .0, inl (k .1, k .2, k .3))
-    there (inr (inl k)) = (k .0, inr (inl (k .1, k .2)))
-    there (inr (inr k)) = (k .0, inr (inr (k .1, k .2)))
-
-    back : (q : ℕ) → TouchesAt a b q → Clash ⊎ (Read a b ⊎ Read b a)
-    back q (inl h) = inl (q, h .0, h .1, h .2)
-    back q (inr (inl h)) = inr (inl (q, h .0, h .1))
-    back q (inr (inr h)) = inr (inr (q, h .0, h .1))
+    y : Bool
+    y = not (eqb (bitAnd (changed b) (reads a)) 0)
 
 -- by document 01's wording
 pub touching-anywhere : (a b : Action) → (touchAnywhere a b ≡ true) ↔ ((q : ℕ) × ((InResult a q × NamedIn b q) ⊎ (InResult b q × NamedIn a q)))
-touching-anywhere a b = (λ e. there (parts .0 e), λ h. parts .1 (back (h .0) (h .1)))
+unfolding touchAnywhere
+touching-anywhere a b =
+    or-at (touchAnywhere a b) (not x) (not y) (λ q. InResult a q × NamedIn b q) (λ q. InResult b q × NamedIn a q) (not-both x y)
+    (common-iff (changed a) (named b) (InResult a) (NamedIn b) (in-result a) (named-in b)) (common-iff (changed b) (named a) (InResult b) (NamedIn a) (in-result b) (named-in a))
   where
-    Both : Action → Action → Type 0
-    Both c d = (q : ℕ) × InResult c q × NamedIn d q
+    x : Bool
+    x = eqb (bitAnd (changed a) (named b)) 0
 
-    not-both : (x y : Bool) → not (x && y) ≡ (not x || not y)
-    not-both true y = refl
-    not-both false y = refl
+    y : Bool
+    y = eqb (bitAnd (changed b) (named a)) 0
 
-    parts : (touchAnywhere a b ≡ true) ↔ (Both a b ⊎ Both b a)
-    parts = unfold touchAnywhere in
-        or-iff (touchAnywhere a b) (not x) (not y) (Both a b) (Both b a) (not-both x y) (common-iff (changed a) (named b) (InResult a) (NamedIn b) (in-result a) (named-in b))
-        (common-iff (changed b) (named a) (InResult b) (NamedIn a) (in-result b) (named-in a))
-      where
-        x : Bool
-        x = eqb (bitAnd (changed a) (named b)) 0
-
-        y : Bool
-        y = eqb (bitAnd (changed b) (named a)) 0
-
-    there : Both a b ⊎ Both b a → (q : ℕ) × ((InResult a q × NamedIn b q) ⊎ (InResult b q × NamedIn a q))
-    there (inl k) = (k .0, inl (k .1, k .2))
-    there (inr k) = (k .0, inr (k .1, k .2))
-
-    back : (q : ℕ) → (InResult a q × NamedIn b q) ⊎ (InResult b q × NamedIn a q) → Both a b ⊎ Both b a
-    back q (inl h) = inl (q, h .0, h .1)
-    back q (inr h) = inr (q, h .0, h .1)
+    not-both : (c d : Bool) → not (c && d) ≡ (not c || not d)
+    not-both true d = refl
+    not-both false d = refl
 
 -- ---- moves that both put the lamp out
 result-in : (a : Action) (s : Bool) (q : ℕ) → ResultOf a s q → InResult a q
