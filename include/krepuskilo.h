@@ -66,7 +66,7 @@ extern "C" {
 #define KREPUSKILO_STACK_STEP 10240
 #define KREPUSKILO_STACK_PICTURE 18432
 #define KREPUSKILO_STACK_RUN 16384
-#define KREPUSKILO_STACK_SEARCH 21504
+#define KREPUSKILO_STACK_SEARCH 30720
 
 /* Judges a sheet. Answers 0, or 1 to 7 with the position of the first fault. */
 uint8_t krepuskilo_judge(const uint8_t *sheet, size_t sheet_len, uint64_t *info, size_t info_len);
@@ -95,6 +95,11 @@ uint8_t krepuskilo_run(const uint8_t *sheet, size_t sheet_len, uint64_t *rows, s
  * info[1]: 0 reached, 1 full, 2 none. info[2]: the place, if full. info[3]: the length, 0 if none.
  * Refused: the eight bytes of plan are 0. */
 uint8_t krepuskilo_search(const uint8_t *sheet, size_t sheet_len, uint64_t limit, uint8_t *plan, size_t plan_len, uint64_t *info, size_t info_len);
+
+/* The same, and quicker, with a memory of memory_len numbers, KREPUSKILO_MEMORY_SLOT to a slot. What it holds does not matter, nor how long
+ * it is, none at all included; what it holds afterwards is not promised. */
+#define KREPUSKILO_MEMORY_SLOT 258
+uint8_t krepuskilo_search_with(const uint8_t *sheet, size_t sheet_len, uint64_t limit, uint32_t *memory, size_t memory_len, uint8_t *plan, size_t plan_len, uint64_t *info, size_t info_len);
 
 #ifdef __cplusplus
 }

@@ -21,6 +21,10 @@ extern "C" {
     fn krepuskilo_search(
         sheet: *const u8, sheet_len: usize, limit: u64, plan: *mut u8, plan_len: usize, info: *mut u64, info_len: usize,
     ) -> u8;
+    fn krepuskilo_search_with(
+        sheet: *const u8, sheet_len: usize, limit: u64, memory: *mut u32, memory_len: usize, plan: *mut u8, plan_len: usize,
+        info: *mut u64, info_len: usize,
+    ) -> u8;
 }
 
 // In each call a pointer goes with the length of the slice that it is from, and no two slices overlap.
@@ -52,4 +56,11 @@ pub fn run(sheet: &[u8], rows: &mut [u64], table: &mut [u32], info: &mut [u64]) 
 pub fn search(sheet: &[u8], limit: u64, plan: &mut [u8], info: &mut [u64]) -> u8 {
     let (s, p, i) = (sheet.as_ptr(), plan.as_mut_ptr(), info.as_mut_ptr());
     unsafe { krepuskilo_search(s, sheet.len(), limit, p, plan.len(), i, info.len()) }
+}
+
+/// The same with a memory, 258 numbers to a slot: what it holds does not matter, before or after.
+#[allow(dead_code)]
+pub fn search_with(sheet: &[u8], limit: u64, memory: &mut [u32], plan: &mut [u8], info: &mut [u64]) -> u8 {
+    let (s, m, p, i) = (sheet.as_ptr(), memory.as_mut_ptr(), plan.as_mut_ptr(), info.as_mut_ptr());
+    unsafe { krepuskilo_search_with(s, sheet.len(), limit, m, memory.len(), p, plan.len(), i, info.len()) }
 }

@@ -14,6 +14,7 @@ pub mod Searching
 pub mod SearchRuns
 pub mod FirstAnswers
 pub mod Pruning
+pub mod Remembering
 pub mod Walking
 pub mod Beginning
 pub mod PlanRuns

@@ -24,7 +24,7 @@ use Rattle.plan.proofs.Searching.{plans-in, plans-out, none-is, none-ea
 use Rattle.plan.proofs.FirstAnswers.{firstBelow, each-nothing, consed, by-table}
 
 -- a plan fails or not wherever it begins
-fails-place : (goal : List Literals) (plan : List Action) (t : List Literals) (a b : ℕ) → Fails (runFrom 128 goal a plan t) → Fails (runFrom 128 goal b plan t)
+pub fails-place : (goal : List Literals) (plan : List Action) (t : List Literals) (a b : ℕ) → Fails (runFrom 128 goal a plan t) → Fails (runFrom 128 goal b plan t)
 fails-place goal [] t a b h = h
 fails-place goal (x ∷ plan) t a b h = go (stepTable 128 x t) (λ u. fails-place goal plan u (suc a) (suc b)) h
   where

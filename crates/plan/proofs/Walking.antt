@@ -101,6 +101,10 @@ module _ (goal : List Literals) (f : ℕ → Action) (k at : ℕ) (t : List Lite
         → r ≡ answeredAt at (firstBy goal f k at t left m)
     at-full r h e q = q ∙ ap (answeredAt at) (sym (by-full goal f k at t m left h e))
 
+  -- no plan with so many moves more has an answer
+  pub no-answer : (left : ℕ) {r : Searched} → firstFrom goal f k at t left ≡ nothing → r ≡ answered nothing → r ≡ answeredAt at (firstFrom goal f k at t left)
+  no-answer left e q = q ∙ nothing-at at ∙ sym (ap (answeredAt at) e)
+
   -- ---- no move left
   module _ (left : ℕ) (z : left ≡ 0) where
     last-is : (x : Bool) → allOf (inGoal goal) t ≡ x → firstFrom goal f k at t left ≡ orNext (ended x) [] nothing
@@ -113,7 +117,7 @@ module _ (goal : List Literals) (f : ℕ → Action) (k at : ℕ) (t : List Lite
         ap₂ {C = Searched} (λ (l : List ℕ) (i : ℕ). record { kind = kind.Reached; plan = l; length = i }) (sym (pad-zeros 8 at 0)) n ∙ sym (ap (answeredAt at) (last-is true e))
 
     pub at-short : (r : Searched) → allOf (inGoal goal) t ≡ false → r ≡ answered nothing → r ≡ answeredAt at (firstFrom goal f k at t left)
-    at-short r e q = q ∙ nothing-at at ∙ sym (ap (answeredAt at) (last-is false e))
+    at-short r e q = no-answer left (last-is false e) q
 
   -- ---- the loop over the moves: a turn without an answer, a turn with one, and the end
   module _ (fewer m : ℕ) (r : Searched) (h : firstBelow (firstBy goal f k at t fewer) m ≡ nothing) where
@@ -129,8 +133,8 @@ module _ (goal : List Literals) (f : ℕ → Action) (k at : ℕ) (t : List Lite
           let g = firstBy goal f k at t fewer in
           q ∙ ap (answeredAt at) (sym (whole ∙ found-here g m k h l (told at (g m) r true q b)))
 
-      pub none-at-all : m ≡ k → r ≡ answered nothing → r ≡ answeredAt at (firstFrom goal f k at t left)
-      none-at-all e q = q ∙ nothing-at at ∙ sym (ap (answeredAt at) (whole ∙ ap (firstBelow (firstBy goal f k at t fewer)) (sym e) ∙ h))
+      pub none-at-all : m ≡ k → firstFrom goal f k at t left ≡ nothing
+      none-at-all e = whole ∙ ap (firstBelow (firstBy goal f k at t fewer)) (sym e) ∙ h
 
 -- ---- the loop over the lengths
 module _ (goal : List Literals) (f : ℕ → Action) (k : ℕ) (t : List Literals) (limit n : ℕ) (r : Searched) (h : firstBelow (firstFrom goal f k 0 t) n ≡ nothing) where

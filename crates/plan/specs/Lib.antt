@@ -12,5 +12,6 @@ pub mod Course
 pub mod Rows
 pub mod Text
 pub mod Walks
+pub mod Memory
 pub mod DemandWords
 pub mod Demands

@@ -9,6 +9,7 @@ ghost use Rattle.plan.specs.Rows.{noRow};
 ghost use Rattle.plan.specs.Text.{reportOf, reportIn};
 
 pub mod goals;
+pub mod memory;
 pub mod rows;
 pub mod runs;
 pub mod searches;
@@ -119,6 +120,15 @@ pub fn report(bytes: &[u8], out: &mut [u8]) -> usize
 pub fn search(bytes: &[u8], limit: usize) -> Searched
     ensures { λ r. ⌜ r ≡ searchOf (sheetOf (now (bytes .entry))) limit ⌝ }
 {
+    let mut memory = [0u32; 2064];
+    search_with(bytes, limit, &mut memory)
+}
+
+// The same, and quicker with a memory: slots of 258 numbers, as many as there are. What it holds at entry does not matter, nor how long it
+// is; what it holds afterwards is not promised.
+pub fn search_with<'a, 'b>(bytes: &'a [u8], limit: usize, memory: &'b mut [u32]) -> Searched
+    ensures { λ r. ⌜ r ≡ searchOf (sheetOf (now (bytes .entry))) limit ⌝ }
+{
     let mut ors = [0u32; 136];
     let mut oneofs = [0u32; 136];
     let mut goal = [0u32; 17];
@@ -137,7 +147,7 @@ pub fn search(bytes: &[u8], limit: usize) -> Searched
             let oneofs = &oneofs;
             let goal = &goal;
             let moves = &moves;
-            searches::search_sheet(sheet, ors, oneofs, goal, moves, limit)
+            searches::search_sheet(sheet, ors, oneofs, goal, moves, limit, memory)
         }
     }
 }

@@ -2,6 +2,9 @@
 use crate::Kind;
 use crate::Searched;
 use crate::goals::all_in_goal;
+use crate::memory::forget;
+use crate::memory::remember;
+use crate::memory::remembered;
 use sheet::Sheet;
 use table::first::first_into;
 use table::steps::Stepped;
@@ -19,6 +22,7 @@ ghost use Rattle.table.specs.Moves.{Filled};
 ghost use Rattle.plan.specs.Search.{fullAt, nothing};
 ghost use Rattle.plan.specs.Calls.{refusedSearch, answered, searched};
 ghost use Rattle.plan.specs.Walks as W;
+ghost use Rattle.plan.specs.Memory.{Remembers};
 
 // No plan.
 pub(crate) fn none() -> Searched
@@ -101,7 +105,7 @@ pub(crate) fn same<'a, 'b>(
 
 // The plans with the moves taken so far, move m next and `left` moves more. No shorter plan has an answer, so a move that leaves the
 // table as it was is not followed.
-fn begin<'a, 'b>(
+fn begin<'a, 'b, 'c>(
     moves: &'a [u32],
     count: usize,
     goal: &'a [u32],
@@ -111,11 +115,14 @@ fn begin<'a, 'b>(
     at: usize,
     left: usize,
     m: usize,
+    memory: &'c mut [u32],
 ) -> Searched
     requires { ⌜ W.Searchable (now moves) count (now goal) (M.lent n (now ts) (now fs)) ⌝ }
     requires { ⌜ (at + left < 8) × (m < count) ⌝ }
     requires { ⌜ W.Unmet (now moves) count (now goal) (M.lent n (now ts) (now fs)) at (left + 1) ⌝ }
-    ensures { λ r. ⌜ r ≡ W.begun (now (moves .entry)) count (now (goal .entry)) (M.lent n (now (ts .entry)) (now (fs .entry))) at left m ⌝ }
+    requires { ⌜ Remembers (now moves) count (now goal) (now memory) ⌝ }
+    ensures answers { λ r. ⌜ r ≡ W.begun (now (moves .entry)) count (now (goal .entry)) (M.lent n (now (ts .entry)) (now (fs .entry))) at left m ⌝ }
+    ensures keeps { λ r. ⌜ Remembers (now (moves .entry)) count (now (goal .entry)) (now (memory .exit)) ⌝ }
 {
     let mut us = [0u32; 128];
     let mut gs = [0u32; 128];
@@ -126,7 +133,7 @@ fn begin<'a, 'b>(
             if same(&us, &gs, k, ts, fs, n) {
                 return none();
             }
-            let mut r = walk(moves, count, goal, &us, &gs, k, next, left);
+            let mut r = walk(moves, count, goal, &us, &gs, k, next, left, memory);
             if ended(r) {
                 r.plan[at] = m as u8;
             }
@@ -142,7 +149,7 @@ fn begin<'a, 'b>(
 }
 
 // The plans with the moves taken so far, which led to the table, and `left` moves more, in ascending order.
-fn walk<'a, 'b>(
+fn walk<'a, 'b, 'c>(
     moves: &'a [u32],
     count: usize,
     goal: &'a [u32],
@@ -151,11 +158,14 @@ fn walk<'a, 'b>(
     n: usize,
     at: usize,
     left: usize,
+    memory: &'c mut [u32],
 ) -> Searched
     requires { ⌜ W.Searchable (now moves) count (now goal) (M.lent n (now ts) (now fs)) ⌝ }
     requires { ⌜ at + left ≤ 8 ⌝ }
     requires { ⌜ W.Unmet (now moves) count (now goal) (M.lent n (now ts) (now fs)) at left ⌝ }
-    ensures { λ r. ⌜ r ≡ W.walked (now (moves .entry)) count (now (goal .entry)) (M.lent n (now (ts .entry)) (now (fs .entry))) at left ⌝ }
+    requires { ⌜ Remembers (now moves) count (now goal) (now memory) ⌝ }
+    ensures answers { λ r. ⌜ r ≡ W.walked (now (moves .entry)) count (now (goal .entry)) (M.lent n (now (ts .entry)) (now (fs .entry))) at left ⌝ }
+    ensures keeps { λ r. ⌜ Remembers (now (moves .entry)) count (now (goal .entry)) (now (memory .exit)) ⌝ }
 {
     if left == 0 {
         if all_in_goal(goal, ts, fs, n) {
@@ -167,20 +177,25 @@ fn walk<'a, 'b>(
         }
         return none();
     }
+    if remembered(memory, ts, fs, n, left) {
+        return none();
+    }
+    remember(memory, ts, fs, n, left);
     let fewer = left - 1;
     let mut m: usize = 0;
     while m < count {
-        let r = begin(moves, count, goal, ts, fs, n, at, fewer, m);
+        let r = begin(moves, count, goal, ts, fs, n, at, fewer, m, memory);
         if ended(r) {
             return r;
         }
         m += 1;
     }
+    remember(memory, ts, fs, n, left + 1);
     none()
 }
 
 // Plans of at most `limit` moves, shorter first.
-pub(crate) fn lengths<'a, 'b>(
+pub(crate) fn lengths<'a, 'b, 'c>(
     moves: &'a [u32],
     count: usize,
     goal: &'a [u32],
@@ -188,14 +203,16 @@ pub(crate) fn lengths<'a, 'b>(
     fs: &'b [u32],
     n: usize,
     limit: usize,
+    memory: &'c mut [u32],
 ) -> Searched
     requires { ⌜ W.Searchable (now moves) count (now goal) (M.lent n (now ts) (now fs)) ⌝ }
     requires { ⌜ limit ≤ 8 ⌝ }
     ensures { λ r. ⌜ r ≡ W.searchedBy (now (moves .entry)) count (now (goal .entry)) (M.lent n (now (ts .entry)) (now (fs .entry))) limit ⌝ }
 {
+    forget(memory);
     let mut length: usize = 0;
     while length <= limit {
-        let r = walk(moves, count, goal, ts, fs, n, 0, length);
+        let r = walk(moves, count, goal, ts, fs, n, 0, length, memory);
         if ended(r) {
             return r;
         }
@@ -205,13 +222,14 @@ pub(crate) fn lengths<'a, 'b>(
 }
 
 // The search on a sheet that was read: 20 or 21 of the start, then the plans.
-pub(crate) fn search_sheet<'a>(
+pub(crate) fn search_sheet<'a, 'b>(
     sheet: Sheet,
     ors: &'a [u32],
     oneofs: &'a [u32],
     goal: &'a [u32],
     moves: &'a [u32],
     limit: usize,
+    memory: &'b mut [u32],
 ) -> Searched
     requires { ⌜ Filled sheet (now ors) (now oneofs) (now goal) (now moves) ⌝ }
     requires { ⌜ limit ≤ 8 ⌝ }
@@ -229,7 +247,16 @@ pub(crate) fn search_sheet<'a>(
         &mut trues,
         &mut falses,
     ) {
-        Stepped::To(count) => lengths(moves, sheet.moves, goal, &trues, &falses, count, limit),
+        Stepped::To(count) => lengths(
+            moves,
+            sheet.moves,
+            goal,
+            &trues,
+            &falses,
+            count,
+            limit,
+            memory,
+        ),
         Stepped::Refused(number) => refused(number, 0),
     }
 }

@@ -3,19 +3,20 @@ use mathlib.Core.Path.{_≡_, refl, sym, ap, _∙_, subst}
 use mathlib.Core.Bool.{Bool, true, false, not, _||_, cond}
 use mathlib.Core.List.{List, [], _∷_, _++_}
 use mathlib.Core.Logic.{_↔_}
-use Prim.Native.Nat.{ℕ, zero, suc, _≤_, _<_}
+use Prim.Native.Nat.{ℕ, zero, suc, _+_, _≤_, _<_}
 use native.Mathlib.Nat.{not-suc-le-zero, le-of-suc-le-suc}
 use native.Mathlib.Omega.{arith}
 use lib.Dec.{T}
 use lib.ListN.{length, getD, take}
-use lib.Seq.{take-suc, take-all, length-take-le}
+use lib.Seq.{take-suc}
 use Rattle.sheet.specs.declared.Literals.{Literals}
 use Rattle.table.specs.declared.slots.Found.{Found}
 use Rattle.table.specs.declared.slots.Found.the-variants.{At, Nothing}
-use Rattle.sheet.specs.Lists.{All, anyOf}
-use Rattle.table.specs.Slots.{shifted, lastOf, entriesOf}
-use Rattle.sheet.specs.Literals.{noLiteral}
-use Rattle.sheet.proofs.Bools.{T-true, T-false, true-T, false-T}
+use Rattle.sheet.specs.Lists.{All, anyOf, pad}
+use Rattle.table.specs.Slots.{shifted, lastOf, lastWithin, pairs, entriesOf}
+use Rattle.table.specs.Moves.{slot, fourWithin}
+use Rattle.sheet.specs.Literals.{within, noLiteral}
+use Rattle.sheet.proofs.Bools.{T-true, T-false, true-T, false-T, or-not-l, or-not-r}
 use Rattle.sheet.proofs.ListFacts.{all-at, all-places, any-none}
 use Rattle.table.proofs.Pads.{length-entriesOf, getD-entriesOf, take-entriesOf}
 
@@ -53,32 +54,84 @@ found-some f xs r i e q = sym (found-any f xs) ∙ ap there (sym e ∙ q)
 pub found-none : (f : Literals → Bool) (xs : List Literals) (r : Found) → r ≡ lastOf f xs → r ≡ Nothing → anyOf f xs ≡ false
 found-none f xs r e q = sym (found-any f xs) ∙ ap there (sym e ∙ q)
 
-module _ (f : Literals → Bool) (n : ℕ) (ts fs : List ℕ) (i j : ℕ) (is : i ≡ suc j) (le : i ≤ n) where
-  more : lastOf f (take i (entriesOf n ts fs)) ≡ cond (f (record { trues = getD ts j 0; falses = getD fs j 0 })) (At j) (lastOf f (take j (entriesOf n ts fs)))
-  more =
-      let lt : j < n = omega arith in
-      let lt' : j < length (entriesOf n ts fs) = omega (arith, length-entriesOf n ts fs) in
-      let le' : j ≤ length (entriesOf n ts fs) = omega (arith, length-entriesOf n ts fs) in
-      rw (is, take-suc (entriesOf n ts fs) j noLiteral lt', getD-entriesOf n ts fs j lt)
-      (last-more f (take j (entriesOf n ts fs)) (record { trues = getD ts j 0; falses = getD fs j 0 })
-      ∙ ap (λ (k : ℕ). cond (f (record { trues = getD ts j 0; falses = getD fs j 0 })) (At k) (lastOf f (take j (entriesOf n ts fs)))) (length-take-le j (entriesOf n ts fs) le'))
+-- ---- the first k entries of two arrays, by the last of them
+module _ (f : Literals → Bool) (ts fs : List ℕ) (k j : ℕ) (is : k ≡ suc j) where
+  front : entriesOf k ts fs ≡ entriesOf j ts fs ++ slot ts fs j ∷ []
+  unfolding slot
+  front =
+      let lt : j < k = omega arith in
+      sym (take-entriesOf k k ts fs (omega arith))
+      ∙ ap (λ (x : ℕ). take x (entriesOf k ts fs)) is
+      ∙ take-suc (entriesOf k ts fs) j noLiteral (omega (arith, length-entriesOf k ts fs))
+      ∙ (λ x. take-entriesOf j k ts fs (omega arith) x ++ getD-entriesOf k ts fs j lt x ∷ [])
 
-  pub scan-found : f (record { trues = getD ts j 0; falses = getD fs j 0 }) ≡ true → lastOf f (take i (entriesOf n ts fs)) ≡ At j
-  scan-found t = more ∙ ap (λ (b : Bool). cond b (At j) (lastOf f (take j (entriesOf n ts fs)))) t
+  by-last : lastOf f (entriesOf k ts fs) ≡ cond (f (slot ts fs j)) (At j) (lastOf f (entriesOf j ts fs))
+  by-last =
+      ap (lastOf f) front
+      ∙ last-more f (entriesOf j ts fs) (slot ts fs j)
+      ∙ ap (λ (x : ℕ). cond (f (slot ts fs j)) (At x) (lastOf f (entriesOf j ts fs))) (length-entriesOf j ts fs)
 
-  pub scan-on : f (record { trues = getD ts j 0; falses = getD fs j 0 }) ≡ false → lastOf f (take i (entriesOf n ts fs)) ≡ lastOf f (take j (entriesOf n ts fs))
-  scan-on t = more ∙ ap (λ (b : Bool). cond b (At j) (lastOf f (take j (entriesOf n ts fs)))) t
+  pub hit : f (slot ts fs j) ≡ true → lastOf f (entriesOf k ts fs) ≡ At j
+  hit t = by-last ∙ ap (λ (b : Bool). cond b (At j) (lastOf f (entriesOf j ts fs))) t
 
-pub scan-start : (f : Literals → Bool) (n : ℕ) (ts fs : List ℕ) → lastOf f (take n (entriesOf n ts fs)) ≡ lastOf f (entriesOf n ts fs)
-scan-start f n ts fs = ap (lastOf f) (take-all n (entriesOf n ts fs) (omega (arith, length-entriesOf n ts fs)))
+  pub missed : f (slot ts fs j) ≡ false → lastOf f (entriesOf k ts fs) ≡ lastOf f (entriesOf j ts fs)
+  missed t = by-last ∙ ap (λ (b : Bool). cond b (At j) (lastOf f (entriesOf j ts fs))) t
 
-pub scan-end : (f : Literals → Bool) (n : ℕ) (ts fs : List ℕ) (i : ℕ) → i ≤ 0 → lastOf f (take i (entriesOf n ts fs)) ≡ Nothing
-unfolding lastOf
-scan-end f n ts fs i h = let z : i ≡ 0 = omega arith in ap (λ (k : ℕ). lastOf f (take k (entriesOf n ts fs))) z
+pub none-left : (f : Literals → Bool) (ts fs : List ℕ) (i : ℕ) → i ≤ 0 → lastOf f (entriesOf i ts fs) ≡ Nothing
+unfolding lastOf entriesOf pairs pad
+none-left f ts fs i h = let z : i ≡ 0 = omega arith in ap (λ (k : ℕ). lastOf f (entriesOf k ts fs)) z
 
--- none of the first i
-pub none-before : (f : Literals → Bool) (n : ℕ) (ts fs : List ℕ) (i : ℕ) → i ≤ n → lastOf f (take i (entriesOf n ts fs)) ≡ Nothing → anyOf f (entriesOf i ts fs) ≡ false
-none-before f n ts fs i h e = ap (anyOf f) (sym (take-entriesOf i n ts fs h)) ∙ found-none f (take i (entriesOf n ts fs)) Nothing (sym e) refl
+-- ---- four entries at once
+neither : (a b : Bool) → (a || b) ≡ false → (a ≡ false) × (b ≡ false)
+neither a b e = (T-false a (or-not-l a b (false-T (a || b) e)), T-false b (or-not-r a b (false-T (a || b) e)))
+
+module _ (ts fs : List ℕ) (i : ℕ) (l : Literals) where
+  abbrev test : ℕ → Bool
+  test k = within (slot ts fs (i + k)) l
+
+  abbrev last : ℕ → Found
+  last k = lastWithin (entriesOf (i + k) ts fs) l
+
+  at : (k : ℕ) → test k ≡ true → last (suc k) ≡ At (i + k)
+  at k t = hit (λ e. within e l) ts fs (i + suc k) (i + k) (omega arith) t
+
+  on : (k : ℕ) → test k ≡ false → last (suc k) ≡ last k
+  on k t = missed (λ e. within e l) ts fs (i + suc k) (i + k) (omega arith) t
+
+  pub last-3 : test 3 ≡ true → last 4 ≡ At (i + 3)
+  last-3 = at 3
+
+  pub last-2 : test 3 ≡ false → test 2 ≡ true → last 4 ≡ At (i + 2)
+  last-2 c t = on 3 c ∙ at 2 t
+
+  pub last-1 : test 3 ≡ false → test 2 ≡ false → test 1 ≡ true → last 4 ≡ At (i + 1)
+  last-1 c b t = on 3 c ∙ on 2 b ∙ at 1 t
+
+  pub last-0 : test 3 ≡ false → test 2 ≡ false → test 1 ≡ false → fourWithin ts fs i l ≡ true → last 4 ≡ At i
+  last-0 c b a t = on 3 c ∙ on 2 b ∙ on 1 a ∙ hit (λ e. within e l) ts fs (i + 1) i (omega arith) (first (within (slot ts fs i) l) _ _ _ a b c t)
+    where
+      first : (x p q r : Bool) → p ≡ false → q ≡ false → r ≡ false → (x || p || q || r) ≡ true → x ≡ true
+      first true p q r u v w e = refl
+      first false p q r u v w e = (λ k. sym u k || sym v k || sym w k) ∙ e
+
+  pub four-none : fourWithin ts fs i l ≡ false → last 4 ≡ lastWithin (entriesOf i ts fs) l
+  four-none e =
+      let u = neither _ (test 3) e in
+      let v = neither _ (test 2) (u .0) in
+      let w = neither (within (slot ts fs i) l) (test 1) (v .0) in
+      on 3 (u .1) ∙ on 2 (v .1) ∙ on 1 (w .1) ∙ missed (λ e. within e l) ts fs (i + 1) i (omega arith) (w .0)
+
+-- what a test of an entry that was read says
+pub tested : {r : Bool} {e x : Literals} (l : Literals) → r ≡ within e l → e ≡ x → r ≡ within x l
+tested {r} {e} {x} l p q = p ∙ ap (λ (y : Literals). within y l) q
+
+-- ---- a turn over four entries, the last of the first k
+module _ (ts fs : List ℕ) (k i : ℕ) (l : Literals) (is : i + 4 ≡ k) where
+  pub turn-found : {r : ℕ} → At r ≡ lastWithin (entriesOf (i + 4) ts fs) l → At r ≡ lastWithin (entriesOf k ts fs) l
+  turn-found e = e ∙ ap (λ (j : ℕ). lastWithin (entriesOf j ts fs) l) is
+
+  pub turn-none : fourWithin ts fs i l ≡ false → lastWithin (entriesOf i ts fs) l ≡ lastWithin (entriesOf k ts fs) l
+  turn-none e = sym (four-none ts fs i l e) ∙ ap (λ (j : ℕ). lastWithin (entriesOf j ts fs) l) is
 
 -- ---- what the scan gives, by places, for any test and any list
 -- nothing is found exactly if no member passes

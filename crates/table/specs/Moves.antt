@@ -1,13 +1,14 @@
 -- An action and a table as the step takes them.
 use mathlib.Core.Path.{_≡_}
+use mathlib.Core.Bool.{Bool, _||_}
 use mathlib.Core.List.{List}
-use Prim.Native.Nat.{ℕ, _≤_}
+use Prim.Native.Nat.{ℕ, _+_, _≤_}
 use lib.ListN.{length, getD}
 use Rattle.sheet.specs.declared.Literals.{Literals}
 use Rattle.sheet.specs.declared.Sheet.{Sheet}
 use Rattle.sheet.specs.declared.Answer.{Answer}
 use Rattle.sheet.specs.declared.Answer.the-variants.{Accepted, Refused}
-use Rattle.sheet.specs.Literals.{Proper}
+use Rattle.sheet.specs.Literals.{within, Proper}
 use Rattle.sheet.specs.Lists.{All}
 use Rattle.sheet.specs.Problem.{Action}
 use Rattle.sheet.specs.Encoding.{ProperAction, ProperStatement}
@@ -22,6 +23,10 @@ use Rattle.table.specs.Slots.{entries}
 -- the set in slot i of two arrays
 unfoldable pub slot : List ℕ → List ℕ → ℕ → Literals
 slot ts fs i = record { trues = getD ts i 0; falses = getD fs i 0 }
+
+-- some of the four sets from slot i on lies in l
+abbrev pub fourWithin : List ℕ → List ℕ → ℕ → Literals → Bool
+fourWithin ts fs i l = within (slot ts fs i) l || within (slot ts fs (i + 1)) l || within (slot ts fs (i + 2)) l || within (slot ts fs (i + 3)) l
 
 -- ---- a table in lent arrays
 abbrev pub lent : ℕ → List ℕ → List ℕ → Table

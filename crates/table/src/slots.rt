@@ -1,8 +1,9 @@
 // A list of literal sets in two lent slices of masks, none within another: slot i of both is one set. The slices' length is the capacity.
+use crate::tables::entry_at;
 use sheet::Literals;
 use sheet::masks::within;
 ghost use mathlib.Core.Path.{_≡_};
-ghost use mathlib.Core.Bool.{false};
+ghost use mathlib.Core.Bool.{true, false};
 ghost use mathlib.Core.List.{[], _∷_};
 ghost use Prim.Native.Nat.{_≤_, _+_};
 ghost use lib.Seq.{paste};
@@ -10,6 +11,8 @@ ghost use lib.ListN.{length};
 ghost use Rattle.sheet.specs.Literals as L;
 ghost use Rattle.sheet.specs.Lists.{anyOf};
 ghost use Rattle.table.specs.Slots.{entriesOf, Holds, Held, lastWithin, left, after, fateOf, Puts};
+ghost use Rattle.table.specs.declared.slots.Found.the-variants as found;
+ghost use Rattle.table.specs.Moves.{fourWithin};
 
 // The place of an entry, if there is one.
 pub enum Found {
@@ -30,23 +33,64 @@ pub enum Grown {
     Full,
 }
 
-// The last of the first n entries whose literals all lie in l.
-pub(crate) fn last_within(trues: &[u32], falses: &[u32], n: usize, l: Literals) -> Found
+// Some of the four entries from `from` on lies in l. There is no branch, so that the compiler compares the four at once.
+pub(crate) fn some_of_four(trues: &[u32], falses: &[u32], from: usize, l: Literals) -> bool
+    requires { ⌜ (from + 4 ≤ length (now trues)) × (from + 4 ≤ length (now falses)) ⌝ }
+    ensures { λ r. ⌜ r ≡ fourWithin (now (trues .entry)) (now (falses .entry)) from l ⌝ }
+{
+    let a = within(entry_at(trues, falses, from), l);
+    let b = within(entry_at(trues, falses, from + 1), l);
+    let c = within(entry_at(trues, falses, from + 2), l);
+    let d = within(entry_at(trues, falses, from + 3), l);
+    a | b | c | d
+}
+
+// The last of the four entries from `from` on that lies in l: one does.
+pub(crate) fn last_of_four(trues: &[u32], falses: &[u32], from: usize, l: Literals) -> usize
+    requires { ⌜ (from + 4 ≤ length (now trues)) × (from + 4 ≤ length (now falses)) ⌝ }
+    requires { ⌜ fourWithin (now trues) (now falses) from l ≡ true ⌝ }
+    ensures { λ r. ⌜ found.At r ≡ lastWithin (entriesOf (from + 4) (now (trues .entry)) (now (falses .entry))) l ⌝ }
+{
+    if within(entry_at(trues, falses, from + 3), l) {
+        return from + 3;
+    }
+    if within(entry_at(trues, falses, from + 2), l) {
+        return from + 2;
+    }
+    if within(entry_at(trues, falses, from + 1), l) {
+        return from + 1;
+    }
+    from
+}
+
+// The last of the first n entries whose literals all lie in l, looked for one by one: n is what blocks of four leave.
+pub(crate) fn last_singly(trues: &[u32], falses: &[u32], n: usize, l: Literals) -> Found
     requires { ⌜ (n ≤ length (now trues)) × (n ≤ length (now falses)) ⌝ }
     ensures { λ r. ⌜ r ≡ lastWithin (entriesOf n (now (trues .entry)) (now (falses .entry))) l ⌝ }
 {
     let mut i = n;
     while 0 < i {
         i -= 1;
-        let e = Literals {
-            trues: trues[i],
-            falses: falses[i],
-        };
-        if within(e, l) {
+        if within(entry_at(trues, falses, i), l) {
             return Found::At(i);
         }
     }
     Found::Nothing
+}
+
+// The last of the first n entries whose literals all lie in l, looked for by blocks of four.
+pub(crate) fn last_within(trues: &[u32], falses: &[u32], n: usize, l: Literals) -> Found
+    requires { ⌜ (n ≤ length (now trues)) × (n ≤ length (now falses)) ⌝ }
+    ensures { λ r. ⌜ r ≡ lastWithin (entriesOf n (now (trues .entry)) (now (falses .entry))) l ⌝ }
+{
+    let mut i = n;
+    while 4 <= i {
+        i -= 4;
+        if some_of_four(trues, falses, i, l) {
+            return Found::At(last_of_four(trues, falses, i, l));
+        }
+    }
+    last_singly(trues, falses, i, l)
 }
 
 // Some of the first n entries contains l. The scan has no way out before its end, so that the compiler can compare several at a time.

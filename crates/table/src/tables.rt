@@ -12,7 +12,7 @@ ghost use Rattle.table.specs.Slots.{entriesOf};
 ghost use Rattle.table.specs.Moves.{slot};
 
 // The set in slot i.
-pub fn entry_at<'a>(trues: &'a [u32], falses: &'a [u32], i: usize) -> Literals
+pub fn entry_at(trues: &[u32], falses: &[u32], i: usize) -> Literals
     requires { ⌜ (i < length (now trues)) × (i < length (now falses)) ⌝ }
     ensures { λ r. ⌜ r ≡ slot (now (trues .entry)) (now (falses .entry)) i ⌝ }
 {

@@ -138,6 +138,33 @@ pub extern "C" fn krepuskilo_search(
     told.answer
 }
 
+// The same with a memory: 258 numbers to a slot. What it holds does not matter, before or after.
+#[no_mangle]
+pub extern "C" fn krepuskilo_search_with(
+    sheet: &[u8],
+    limit: u64,
+    memory: &mut [u32],
+    plan: &mut [u8],
+    info: &mut [u64],
+) -> u8
+    ensures { λ r. ⌜ r ≡ cond (lacks 8 (now (plan .entry)) (now (info .entry))) 255 (U.searchTold (now (sheet .entry)) limit .answer) ⌝ }
+    ensures { λ r. ⌜ now (plan .exit) ≡ cond (lacks 8 (now (plan .entry)) (now (info .entry))) (now (plan .entry)) (searchOf (sheetOf (now (sheet .entry))) limit .plan ++ drop 8 (now (plan .entry))) ⌝ }
+    ensures { λ r. ⌜ now (info .exit) ≡ cond (lacks 8 (now (plan .entry)) (now (info .entry))) (now (info .entry)) (infoOf (U.searchTold (now (sheet .entry)) limit) (now (info .entry))) ⌝ }
+{
+    if plan.len() < 8 {
+        return 255;
+    }
+    if info.len() < 4 {
+        return 255;
+    }
+    let searched = plan::search_with(sheet, limit as usize, memory);
+    let kind = searched.kind;
+    let told = numbers::told_kind(kind, searched.length as u64);
+    numbers::copy_bytes(plan, &searched.plan);
+    numbers::write_info(info, told);
+    told.answer
+}
+
 // The run of a sheet's plan, its rows as three numbers each.
 #[no_mangle]
 pub extern "C" fn krepuskilo_run(

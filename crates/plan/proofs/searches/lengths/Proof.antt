@@ -1,4 +1,4 @@
--- `plan::searches::lengths` meets its contract. The loop's invariant: no plan that is shorter has an answer. Assumes nothing.
+-- `plan::searches::lengths` meets its contract. The loop's invariant: no plan that is shorter has an answer, and what the memory says is so. Assumes nothing.
 use mathlib.Core.Path.{_≡_, refl, sym, _∙_}
 use Prim.Native.Nat.{_+_, _-_, _≤_}
 use native.Mathlib.Omega.{arith}
@@ -12,33 +12,46 @@ use Rattle.plan.specs.Walks.{firstFrom}
 use Rattle.plan.proofs.FirstAnswers.{firstBelow}
 use Rattle.plan.proofs.Pruning.{quiet-lengths}
 use Rattle.plan.proofs.Walking.{length-found, length-next, length-none}
+use lib.ListN as N
+use Rattle.plan.specs.Memory.{Remembers}
 use Rattle.plan.proofs.searches.lengths.Statement.{statement}
 use Rattle.plan.proofs.searches.lengths.Tie as tie
 
 abbrev Inv-loop : tie.InvT-loop
-Inv-loop moves count goal ts fs n limit length₀ length = (firstBelow (firstFrom (setsRow goal) (actionOf moves) count 0 (entriesOf n ts fs)) length ≡ nothing) × (length ≤ limit + 1)
+Inv-loop moves count goal ts fs n limit memory₀ length₀ memory length =
+    (firstBelow (firstFrom (setsRow goal) (actionOf moves) count 0 (entriesOf n ts fs)) length ≡ nothing) × (length ≤ limit + 1) × (N.length memory ≡ N.length memory₀) × Remembers moves count goal memory
 
 abbrev μ-loop : tie.MeasureT-loop
-μ-loop moves count goal ts fs n limit length₀ length = limit + 1 - length
+μ-loop moves count goal ts fs n limit memory₀ length₀ memory length = limit + 1 - length
+
+forget-requires : tie.Need-forget-requires Inv-loop μ-loop
+forget-requires c κs = search needs
 
 loop-holds : tie.Need-loop-holds Inv-loop μ-loop
-loop-holds c = (refl, omega arith)
+loop-holds c =
+    let s = c .before .before .before .before .before .before .before .before .before .args in
+    (refl, omega arith, refl, c .before .before .forget .ensures (now (s .moves)) (s .count) (now (s .goal)))
 
 walk-requires : tie.Need-walk-requires Inv-loop μ-loop
 unfolding entries
 walk-requires c κs =
-    let z = c .before .before .before .before .before .before in
+    let z = c .before .before .before .before .before .before .before .before .before .before .before .before in
     let s = z .args in
-    (z .pre .0, (omega arith, quiet-lengths (setsRow (now (s .goal))) (actionOf (now (s .moves))) (s .count) (entriesOf (s .n) (now (s .ts)) (now (s .fs))) (c .before .loop .length) (c .before .loop .inv .0)))
+    let g = c .before .before .loop in
+    (z .pre .0, (omega arith, (quiet-lengths (setsRow (now (s .goal))) (actionOf (now (s .moves))) (s .count) (entriesOf (s .n) (now (s .ts)) (now (s .fs))) (g .length) (g .inv .0), g .inv .3)))
 
 ended-requires : tie.Need-ended-requires Inv-loop μ-loop
 ended-requires c κs = search needs
 
+same-length : tie.Need-same-length Inv-loop μ-loop
+same-length c = search needs
+
 returns : tie.Need-returns Inv-loop μ-loop
 unfolding entries
 returns c =
-    let s = c .before .before .before .before .before .before .before .before .before .args in
-    length-found (setsRow (now (s .goal))) (actionOf (now (s .moves))) (s .count) (entriesOf (s .n) (now (s .ts)) (now (s .fs))) (s .limit) (c .before .before .before .before .loop .length) _ (c .before .before .before .before .loop .inv .0) (c .before .before .before .loop-test .taken) (c .before .before .walk .ensures) (sym (c .before .ended .ensures) ∙ c .if1 .taken)
+    let s = c .before .before .before .before .before .before .before .before .before .before .before .before .before .before .before .before .before .args in
+    let g = c .before .before .before .before .before .before .before .loop in
+    length-found (setsRow (now (s .goal))) (actionOf (now (s .moves))) (s .count) (entriesOf (s .n) (now (s .ts)) (now (s .fs))) (s .limit) (g .length) _ (g .inv .0) (c .before .before .before .before .before .before .loop-test .taken) (c .before .before .before .before .walk .ensures .0) (sym (c .before .ended .ensures) ∙ c .if1 .taken)
 
 add-length : tie.Need-add-length Inv-loop μ-loop
 add-length c = search needs
@@ -49,17 +62,22 @@ loop-less c = search needs
 loop-again : tie.Need-loop-again Inv-loop μ-loop
 unfolding entries
 loop-again c =
-    let s = c .before .before .before .before .before .before .before .before .before .args in
-    (length-next (setsRow (now (s .goal))) (actionOf (now (s .moves))) (s .count) (entriesOf (s .n) (now (s .ts)) (now (s .fs))) (s .limit) (c .before .before .before .before .loop .length) _ (c .before .before .before .before .loop .inv .0) (c .before .before .walk .ensures) (sym (c .before .ended .ensures) ∙ c .if1 .left), omega arith)
+    let s = c .before .before .before .before .before .before .before .before .before .before .before .before .before .before .before .before .before .args in
+    let g = c .before .before .before .before .before .before .before .loop in
+    (length-next (setsRow (now (s .goal))) (actionOf (now (s .moves))) (s .count) (entriesOf (s .n) (now (s .ts)) (now (s .fs))) (s .limit) (g .length) _ (g .inv .0) (c .before .before .before .before .walk .ensures .0) (sym (c .before .ended .ensures) ∙ c .if1 .left), omega arith, search needs, c .before .before .before .before .walk .ensures .1)
 
 none-requires : tie.Need-none-requires Inv-loop μ-loop
 none-requires c κs = search needs
 
+same-length-2 : tie.Need-same-length-2 Inv-loop μ-loop
+same-length-2 c = search needs
+
 returns-2 : tie.Need-returns-2 Inv-loop μ-loop
 unfolding entries
 returns-2 c =
-    let s = c .before .before .before .before .before .before .before .args in
-    length-none (setsRow (now (s .goal))) (actionOf (now (s .moves))) (s .count) (entriesOf (s .n) (now (s .ts)) (now (s .fs))) (s .limit) (c .before .before .loop .length) _ (c .before .before .loop .inv .0) (omega arith) (c .none .ensures)
+    let s = c .before .before .before .before .before .before .before .before .before .before .before .before .args in
+    let g = c .before .before .loop in
+    length-none (setsRow (now (s .goal))) (actionOf (now (s .moves))) (s .count) (entriesOf (s .n) (now (s .ts)) (now (s .fs))) (s .limit) (g .length) _ (g .inv .0) (omega arith) (c .none .ensures)
 
 pub lengths-spec : {M : Type 1} → statement M
 lengths-spec =
@@ -67,12 +85,15 @@ lengths-spec =
     (tie.spec
     Inv-loop
     μ-loop
+    forget-requires
     loop-holds
     walk-requires
     ended-requires
+    same-length
     returns
     add-length
     loop-less
     loop-again
     none-requires
+    same-length-2
     returns-2)

@@ -13,7 +13,7 @@ slice-aggregate-first-into-2 c = search needs
 
 first-into-requires : tie.Need-first-into-requires
 first-into-requires c κs =
-    let z = c .before .before .before .before .before .before .before in
+    let z = c .before .before .before .before .before .before .before .before in
     (ors-fit (z .args .sheet) (z .args .ors .now) (z .args .oneofs .now) (z .args .goal .now) (z .args .moves .now) (z .pre .0), (oneofs-fit (z .args .sheet) (z .args .ors .now) (z .args .oneofs .now) (z .args .goal .now) (z .args .moves .now) (z .pre .0), (refl, refl)))
 
 enum-known-count : tie.Need-enum-known-count
@@ -27,8 +27,8 @@ slice-aggregate-lengths-2 c = search needs
 
 lengths-requires : tie.Need-lengths-requires
 lengths-requires c κs =
-    let z = c .before .before .before .before .before .before .before .before .before .before .before .before .before .before .before in
-    (can-search (z .args .sheet) (z .args .ors .now) (z .args .oneofs .now) (z .args .goal .now) (z .args .moves .now) (z .pre .0) _ _ _ (c .before .before .before .before .before .before .before .first-into .ensures) _ (c .before .before .before .count .given .1), z .pre .1)
+    let z = c .before .before .before .before .before .before .before .before .before .before .before .before .before .before .before .before .before in
+    (can-search (z .args .sheet) (z .args .ors .now) (z .args .oneofs .now) (z .args .goal .now) (z .args .moves .now) (z .pre .0) _ _ _ (c .before .before .before .before .before .before .before .before .first-into .ensures) _ (c .before .before .before .before .count .given .1), z .pre .1)
 
 enum-known-number : tie.Need-enum-known-number
 enum-known-number c = search needs
@@ -36,14 +36,17 @@ enum-known-number c = search needs
 refused-requires : tie.Need-refused-requires
 refused-requires c κs = search needs
 
+same-length : tie.Need-same-length
+same-length c = search needs
+
 returns : tie.Need-returns
 returns c =
-    let z = c .before .before .before .before .before .before .before .before .before .before .before .before .before .before .before .before in
-    c .lengths .ensures ∙ search-is (z .args .sheet) (z .args .ors .now) (z .args .oneofs .now) (z .args .goal .now) (z .args .moves .now) (z .pre .0) _ _ _ (c .before .before .before .before .before .before .before .before .first-into .ensures) _ (c .before .before .before .before .count .given .1) (z .args .limit)
+    let z = c .before .before .before .before .before .before .before .before .before .before .before .before .before .before .before .before .before .before .before .before in
+    c .before .before .lengths .ensures ∙ search-is (z .args .sheet) (z .args .ors .now) (z .args .oneofs .now) (z .args .goal .now) (z .args .moves .now) (z .pre .0) _ _ _ (c .before .before .before .before .before .before .before .before .before .before .before .first-into .ensures) _ (c .before .before .before .before .before .before .before .count .given .1) (z .args .limit)
 
 returns-2 : tie.Need-returns-2
 returns-2 c =
-    let z = c .before .before .before .before .before .before .before .before .before .before .before .before .before .before in
+    let z = c .before .before .before .before .before .before .before .before .before .before .before .before .before .before .before in
     c .refused .ensures ∙ search-stops (z .args .sheet) (z .args .ors .now) (z .args .oneofs .now) (z .args .goal .now) (z .args .moves .now) (z .pre .0) _ _ _ (c .before .before .before .before .before .before .first-into .ensures) _ (c .before .before .number .given .1) (z .args .limit)
 
 pub search-sheet-spec : {M : Type 1} → statement M
@@ -59,5 +62,6 @@ search-sheet-spec =
     lengths-requires
     enum-known-number
     refused-requires
+    same-length
     returns
     returns-2)

@@ -1,27 +1,25 @@
 -- `table::slots::first_above` meets its contract. The invariant: none of the first i entries contains l. Assumes nothing.
-use mathlib.Core.Path.{_≡_, sym, ap, _∙_}
+use mathlib.Core.Path.{_≡_, refl, sym, ap, _∙_}
 use Prim.Native.Nat.{ℕ, _-_, _≤_}
 use native.Mathlib.Numerals.{add-one}
 use native.Mathlib.Omega.{arith}
-use lib.ListN.{take}
 use borrow.Author.Needs.{needs}
 use Rattle.sheet.specs.Literals.{within}
 use Rattle.table.specs.declared.slots.Found.the-variants.{Nothing}
 use Rattle.table.specs.Slots.{lastOf, entriesOf}
-use Rattle.table.proofs.Scan.{scan-on, scan-end, none-before}
+use Rattle.table.specs.Moves.{slot}
+use Rattle.table.proofs.Scan.{missed, none-left, found-none}
 use Rattle.table.proofs.slots.first_above.Statement.{statement}
 use Rattle.table.proofs.slots.first_above.Tie as tie
 
 abbrev Inv-loop : tie.InvT-loop
-Inv-loop trues falses n l i₀ i = (i ≤ n) × (lastOf (λ e. within l e) (take i (entriesOf n trues falses)) ≡ Nothing)
+Inv-loop trues falses n l i₀ i = (i ≤ n) × (lastOf (λ e. within l e) (entriesOf i trues falses) ≡ Nothing)
 
 abbrev μ-loop : tie.MeasureT-loop
 μ-loop trues falses n l i₀ i = n - i
 
 loop-holds : tie.Need-loop-holds Inv-loop μ-loop
-loop-holds c =
-    let a = c .before .before .args in
-    (omega arith, scan-end (λ e. within (a .l) e) (a .n) (a .trues .now) (a .falses .now) 0 (omega arith))
+loop-holds c = (omega arith, none-left _ _ _ 0 (omega arith))
 
 mul-t8 : tie.Need-mul-t8 Inv-loop μ-loop
 mul-t8 c = omega arith
@@ -42,7 +40,7 @@ returns : tie.Need-returns Inv-loop μ-loop
 returns c =
     let a = c .before .before .before .before .before .before .before .before .args in
     let g = c .before .before .before .before .before .loop in
-    (g .inv .0, none-before (λ e. within (a .l) e) (a .n) (a .trues .now) (a .falses .now) (g .i) (g .inv .0) (g .inv .1))
+    (g .inv .0, found-none (λ e. within (a .l) e) (entriesOf (g .i) (a .trues .now) (a .falses .now)) Nothing (sym (g .inv .1)) refl)
 
 add-i : tie.Need-add-i Inv-loop μ-loop
 add-i c = omega arith
@@ -51,11 +49,12 @@ loop-less : tie.Need-loop-less Inv-loop μ-loop
 loop-less c = omega arith
 
 loop-again : tie.Need-loop-again Inv-loop μ-loop
+unfolding slot
 loop-again c =
     let a = c .before .before .before .before .before .before .before .before .args in
     let g = c .before .before .before .before .before .loop in (
       omega arith,
-      scan-on (λ e. within (a .l) e) (a .n) (a .trues .now) (a .falses .now) _ (g .i) (add-one (g .i)) (omega arith) (sym (c .before .within .ensures) ∙ c .if1 .left) ∙ g .inv .1,
+      missed (λ e. within (a .l) e) (a .trues .now) (a .falses .now) _ (g .i) (add-one (g .i)) (sym (c .before .within .ensures) ∙ c .if1 .left) ∙ g .inv .1,
     )
 
 returns-2 : tie.Need-returns-2 Inv-loop μ-loop
@@ -63,7 +62,7 @@ returns-2 c =
     let a = c .before .before .before .before .args in
     let g = c .before .loop in
     let e : g .i ≡ a .n = omega (arith, g .inv .0) in
-    (omega arith, none-before (λ e. within (a .l) e) (a .n) (a .trues .now) (a .falses .now) (a .n) (omega arith) (ap (λ (k : ℕ). lastOf (λ e. within (a .l) e) (take k (entriesOf (a .n) (a .trues .now) (a .falses .now)))) (sym e) ∙ g .inv .1))
+    (omega arith, found-none (λ e. within (a .l) e) (entriesOf (a .n) (a .trues .now) (a .falses .now)) Nothing (sym (g .inv .1) ∙ ap (λ (k : ℕ). lastOf (λ e. within (a .l) e) (entriesOf k (a .trues .now) (a .falses .now))) e) refl)
 
 pub first-above-spec : {M : Type 1} → statement M
 first-above-spec =

@@ -1,4 +1,4 @@
--- `plan::search` meets its contract. Assumes nothing.
+-- `plan::search_with` meets its contract. Assumes nothing.
 use mathlib.Core.Path.{_∙_}
 use native.Mathlib.Omega.{arith}
 use borrow.Author.Needs.{needs}
@@ -6,8 +6,8 @@ use Rattle.sheet.specs.Decoded.{statementIn}
 use Rattle.sheet.proofs.SlotLaws.{refused-says, accepted-says}
 use Rattle.plan.proofs.SearchCalls.{search-most, search-sheet, search-fault}
 use Rattle.plan.proofs.SheetStarts.{filled}
-use Rattle.plan.proofs.search.Statement.{statement}
-use Rattle.plan.proofs.search.Tie as tie
+use Rattle.plan.proofs.search_with.Statement.{statement}
+use Rattle.plan.proofs.search_with.Tie as tie
 
 decode-requires : tie.Need-decode-requires
 decode-requires c κs = search needs
@@ -29,19 +29,22 @@ returns c = c .refused2 .ensures ∙ search-most _ _ (accepted-says _ _ _ _ _ _ 
 
 search-sheet-requires : tie.Need-search-sheet-requires
 search-sheet-requires c κs =
-    let d = c .before .before .before .before .before .before .before .before .before .before .before .before .decode in
-    let h = filled _ _ _ _ _ _ (d .ensures) (c .before .before .before .before .before .before .before .before .before .before .enum-told .given .1) (search needs) (search needs) (search needs) (search needs) in
-    (h, omega (arith, c .before .before .before .before .before .before .before .before .before .if1 .left))
+    let d = c .before .before .before .before .before .before .before .before .before .before .before .before .before .decode in
+    let h = filled _ _ _ _ _ _ (d .ensures) (c .before .before .before .before .before .before .before .before .before .before .before .enum-told .given .1) (search needs) (search needs) (search needs) (search needs) in
+    (h, omega (arith, c .before .before .before .before .before .before .before .before .before .before .if1 .left))
 
 returns-2 : tie.Need-returns-2
 returns-2 c = c .refused .ensures ∙ search-fault _ _ _ _ (refused-says _ _ _ _ _ _ (c .before .before .before .before .decode .ensures .0) _ _ (c .before .before .answer .given .1))
 
+same-length : tie.Need-same-length
+same-length c = search needs
+
 returns-3 : tie.Need-returns-3
 unfolding statementIn
-returns-3 c = c .search-sheet .ensures ∙ search-sheet _ _ (accepted-says _ _ _ _ _ _ (c .before .before .before .before .before .before .before .before .before .before .before .before .before .decode .ensures .0) (c .before .before .before .before .before .before .before .before .before .before .before .enum-told .given .1)) _ (omega (arith, c .before .before .before .before .before .before .before .before .before .before .if1 .left))
+returns-3 c = c .before .before .search-sheet .ensures ∙ search-sheet _ _ (accepted-says _ _ _ _ _ _ (c .before .before .before .before .before .before .before .before .before .before .before .before .before .before .before .before .decode .ensures .0) (c .before .before .before .before .before .before .before .before .before .before .before .before .before .before .enum-told .given .1)) _ (omega (arith, c .before .before .before .before .before .before .before .before .before .before .before .before .before .if1 .left))
 
-pub search-spec : {M : Type 1} → statement M
-search-spec =
+pub search-with-spec : {M : Type 1} → statement M
+search-with-spec =
     tie.close
     (tie.spec
     decode-requires
@@ -52,4 +55,5 @@ search-spec =
     returns
     search-sheet-requires
     returns-2
+    same-length
     returns-3)

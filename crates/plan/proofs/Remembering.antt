@@ -1,0 +1,220 @@
+-- What a slot says of its table, the slots that a memory has, and what a walk makes of them. Assumes nothing.
+use mathlib.Core.Path.{_≡_, refl, sym, ap, subst, _∙_}
+use mathlib.Core.Bool.{Bool, true, false}
+use mathlib.Core.List.{List, _++_, map}
+use Prim.Native.Nat.{ℕ, _+_, _*_, _-_, _/_, _≤_, _<_}
+use native.Mathlib.Nat.{not-suc-le-zero}
+use native.Mathlib.Omega.{arith}
+use native.Mathlib.Decide.{ℕ-discrete}
+use borrow.Author.Count.{below-more}
+use borrow.Author.Tests.{ltb-true, ltb-false}
+use lib.Dec.{ltb}
+use lib.ListN.{length, getD, set, take, drop, length-append, length-drop, length-set, List·getD-append}
+use lib.Seq.{getD-set-same, getD-set-other, getD-take, getD-drop, getD-append-add, ext-getD, take-at, drop-at, length-take-le}
+use Rattle.sheet.specs.declared.Literals.{Literals}
+use Rattle.sheet.specs.Lists.{All}
+use Rattle.sheet.specs.Problem.{Action}
+use Rattle.sheet.specs.Rows.{rowOf, setsRow, actionOf}
+use Rattle.sheet.proofs.ListFacts.{all-map, any-out}
+use Rattle.sheet.proofs.RowLaws.{row-lent}
+use Rattle.table.specs.Slots.{entriesOf}
+use Rattle.plan.specs.Search.{plansOf, nothing, firstOf}
+use Rattle.plan.specs.Order.{Fails}
+use Rattle.plan.specs.Walks.{ranFrom, firstFrom, Quiet}
+use Rattle.plan.specs.Memory.{markIn, tableIn, Known, Remembers, Recalls}
+use Rattle.plan.proofs.Searching.{plans-in, plans-out, none-is, none-each}
+use Rattle.plan.proofs.Pruning.{fails-place, agree-entries}
+
+-- ---- no answer within so many moves
+module _ (goal : List Literals) (f : ℕ → Action) (k : ℕ) (t : List Literals) where
+  -- wherever the plans begin
+  pub quiet-place : (a b n : ℕ) → Quiet goal f k a t n → Quiet goal f k b t n
+  quiet-place a b n h q i s = fails-place goal (map f q) t a b (h q i s)
+
+  -- so the plans of fewer moves have none
+  pub quiet-none : (at n left : ℕ) → Quiet goal f k at t n → left < n → firstFrom goal f k at t left ≡ nothing
+  quiet-none at n left h l =
+      none-is (ranFrom goal f at t) (plansOf k left)
+      (all-map (λ q. All (λ i. i < k) q × (length q ≡ left)) (λ q. Fails (ranFrom goal f at t q))
+      (λ q w. h q (w .0) (omega (arith, w .1))) (plansOf k left) (plans-out k left))
+
+  -- where the plans of n moves have none either, it is so of one move more
+  pub quiet-more : (at n : ℕ) → Quiet goal f k at t n → firstFrom goal f k at t n ≡ nothing → Quiet goal f k at t (n + 1)
+  quiet-more at n h e q i s = go (ℕ-discrete (length q) n)
+    where
+      go : Dec (length q ≡ n) → Fails (ranFrom goal f at t q)
+      go (yes z) =
+          any-out (λ p. Fails (ranFrom goal f at t p)) (λ p. p ≡ q) (λ p w r. subst (λ (x : List ℕ). Fails (ranFrom goal f at t x)) r w) (plansOf k (length q))
+          (none-each (ranFrom goal f at t) (plansOf k (length q)) (ap (λ (m : ℕ). firstOf (ranFrom goal f at t) (plansOf k m)) z ∙ e)) (plans-in k q i)
+      go (no z) = h q i (omega (arith, s, z))
+
+-- ---- the laws of a memory
+module _ (moves : List ℕ) (count : ℕ) (goal : List ℕ) where
+  -- what is recalled need not be tried
+  pub skip : {memory : List ℕ} {es : List Literals} {left : ℕ} (at : ℕ) → Remembers moves count goal memory → Recalls memory es left
+      → firstFrom (setsRow goal) (actionOf moves) count at es left ≡ nothing
+  skip {memory} {es} {left} at h r =
+      quiet-none (setsRow goal) (actionOf moves) count es at (markIn (rowOf 258 memory (r .slot))) left
+      (quiet-place (setsRow goal) (actionOf moves) count es 0 at (markIn (rowOf 258 memory (r .slot)))
+      (subst (λ (x : List Literals). Known moves count goal x (markIn (rowOf 258 memory (r .slot)))) (r .alike) (h (r .slot) (r .room))))
+      (r .above)
+
+  -- what is entered after all shorter plans is known
+  pub entered : (es : List Literals) (at left : ℕ) → Quiet (setsRow goal) (actionOf moves) count at es left → Known moves count goal es left
+  entered es at left h = quiet-place (setsRow goal) (actionOf moves) count es at 0 left h
+
+  -- what was tried without an answer is known for one move more
+  pub tried : (es : List Literals) (at left : ℕ) → Quiet (setsRow goal) (actionOf moves) count at es left
+      → firstFrom (setsRow goal) (actionOf moves) count at es left ≡ nothing → Known moves count goal es (left + 1)
+  tried es at left h e =
+      quiet-place (setsRow goal) (actionOf moves) count es at 0 (left + 1) (quiet-more (setsRow goal) (actionOf moves) count es at left h e)
+
+  -- by what is in a slot
+  pub known-in : (slot : List ℕ) (es : List Literals) (mark : ℕ) → markIn slot ≡ mark → tableIn slot ≡ es → Known moves count goal es mark
+      → Known moves count goal (tableIn slot) (markIn slot)
+  known-in slot es mark a b h =
+      subst (λ (x : List Literals). Known moves count goal x (markIn slot)) (sym b) (subst (λ (m : ℕ). Known moves count goal es m) (sym a) h)
+
+  -- where no slot has a mark, nothing is said
+  pub blank : (memory : List ℕ) → ((j : ℕ) → j * 258 + 258 ≤ length memory → markIn (rowOf 258 memory j) ≡ 0) → Remembers moves count goal memory
+  blank memory h j l q i s = absurd (not-suc-le-zero (subst (λ (m : ℕ). length q < m) (h j l) s))
+
+-- ---- a slot that is written
+pub record Laid (slot ts fs : List ℕ) (n mark i : ℕ) : Type 0 where
+  pub long : length slot ≡ 258
+  pub mark-is : getD slot 0 0 ≡ mark
+  pub count-is : getD slot 1 0 ≡ n
+  pub trues-are : (k : ℕ) → k < i → getD slot (2 + k) 0 ≡ getD ts k 0
+  pub falses-are : (k : ℕ) → k < i → getD slot (130 + k) 0 ≡ getD fs k 0
+
+pub laid-none : (slot ts fs : List ℕ) (n mark : ℕ) → length slot ≡ 258 → Laid (set (set slot 0 mark) 1 n) ts fs n mark 0
+laid-none slot ts fs n mark l = record {
+  long = length-set (set slot 0 mark) 1 n ∙ length-set slot 0 mark ∙ l;
+  mark-is = getD-set-other (set slot 0 mark) 1 0 n 0 (λ e. omega (arith, e)) ∙ getD-set-same slot 0 mark 0 (omega arith);
+  count-is = getD-set-same (set slot 0 mark) 1 n 0 (omega (arith, length-set slot 0 mark));
+  trues-are = λ k z. absurd (not-suc-le-zero z);
+  falses-are = λ k z. absurd (not-suc-le-zero z);
+}
+
+module _ {slot ts fs : List ℕ} {n mark i : ℕ} (h : Laid slot ts fs n mark i) (l : i < 128) where
+  abbrev one : List ℕ
+  one = set slot (2 + i) (getD ts i 0)
+
+  abbrev two : List ℕ
+  two = set one (130 + i) (getD fs i 0)
+
+  -- a number at another place is kept
+  kept : (x : ℕ) → (x ≡ 2 + i → ⊥) → (x ≡ 130 + i → ⊥) → getD two x 0 ≡ getD slot x 0
+  kept x a b = getD-set-other one (130 + i) x (getD fs i 0) 0 b ∙ getD-set-other slot (2 + i) x (getD ts i 0) 0 a
+
+  pub laid-next : Laid two ts fs n mark (i + 1)
+  laid-next = record {
+    long = length-set one (130 + i) (getD fs i 0) ∙ length-set slot (2 + i) (getD ts i 0) ∙ h .long;
+    mark-is = kept 0 (λ e. omega (arith, e)) (λ e. omega (arith, e)) ∙ h .mark-is;
+    count-is = kept 1 (λ e. omega (arith, e)) (λ e. omega (arith, e)) ∙ h .count-is;
+    trues-are = below-more (λ k. getD two (2 + k) 0 ≡ getD ts k 0) i (λ k b. kept (2 + k) (λ e. omega (arith, e, b)) (λ e. omega (arith, e, b)) ∙ h .trues-are k b)
+        (getD-set-other one (130 + i) (2 + i) (getD fs i 0) 0 (λ e. omega (arith, e)) ∙ getD-set-same slot (2 + i) (getD ts i 0) 0 (omega (arith, h .long, l)));
+    falses-are = below-more (λ k. getD two (130 + k) 0 ≡ getD fs k 0) i (λ k b. kept (130 + k) (λ e. omega (arith, e, b, l)) (λ e. omega (arith, e, b)) ∙ h .falses-are k b)
+        (getD-set-same one (130 + i) (getD fs i 0) 0 (omega (arith, h .long, l, length-set slot (2 + i) (getD ts i 0))));
+  }
+
+pub laid-table : {slot ts fs : List ℕ} {n mark i : ℕ} → Laid slot ts fs n mark i → n ≤ 128 → i ≡ n → tableIn slot ≡ entriesOf n ts fs
+unfolding tableIn
+laid-table {slot} {ts} {fs} {n} {mark} {i} h l e =
+    agree-entries (getD slot 1 0) n (take 128 (drop 2 slot)) (take 128 (drop 130 slot)) ts fs (h .count-is)
+    (λ k b. getD-take 128 (drop 2 slot) k 0 (omega (arith, b, h .count-is, l)) ∙ getD-drop 2 slot k 0 ∙ h .trues-are k (omega (arith, b, h .count-is, e)))
+    (λ k b. getD-take 128 (drop 130 slot) k 0 (omega (arith, b, h .count-is, l)) ∙ getD-drop 130 slot k 0 ∙ h .falses-are k (omega (arith, b, h .count-is, e)))
+
+-- ---- one slot of a memory written anew
+module _ (xs slot : List ℕ) (j : ℕ) (room : j * 258 + 258 ≤ length xs) (long : length slot ≡ 258) where
+  abbrev front : List ℕ
+  front = take (j * 258) xs
+
+  abbrev rest : List ℕ
+  rest = drop (j * 258 + 258 - j * 258) (drop (j * 258) xs)
+
+  abbrev put : List ℕ
+  put = front ++ (slot ++ rest)
+
+  front-long : length front ≡ j * 258
+  front-long = length-take-le (j * 258) xs (omega (arith, room))
+
+  put-long : length put ≡ length xs
+  put-long =
+      let a = length-append front (slot ++ rest) in
+      let b = length-append slot rest in
+      let c = length-drop (j * 258 + 258 - j * 258) (drop (j * 258) xs) in
+      let d = length-drop (j * 258) xs in
+      omega (arith, a, b, c, d, front-long, room, long)
+
+  row-same : rowOf 258 put j ≡ slot
+  unfolding rowOf
+  row-same = ap (take 258) (drop-at front (slot ++ rest) (j * 258) front-long) ∙ take-at slot rest 258 long
+
+  before : (x : ℕ) → x < j * 258 → getD put x 0 ≡ getD xs x 0
+  before x l = List·getD-append front (slot ++ rest) 0 x (omega (arith, l, front-long)) ∙ getD-take (j * 258) xs x 0 l
+
+  after : (y : ℕ) → getD put (j * 258 + (258 + y)) 0 ≡ getD xs (j * 258 + (258 + y)) 0
+  after y =
+      let w : j * 258 + 258 - j * 258 + y ≡ 258 + y = omega arith in
+      ap (λ (a : ℕ). getD put (a + (258 + y)) 0) (sym front-long)
+      ∙ getD-append-add front (slot ++ rest) (258 + y) 0
+      ∙ ap (λ (a : ℕ). getD (slot ++ rest) (a + y) 0) (sym long)
+      ∙ getD-append-add slot rest y 0
+      ∙ getD-drop (j * 258 + 258 - j * 258) (drop (j * 258) xs) y 0
+      ∙ getD-drop (j * 258) xs (j * 258 + 258 - j * 258 + y) 0
+      ∙ ap (λ (a : ℕ). getD xs (j * 258 + a) 0) w
+
+  elsewhere : (x : ℕ) → (x < j * 258 → ⊥) → (x < j * 258 + 258 → ⊥) → getD put x 0 ≡ getD xs x 0
+  elsewhere x a b =
+      let e : j * 258 + (258 + (x - (j * 258 + 258))) ≡ x = omega (arith, b) in
+      subst (λ (y : ℕ). getD put y 0 ≡ getD xs y 0) e (after (x - (j * 258 + 258)))
+
+  row-other : (i : ℕ) → (i ≡ j → ⊥) → i * 258 + 258 ≤ length xs → rowOf 258 put i ≡ rowOf 258 xs i
+  unfolding rowOf
+  row-other i ne l =
+      ext-getD 0 (take 258 (drop (i * 258) put)) (take 258 (drop (i * 258) xs)) (wide put (omega (arith, l, put-long)) ∙ sym (wide xs l))
+      (λ y b. let c : y < 258 = omega (arith, b, wide put (omega (arith, l, put-long))) in
+      getD-take 258 (drop (i * 258) put) y 0 c ∙ getD-drop (i * 258) put y 0 ∙ at y c (ltb i j) refl ∙ sym (getD-take 258 (drop (i * 258) xs) y 0 c ∙ getD-drop (i * 258) xs y 0))
+    where
+      wide : (zs : List ℕ) → i * 258 + 258 ≤ length zs → length (take 258 (drop (i * 258) zs)) ≡ 258
+      wide zs g = length-take-le 258 (drop (i * 258) zs) (omega (arith, g, length-drop (i * 258) zs))
+
+      at : (y : ℕ) → y < 258 → (b : Bool) → ltb i j ≡ b → getD put (i * 258 + y) 0 ≡ getD xs (i * 258 + y) 0
+      at y c true e = before (i * 258 + y) (omega (arith, c, ltb-true i j e))
+      at y c false e = elsewhere (i * 258 + y) (λ z. omega (arith, z, ltb-false i j e)) (λ z. ne (omega (arith, z, ltb-false i j e)))
+
+  -- what every slot said, every slot says still, if the new one says what is known
+  pub kept-by : (moves : List ℕ) (count : ℕ) (goal : List ℕ) → Remembers moves count goal xs → Known moves count goal (tableIn slot) (markIn slot)
+      → Remembers moves count goal put
+  kept-by moves count goal h g i l = go (ℕ-discrete i j)
+    where
+      go : Dec (i ≡ j) → Known moves count goal (tableIn (rowOf 258 put i)) (markIn (rowOf 258 put i))
+      go (yes e) = subst (λ (s : List ℕ). Known moves count goal (tableIn s) (markIn s)) (sym (ap (rowOf 258 put) e ∙ row-same)) g
+      go (no ne) =
+          let r : i * 258 + 258 ≤ length xs = omega (arith, l, put-long) in
+          subst (λ (s : List ℕ). Known moves count goal (tableIn s) (markIn s)) (sym (row-other i ne r)) (h i r)
+
+-- ---- marks at the heads of the slots
+pub mark-head : (memory : List ℕ) (j : ℕ) → markIn (rowOf 258 memory j) ≡ getD memory (j * 258) 0
+unfolding rowOf
+mark-head memory j = let e : j * 258 + 0 ≡ j * 258 = omega arith in
+    getD-take 258 (drop (j * 258) memory) 0 0 (omega arith) ∙ getD-drop (j * 258) memory 0 0 ∙ ap (λ (k : ℕ). getD memory k 0) e
+
+-- ---- how many slots there are
+pub slots-room : (long j : ℕ) → j < long / 258 → j * 258 + 258 ≤ long
+slots-room long j l = omega (arith, l)
+
+pub slots-all : (long j : ℕ) → j * 258 + 258 ≤ long → j < long / 258
+slots-all long j l = omega (arith, l)
+
+-- a slot that is lent says what is recalled
+pub recalled : (memory : List ℕ) (es : List Literals) (left j : ℕ) → j * 258 + 258 ≤ length memory
+    → left < markIn (take (j * 258 + 258 - j * 258) (drop (j * 258) memory)) → tableIn (take (j * 258 + 258 - j * 258) (drop (j * 258) memory)) ≡ es
+    → Recalls memory es left
+recalled memory es left j room a b = record {
+  slot = j;
+  room = room;
+  above = subst (λ (s : List ℕ). left < markIn s) (row-lent 258 j memory) a;
+  alike = sym (ap tableIn (row-lent 258 j memory)) ∙ b;
+}

@@ -1,0 +1,156 @@
+// What the search remembers, in slots of 258 numbers that are lent: a mark, how many entries, 128 masks of true and 128 of false ones. A slot
+// with mark m says that no plan of fewer than m moves from its table has an answer; mark 0 says nothing. Two slots are looked at for a table.
+use crate::searches::same;
+use sheet::rows::wide;
+ghost use mathlib.Core.Path.{_≡_};
+ghost use mathlib.Core.Bool.{true};
+ghost use Prim.Native.Nat.{ℕ, _+_, _*_, _≤_, _<_};
+ghost use lib.ListN.{length};
+ghost use mathlib.Core.List.{List};
+ghost use Rattle.table.specs.Slots.{entriesOf};
+ghost use Rattle.sheet.specs.Rows.{rowOf};
+ghost use Rattle.plan.specs.Memory.{markIn, tableIn, Recalls, Remembers, Known};
+
+// One entry more in a digest.
+pub(crate) fn stir(digest: usize, trues: usize, falses: usize) -> usize {
+    (digest % 4294967296 + trues % 4294967296 + falses % 4294967296 * 2) * 663608941 / 65536
+}
+
+// The slot that a table is looked for in first. Any number below `slots` would do.
+pub(crate) fn place<'a>(ts: &'a [u32], fs: &'a [u32], n: usize, slots: usize) -> usize
+    requires { ⌜ (n ≤ length (now ts)) × (n ≤ length (now fs)) ⌝ }
+    requires { ⌜ 1 ≤ slots ⌝ }
+    ensures { λ r. ⌜ r < slots ⌝ }
+{
+    let mut digest: usize = 0;
+    let mut i: usize = 0;
+    while i < n {
+        digest = stir(digest, wide(ts[i]), wide(fs[i]));
+        i += 1;
+    }
+    digest % slots
+}
+
+// The slot after slot j, the first after the last.
+pub(crate) fn following(j: usize, slots: usize) -> usize
+    requires { ⌜ j < slots ⌝ }
+    ensures { λ r. ⌜ r < slots ⌝ }
+{
+    let next = j + 1;
+    if next < slots {
+        return next;
+    }
+    0
+}
+
+// Said true only if the slot has this table, and a mark above `left`.
+pub(crate) fn holds<'a, 'b>(
+    slot: &'a [u32],
+    ts: &'b [u32],
+    fs: &'b [u32],
+    n: usize,
+    left: usize,
+) -> bool
+    requires { ⌜ (length (now slot) ≡ 258) × (n ≤ 128) ⌝ }
+    requires { ⌜ (n ≤ length (now ts)) × (n ≤ length (now fs)) ⌝ }
+    ensures { λ r. ⌜ (r ≡ true → (left < markIn (now (slot .entry))) × (tableIn (now (slot .entry)) ≡ entriesOf n (now (ts .entry)) (now (fs .entry)))) ⌝ }
+{
+    if wide(slot[0]) <= left {
+        return false;
+    }
+    if wide(slot[1]) != n {
+        return false;
+    }
+    same(&slot[2..130], &slot[130..258], n, ts, fs, n)
+}
+
+// The table and the mark, written into the slot.
+pub(crate) fn fill<'a, 'b>(slot: &'a mut [u32], ts: &'b [u32], fs: &'b [u32], n: usize, mark: usize)
+    requires { ⌜ (length (now slot) ≡ 258) × (n ≤ 128) × (mark ≤ 9) ⌝ }
+    requires { ⌜ (n ≤ length (now ts)) × (n ≤ length (now fs)) ⌝ }
+    ensures { λ r. ⌜ (length (now (slot .exit)) ≡ 258) × (markIn (now (slot .exit)) ≡ mark) × (tableIn (now (slot .exit)) ≡ entriesOf n (now (ts .entry)) (now (fs .entry))) ⌝ }
+{
+    slot[0] = mark as u32;
+    slot[1] = n as u32;
+    let mut i: usize = 0;
+    while i < n {
+        slot[2 + i] = ts[i];
+        slot[130 + i] = fs[i];
+        i += 1;
+    }
+}
+
+// One of two slots: that with the lesser mark.
+pub(crate) fn lesser(memory: &[u32], j: usize, k: usize) -> usize
+    requires { ⌜ (j * 258 + 258 ≤ length (now memory)) × (k * 258 + 258 ≤ length (now memory)) ⌝ }
+    ensures { λ r. ⌜ r * 258 + 258 ≤ length (now (memory .entry)) ⌝ }
+{
+    if memory[k * 258] < memory[j * 258] {
+        return k;
+    }
+    j
+}
+
+// Said true only if some slot has this table, with a mark above `left`.
+pub(crate) fn remembered<'a, 'b>(
+    memory: &'a [u32],
+    ts: &'b [u32],
+    fs: &'b [u32],
+    n: usize,
+    left: usize,
+) -> bool
+    requires { ⌜ n ≤ 128 ⌝ }
+    requires { ⌜ (n ≤ length (now ts)) × (n ≤ length (now fs)) ⌝ }
+    ensures { λ r. ⌜ (r ≡ true → Recalls (now (memory .entry)) (entriesOf n (now (ts .entry)) (now (fs .entry))) left) ⌝ }
+{
+    let slots = memory.len() / 258;
+    if slots == 0 {
+        return false;
+    }
+    let j = place(ts, fs, n, slots);
+    let at = j * 258;
+    if holds(&memory[at..at + 258], ts, fs, n, left) {
+        return true;
+    }
+    let k = following(j, slots);
+    let from = k * 258;
+    holds(&memory[from..from + 258], ts, fs, n, left)
+}
+
+// The table with this mark takes the place of another, if there is a slot at all and the mark is of use. Whatever was known of the slots is
+// known of them still.
+pub(crate) fn remember<'a, 'b>(
+    memory: &'a mut [u32],
+    ts: &'b [u32],
+    fs: &'b [u32],
+    n: usize,
+    mark: usize,
+)
+    requires { ⌜ (n ≤ 128) × (mark ≤ 9) ⌝ }
+    requires { ⌜ (n ≤ length (now ts)) × (n ≤ length (now fs)) ⌝ }
+    ensures { λ r. ⌜ ((moves : List ℕ) → (count : ℕ) → (goal : List ℕ) → Remembers moves count goal (now (memory .entry)) → Known moves count goal (entriesOf n (now (ts .entry)) (now (fs .entry))) mark → Remembers moves count goal (now (memory .exit))) ⌝ }
+{
+    if mark < 2 {
+        return;
+    }
+    let slots = memory.len() / 258;
+    if slots == 0 {
+        return;
+    }
+    let j = place(ts, fs, n, slots);
+    let k = following(j, slots);
+    let at = lesser(memory, j, k) * 258;
+    fill(&mut memory[at..at + 258], ts, fs, n, mark);
+}
+
+// Nothing is remembered, whatever stood there.
+pub(crate) fn forget(memory: &mut [u32])
+    ensures { λ r. ⌜ ((moves : List ℕ) → (count : ℕ) → (goal : List ℕ) → Remembers moves count goal (now (memory .exit))) ⌝ }
+{
+    let slots = memory.len() / 258;
+    let mut j: usize = 0;
+    while j < slots {
+        memory[j * 258] = 0;
+        j += 1;
+    }
+}
