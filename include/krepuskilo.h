@@ -14,7 +14,7 @@
  * A table has 257 numbers: its count, 128 masks of true propositions, 128 masks of false ones, bit p for proposition p. The entries of
  * the table are in the first `count` masks of both kinds.
  *
- * Numbers and bytes past those named are kept as they were, in every slice.
+ * Numbers and bytes past those named are kept as they were, in every slice but the memory of a search.
  *
  * Numbers of refusals, with the position of the byte at fault, from 0:
  *   1 the bytes end too early (position: the length)
@@ -67,6 +67,7 @@ extern "C" {
 #define KREPUSKILO_STACK_PICTURE 18432
 #define KREPUSKILO_STACK_RUN 16384
 #define KREPUSKILO_STACK_SEARCH 30720
+#define KREPUSKILO_STACK_SEARCH_WITH 22528
 
 /* Judges a sheet. Answers 0, or 1 to 7 with the position of the first fault. */
 uint8_t krepuskilo_judge(const uint8_t *sheet, size_t sheet_len, uint64_t *info, size_t info_len);

@@ -1,6 +1,7 @@
 /* The stack that each call takes, measured: the call runs on a stack of its own that was filled with one byte value, and the deepest byte
  * that changed counts. The sheets are the files named as arguments and some made here, on which the calls go down as deep as they can: a
- * oneof-clause of eight alternatives, a move of eight conditions that each split, a search of eight moves that ends in such a move.
+ * oneof-clause of eight alternatives, a move of eight conditions that each split, a search of eight moves over tables that all differ, so
+ * that no memory cuts it short, which ends in such a move. A search with a memory is measured without slots and with four.
  * Fails if a call takes more than krepuskilo.h says. The last line is `N passed, M failed`. */
 #include <stdio.h>
 #include <string.h>
@@ -11,10 +12,10 @@
 #define ROOM (1 << 20)
 #define FILL 0xa5
 
-enum { JUDGE, START, STEP, PICTURE, RUN, SEARCH, CALLS };
-static const char *const names[CALLS] = {"judge", "start", "step", "picture", "run", "search"};
-static const size_t stated[CALLS] = {KREPUSKILO_STACK_JUDGE, KREPUSKILO_STACK_START, KREPUSKILO_STACK_STEP,
-                                     KREPUSKILO_STACK_PICTURE, KREPUSKILO_STACK_RUN, KREPUSKILO_STACK_SEARCH};
+enum { JUDGE, START, STEP, PICTURE, RUN, SEARCH, SEARCH_WITH, CALLS };
+static const char *const names[CALLS] = {"judge", "start", "step", "picture", "run", "search", "search_with"};
+static const size_t stated[CALLS] = {KREPUSKILO_STACK_JUDGE,  KREPUSKILO_STACK_START,  KREPUSKILO_STACK_STEP,       KREPUSKILO_STACK_PICTURE,
+                                     KREPUSKILO_STACK_RUN,    KREPUSKILO_STACK_SEARCH, KREPUSKILO_STACK_SEARCH_WITH};
 static size_t deepest[CALLS];
 
 static uint8_t room[ROOM] __attribute__((aligned(64)));
@@ -24,7 +25,8 @@ static ucontext_t here, there;
 static int call;
 static uint8_t sheet[4096], picture[KREPUSKILO_PICTURE], plan[KREPUSKILO_PLAN];
 static size_t length;
-static uint32_t table[KREPUSKILO_TABLE];
+static uint32_t table[KREPUSKILO_TABLE], memory[4 * KREPUSKILO_MEMORY_SLOT];
+static size_t slots;
 static uint64_t rows[KREPUSKILO_ROWS], info[KREPUSKILO_INFO], number;
 
 static void work(void)
@@ -45,8 +47,11 @@ static void work(void)
     case RUN:
         krepuskilo_run(sheet, length, rows, KREPUSKILO_ROWS, table, KREPUSKILO_TABLE, info, KREPUSKILO_INFO);
         break;
-    default:
+    case SEARCH:
         krepuskilo_search(sheet, length, number, plan, KREPUSKILO_PLAN, info, KREPUSKILO_INFO);
+        break;
+    default:
+        krepuskilo_search_with(sheet, length, number, memory, slots * KREPUSKILO_MEMORY_SLOT, plan, KREPUSKILO_PLAN, info, KREPUSKILO_INFO);
     }
 }
 
@@ -85,6 +90,8 @@ static void measure_all(uint64_t limit)
     }
     measure(RUN, 0);
     measure(PICTURE, 0);
+    for (slots = 0; slots <= 4; slots += 4)
+        measure(SEARCH_WITH, limit);
     measure(SEARCH, limit);
 }
 
@@ -113,14 +120,20 @@ static void wide_sheet(void)
     put(1), put_set(1, 0), put(1), put(0);
 }
 
-/* Nothing known but proposition 31. Move 0 turns it; move 1 has eight conditions that each split some piece of the unknown rest, 2^4 + 2^4
- * and a few pieces in all; no plan makes proposition 30 true. */
+/* Known are propositions 20, which is true, and 21 to 28, which are false. Move 0 makes the next of them true, so that it leads to nine
+ * tables one after the other; move 1 has eight conditions that each split some piece of the unknown rest, 2^4 + 2^4 and a few pieces in
+ * all; no plan makes proposition 30 true. */
 static void deep_sheet(void)
 {
     unsigned i, j;
     length = 0;
-    put(32), put_set(1, 31), put(0), put(0), put(2);
-    put(0), put(2), put(1), put(62), put(1), put(63), put(1), put(63), put(1), put(62);
+    put(32), put(9), put(2 * 20);
+    for (i = 21; i <= 28; i++)
+        put(2 * i + 1);
+    put(0), put(0), put(2);
+    put(0), put(8);
+    for (i = 20; i < 28; i++)
+        put_set(1, i), put_set(1, i + 1);
     put(0), put(8);
     for (i = 0; i < 8; i++) {
         if (i < 4) {
@@ -171,7 +184,7 @@ int main(int argc, char **argv)
         measure_all(2);
     }
     for (c = 0; c < CALLS; c++) {
-        printf("stack: %-8s %6zu bytes, stated %6zu\n", names[c], deepest[c], stated[c]);
+        printf("stack: %-11s %6zu bytes, stated %6zu\n", names[c], deepest[c], stated[c]);
         failed += deepest[c] > stated[c];
     }
     printf("%d passed, %d failed\n", CALLS - (failed < CALLS ? failed : CALLS), failed);

@@ -23,7 +23,8 @@ use Rattle.table.specs.declared.steps.Settled.{Settled}
 use Rattle.table.specs.Slots.{Puts}
 use Rattle.table.specs.Carry.{Steady, Carried, Settles, lacks, partAt, carriedAt}
 use Rattle.table.proofs.Growing.{puts-is}
-use Rattle.table.proofs.Walks.{Turn, contains-lacks, at-leaf, at-whole}
+use Rattle.table.proofs.Lacking.{contains-lacks}
+use Rattle.table.proofs.Walks.{Turn, at-leaf, at-whole}
 
 -- ---- the results of one effect more
 swapped : (a b : Bool) (r s t : Literals) → addResult a r (addResult b s t) ≡ addResult b s (addResult a r t)

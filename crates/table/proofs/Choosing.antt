@@ -1,22 +1,26 @@
 -- The consistent candidates of a clause, one alternative and one literal at a time; an inconsistent branch may be cut. Assumes nothing.
-use Prim.Native.Nat.{ℕ, zero, suc, _+_, _-_, _*_, _≤_, _<_}
+use Prim.Native.Nat.{ℕ, zero, suc, _+_, _-_, _*_, _/_, _≤_, _<_}
 use mathlib.Core.Path.{_≡_, refl, sym, ap, ap₂, _∙_}
-use mathlib.Core.Bool.{Bool, true, false, cond}
+use mathlib.Core.Bool.{Bool, true, false, not, cond, and-eq-true-iff}
 use mathlib.Core.List.{List, [], _∷_, _++_, map, append-assoc, append-nil}
 use native.Mathlib.Numerals.{add-one}
 use native.Mathlib.Omega.{arith}
 use lib.ListN.{length, set, drop, take, getD, drop-of-length-le}
 use lib.Seq.{drop-cons, take-suc}
-use borrow.Author.Tests.{eq-eqb, ne-eqb}
+use borrow.Author.Tests.{eq-eqb, ne-eqb, not-true}
 use Rattle.sheet.specs.declared.Literals.{Literals}
-use Rattle.sheet.specs.Literals.{noLiteral, join, consistent, flip, literal, members, next}
+use Rattle.sheet.specs.Literals.{noLiteral, single, sign, join, consistent, flip, literal, contains, members, next}
 use Rattle.sheet.specs.Lists.{addIf, keep, collect}
-use Rattle.sheet.proofs.LiteralSets.{consistent-join}
-use Rattle.sheet.proofs.Bytes.{next-ge, members-next, members-loop, members-end}
+use Rattle.sheet.proofs.Members.{flip-literal}
+use Rattle.sheet.proofs.LiteralSets.{consistent-join, consistent-single, clash-sym, clash-single, not-not}
+use Rattle.sheet.proofs.Bytes.{next-found, members-nil}
 use Rattle.table.specs.declared.slots.Grown.{Grown}
 use Rattle.table.specs.Slots.{Puts}
 use Rattle.table.specs.Start.{falsify, Pick, picks, candidates, oneOf}
 use Rattle.table.specs.Reads.{others}
+use Rattle.table.specs.Step.{missing}
+use Rattle.table.specs.Carry.{lacks}
+use Rattle.table.proofs.Lacking.{contains-lacks, members-lacks, members-first}
 use Rattle.sheet.specs.Rows.{setsAt}
 use Rattle.table.proofs.Compact.{keep-append}
 use Rattle.sheet.proofs.RowLaws.{sets-more, sets-end}
@@ -114,36 +118,78 @@ pub laying-end : (xs : List Literals) (i j k : ℕ) (row : List ℕ) → Laying 
 laying-end xs i j k row g e =
     sym (append-nil (setsAt k row)) ∙ ap (λ (y : List Literals). setsAt k row ++ others i j y) (sym e) ∙ g .is
 
--- ---- the literals of an alternative, from l on
+-- ---- the literals of an alternative that are left
+-- no literal of `rest` is in d
+abbrev pub Free : Literals → Literals → Type 0
+Free rest d = (j : ℕ) → contains rest j ≡ true → contains d j ≡ false
 
-unfoldable pub choicesFrom : List Literals → Literals → Literals → ℕ → List Literals
-choicesFrom os a d l = collect (λ j. falsify os (join d (flip (literal j)))) (members a l)
+pub free-start : (a d rest : Literals) → rest ≡ lacks a d → Free rest d
+free-start a d rest q j e =
+    not-true (contains d j) (and-eq-true-iff (contains a j) (not (contains d j)) .0 (sym (contains-lacks a d j) ∙ ap (λ (x : Literals). contains x j) (sym q) ∙ e) .1)
 
-module _ (os : List Literals) (a d : Literals) where
-  pub choices-start : (bs : List Literals) (l : ℕ) → bs ≡ a ∷ os → l ≡ next a 0 → keep consistent (falsify bs d) ≡ keep consistent (choicesFrom os a d l)
-  unfolding choicesFrom
-  choices-start bs l q e =
+pub free-on : (rest one d less : Literals) → Free rest d → less ≡ lacks rest one → Free less d
+free-on rest one d less h q j e =
+    h j (and-eq-true-iff (contains rest j) (not (contains one j)) .0 (sym (contains-lacks rest one j) ∙ ap (λ (x : Literals). contains x j) (sym q) ∙ e) .0)
+
+-- d with the complement of a literal: inconsistent if it has the literal, consistent if it has not
+denied : (d : Literals) (l : ℕ) → consistent d ≡ true → consistent (join d (flip (literal l))) ≡ not (contains d l)
+unfolding contains
+denied d l h =
+    ap (λ (x : Literals). consistent (join d x)) (flip-literal l)
+    ∙ consistent-join d (single (not (sign l)) (l / 2))
+    ∙ rw (h, consistent-single (not (sign l)) (l / 2), clash-sym d (single (not (sign l)) (l / 2)), clash-single (not (sign l)) (l / 2) d, not-not (sign l)) refl
+
+-- so the choice of a literal that is left is consistent
+pub chosen-steady : (d rest one f w : Literals) (l : ℕ) → consistent d ≡ true → Free rest d → l ≡ next rest 0 → l < 64 → one ≡ literal l → f ≡ flip one → w ≡ join d f
+    → consistent w ≡ true
+chosen-steady d rest one f w l h g e k p q r =
+    let found : contains rest l ≡ true = ap (contains rest) e ∙ next-found rest 0 (omega (arith, e, k)) in
+    ap consistent (r ∙ ap (join d) (q ∙ ap flip p)) ∙ denied d l h ∙ ap not (g l found)
+
+-- what is left out has nothing to be kept
+keep-less : (f : Literals → Bool) (g : ℕ → List Literals) (b : ℕ → Bool) → ((x : ℕ) → b x ≡ false → keep f (g x) ≡ []) → (xs : List ℕ)
+    → keep f (collect g xs) ≡ keep f (collect g (keep b xs))
+keep-less f g b h [] = refl
+keep-less f g b h (x ∷ xs) = keep-append f (g x) (collect g xs) ∙ ap (λ (r : List Literals). keep f (g x) ++ r) (keep-less f g b h xs) ∙ at (b x) refl
+  where
+    at : (t : Bool) → b x ≡ t → keep f (g x) ++ keep f (collect g (keep b xs)) ≡ keep f (collect g (addIf (b x) x (keep b xs)))
+    at true e = rw e (sym (keep-append f (g x) (collect g (keep b xs))))
+    at false e = rw e (ap (λ (r : List Literals). r ++ keep f (collect g (keep b xs))) (h x e))
+
+unfoldable pub choicesOf : List Literals → Literals → Literals → List Literals
+choicesOf os rest d = collect (λ j. falsify os (join d (flip (literal j)))) (members rest 0)
+
+module _ (os : List Literals) (d : Literals) where
+  pub choices-start : (bs : List Literals) (a rest : Literals) → consistent d ≡ true → bs ≡ a ∷ os → rest ≡ lacks a d
+      → keep consistent (falsify bs d) ≡ keep consistent (choicesOf os rest d)
+  unfolding choicesOf missing
+  choices-start bs a rest h q e =
       ap (λ (x : List Literals). keep consistent (falsify x d)) q
-      ∙ ap (λ (x : List ℕ). keep consistent (collect (λ j. falsify os (join d (flip (literal j)))) x)) (members-next a 0 ∙ ap (members a) (sym e))
+      ∙ keep-less consistent (λ j. falsify os (join d (flip (literal j)))) (λ j. not (contains d j)) (λ j k. cut os (join d (flip (literal j))) (denied d j h ∙ k)) (members a 0)
+      ∙ ap (λ (x : List ℕ). keep consistent (collect (λ j. falsify os (join d (flip (literal j)))) x)) (sym (ap (λ (x : Literals). members x 0) e ∙ members-lacks a d))
 
-  pub choices-step : (l m : ℕ) (one f w : Literals) → next a l ≡ l → l < 64 → one ≡ literal l → f ≡ flip one → w ≡ join d f → m ≡ next a (l + 1)
-      → keep consistent (choicesFrom os a d l) ≡ keep consistent (falsify os w) ++ keep consistent (choicesFrom os a d m)
-  unfolding choicesFrom
-  choices-step l m one f w e h p q r s = keep-split (choicesFrom os a d l) (falsify os w) (choicesFrom os a d m) split-up
+  pub choices-step : (rest less one f w : Literals) (l : ℕ) → l ≡ next rest 0 → l < 64 → one ≡ literal l → f ≡ flip one → w ≡ join d f → less ≡ lacks rest one
+      → keep consistent (choicesOf os rest d) ≡ keep consistent (falsify os w) ++ keep consistent (choicesOf os less d)
+  unfolding choicesOf
+  choices-step rest less one f w l e h p q r s = keep-split (choicesOf os rest d) (falsify os w) (choicesOf os less d) split-up
     where
-      split-up : choicesFrom os a d l ≡ falsify os w ++ choicesFrom os a d m
+      split-up : choicesOf os rest d ≡ falsify os w ++ choicesOf os less d
       split-up =
-          ap (collect (λ j. falsify os (join d (flip (literal j))))) (members-loop a l e h)
-          ∙ ap₂ (λ (x : Literals) (k : ℕ). falsify os x ++ collect (λ j. falsify os (join d (flip (literal j)))) (members a k))
-          (sym (r ∙ ap (join d) (q ∙ ap flip p))) (sym s)
+          ap (collect (λ j. falsify os (join d (flip (literal j))))) (members-first rest l e h)
+          ∙ ap₂ (λ (x y : Literals). falsify os x ++ collect (λ j. falsify os (join d (flip (literal j)))) (members y 0))
+          (sym (r ∙ ap (join d) (q ∙ ap flip p))) (sym (s ∙ ap (lacks rest) p))
 
-  pub choices-end : (l : ℕ) → 64 ≤ l → keep consistent (choicesFrom os a d l) ≡ []
-  unfolding choicesFrom
-  choices-end l h = ap (λ (x : List ℕ). keep consistent (collect (λ j. falsify os (join d (flip (literal j)))) x)) (members-end a l h)
+  pub choices-end : (rest : Literals) (l : ℕ) → l ≡ next rest 0 → 64 ≤ l → keep consistent (choicesOf os rest d) ≡ []
+  unfolding choicesOf
+  choices-end rest l e h = ap (λ (x : List ℕ). keep consistent (collect (λ j. falsify os (join d (flip (literal j)))) x)) (members-nil rest 0 (omega (arith, e, h)))
 
--- the next literal is a later one
-pub choices-less : (a : Literals) (l m : ℕ) → l < 64 → m ≡ next a (l + 1) → 64 - m < 64 - l
-choices-less a l m h e = omega (arith, next-ge a (l + 1))
+-- there are fewer literals
+pub choices-less : (rest less one : Literals) (l : ℕ) → l ≡ next rest 0 → l < 64 → one ≡ literal l → less ≡ lacks rest one
+    → length (members less 0) < length (members rest 0)
+choices-less rest less one l e h p s =
+    let a = ap length (members-first rest l e h) in
+    let b = ap (λ (x : Literals). length (members x 0)) (s ∙ ap (lacks rest) p) in
+    omega (arith, a, b)
 
 -- ---- the alternatives of a oneof-clause, from i on
 

@@ -1,7 +1,7 @@
 -- The literals of an entry, listed in slices as one-literal clauses. Assumes nothing.
 use mathlib.Core.Path.{_≡_, sym, ap, _∙_, subst}
 use mathlib.Core.List.{List, [], _∷_, _++_, map, append-nil}
-use Prim.Native.Nat.{ℕ, _+_, _≤_, _<_}
+use Prim.Native.Nat.{ℕ, _+_, _-_, _≤_, _<_}
 use native.Mathlib.Omega.{arith}
 use lib.ListN.{length, set}
 use lib.Seq.{append-snoc}
@@ -59,3 +59,7 @@ module _ (cap : ℕ) (e : Literals) (l n : ℕ) (ts fs : List ℕ) (g : Listed c
       subst (λ (x : List Literals). Holds cap x n ts fs)
       (sym (append-nil (g .done)) ∙ ap (λ (r : List ℕ). g .done ++ map literal r) (sym (members-end e l le)) ∙ g .onwards)
       (g .holds)
+
+-- the next literal is a later one
+pub listed-less : (a : Literals) (l m : ℕ) → l < 64 → m ≡ next a (l + 1) → 64 - m < 64 - l
+listed-less a l m h e = omega (arith, next-ge a (l + 1))

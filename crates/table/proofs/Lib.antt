@@ -5,6 +5,7 @@ pub mod Compact
 pub mod PutSlots
 pub mod Growing
 pub mod Copying
+pub mod Lacking
 pub mod Choosing
 pub mod ClauseRows
 pub mod Started

@@ -1,18 +1,18 @@
 -- The walk over the pieces of an entry, one condition and one part at a time, and what is put on it. Assumes nothing.
 use mathlib.Core.Path.{_≡_, refl, sym, ap, _∙_, subst}
-use mathlib.Core.Bool.{Bool, true, false, not, cond, _&&_, _||_}
+use mathlib.Core.Bool.{Bool, true, false, _||_}
 use mathlib.Core.List.{List, [], _∷_, _++_, map, map-append, append-nil}
 use Prim.Native.Nat.{ℕ, zero, suc, _+_, _/_, _≤_, _<_}
 use native.Mathlib.Numerals.{add-one}
 use native.Mathlib.Omega.{arith}
 use Rattle.sheet.specs.declared.Literals.{Literals}
 use Rattle.sheet.specs.declared.Effect.{Effect}
-use Rattle.sheet.specs.Literals.{mem, sign, join, flip, literal, contains, within, clash, next, members, membersFrom}
-use Rattle.sheet.specs.Lists.{addIf, keep, collect}
-use Rattle.sheet.proofs.Bits.{has-minus}
+use Rattle.sheet.specs.Literals.{join, flip, literal, within, clash, next, members}
+use Rattle.sheet.specs.Lists.{collect}
 use Rattle.sheet.proofs.Bytes.{scan, next-end, next-here, next-step, next-next, next-ge, members-next, members-loop, members-end}
-use Rattle.table.specs.Step.{missing, splitBy, split, pieces, image}
+use Rattle.table.specs.Step.{splitBy, split, pieces, image}
 use Rattle.table.specs.Carry.{lacks, partAt}
+use Rattle.table.proofs.Lacking.{members-lacks}
 use Rattle.table.proofs.Growing.{Going}
 
 -- the same at equal values
@@ -44,39 +44,6 @@ turn-most m t n q h = rw q (most t (omega (arith, h)))
     most =
         scan m (λ (l : ℕ). l ≤ 64 → next m l ≤ 64) (λ l h k. omega (arith, next-end m l h)) (λ l h e k. omega (arith, next-here m l h e))
         (λ l h e r k. omega (arith, r (omega (arith, h)), next-step m l h e))
-
--- ---- the literals of c that d lacks
-module _ (c d : Literals) where
-  mem-lacks : (s : Bool) (p : ℕ) → mem (lacks c d) s p ≡ (mem c s p && not (mem d s p))
-  unfolding mem lacks
-  mem-lacks true p = has-minus (c .trues) (d .trues) p
-  mem-lacks false p = has-minus (c .falses) (d .falses) p
-
-  pub contains-lacks : (l : ℕ) → contains (lacks c d) l ≡ (contains c l && not (contains d l))
-  unfolding contains
-  contains-lacks l = mem-lacks (sign l) (l / 2)
-
-  lacks-from : (k l : ℕ) → membersFrom k (lacks c d) l ≡ keep (λ j. not (contains d j)) (membersFrom k c l)
-  unfolding membersFrom
-  lacks-from zero l = refl
-  lacks-from (suc k) l =
-      ap (λ (x : Bool). cond x (l ∷ membersFrom k (lacks c d) (suc l)) (membersFrom k (lacks c d) (suc l))) (contains-lacks l)
-      ∙ ap (λ (x : List ℕ). cond (contains c l && not (contains d l)) (l ∷ x) x) (lacks-from k (suc l))
-      ∙ one (contains c l) (membersFrom k c (suc l))
-    where
-      add : (b : Bool) (xs : List ℕ) → cond b (l ∷ xs) xs ≡ addIf b l xs
-      add true xs = refl
-      add false xs = refl
-
-      one : (a : Bool) (ys : List ℕ)
-          → cond (a && not (contains d l)) (l ∷ keep (λ j. not (contains d j)) ys) (keep (λ j. not (contains d j)) ys)
-          ≡ keep (λ j. not (contains d j)) (cond a (l ∷ ys) ys)
-      one true ys = add (not (contains d l)) (keep (λ j. not (contains d j)) ys)
-      one false ys = refl
-
-  members-lacks : members (lacks c d) 0 ≡ missing c d
-  unfolding members missing
-  members-lacks = lacks-from 64 0
 
 -- ---- the effects that are left: none, or e and those after it
 pub at-leaf : (es gs : List Effect) (d : Literals) → gs ≡ [] → image es d ∷ [] ≡ map (image es) (pieces gs d)

@@ -5,6 +5,7 @@ use crate::slots::Grown;
 use crate::slots::copy_masks;
 use crate::slots::offer;
 use crate::steps::Stepped;
+use crate::steps::lacking;
 use sheet::Answer;
 use sheet::Literals;
 use sheet::Sheet;
@@ -88,7 +89,8 @@ pub(crate) fn lay_others(alts: &[u32], i: usize, row: &mut [u32]) -> usize
     k
 }
 
-// Each alternative from `at` on is made false in every way; a branch that is inconsistent is cut.
+// Each alternative from `at` on is made false in every way: by each of its literals that the piece lacks. One that the piece has would make
+// an inconsistent set.
 pub(crate) fn choose<'a, 'b>(
     row: &'a [u32; 16],
     size: usize,
@@ -107,25 +109,25 @@ pub(crate) fn choose<'a, 'b>(
         return offer(trues, falses, k, piece);
     }
     let after = at + 1;
-    let a = set_from(row, 2 * at);
+    let mut rest = lacking(set_from(row, 2 * at), piece);
     let mut sum = k;
-    let mut l = next(a, 0);
+    let mut l = next(rest, 0);
     while l < 64 {
-        let chosen = join(piece, flip(literal(l)));
-        if consistent(chosen) {
-            if after < size {
-                let Grown::To(m) = choose(row, size, after, chosen, trues, falses, sum) else {
-                    return Grown::Full;
-                };
-                sum = m;
-            } else {
-                let Grown::To(m) = offer(trues, falses, sum, chosen) else {
-                    return Grown::Full;
-                };
-                sum = m;
-            }
+        let one = literal(l);
+        let chosen = join(piece, flip(one));
+        if after < size {
+            let Grown::To(m) = choose(row, size, after, chosen, trues, falses, sum) else {
+                return Grown::Full;
+            };
+            sum = m;
+        } else {
+            let Grown::To(m) = offer(trues, falses, sum, chosen) else {
+                return Grown::Full;
+            };
+            sum = m;
         }
-        l = next(a, l + 1);
+        rest = lacking(rest, one);
+        l = next(rest, 0);
     }
     Grown::To(sum)
 }

@@ -4,8 +4,7 @@ use Prim.Native.Nat.{_-_}
 use native.Mathlib.Omega.{arith}
 use lib.ListN.{length}
 use Rattle.table.proofs.Pads.{holds-falses-long}
-use Rattle.table.proofs.Choosing.{choices-less}
-use Rattle.table.proofs.Firsts.{Listed, listed-start, listed-on, listed-end}
+use Rattle.table.proofs.Firsts.{Listed, listed-start, listed-on, listed-less, listed-end}
 use borrow.Author.Needs.{needs}
 use Rattle.table.proofs.clauses.units.Statement.{statement}
 use Rattle.table.proofs.clauses.units.Tie as tie
@@ -49,7 +48,7 @@ next-requires-2 : tie.Need-next-requires-2 Inv-loop μ-loop
 next-requires-2 c κs = search needs
 
 loop-less : tie.Need-loop-less Inv-loop μ-loop
-loop-less c = choices-less _ _ _ (c .before .before .loop-test .taken) (c .next2 .ensures)
+loop-less c = listed-less _ _ _ (c .before .before .loop-test .taken) (c .next2 .ensures)
 
 loop-again : tie.Need-loop-again Inv-loop μ-loop
 loop-again c =
