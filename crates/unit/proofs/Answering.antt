@@ -1,5 +1,5 @@
 -- What the functions answer, by cases: a slice is too short, or the call's own answer in numbers. Assumes nothing.
-use mathlib.Core.Path.{_≡_, ap, ap₂, _∙_}
+use mathlib.Core.Path.{_≡_, ap, _∙_}
 use mathlib.Core.Bool.{Bool, true, false, cond, _||_}
 use mathlib.Core.List.{List, _++_}
 use Prim.Native.Nat.{ℕ, _/_, _≤_, _<_}
@@ -67,10 +67,6 @@ pub picture-told : (s xs : List ℕ) (n : ℕ) (g : Table) (r : Pictured) (t : T
 unfolding pictureTold
 picture-told s xs n g r t e q h = h ∙ ap (λ (x : Pictured). answerTold (x .answer) (x .clauses)) (q ∙ ap (λ (x : Table). pictureOf (sheetOf s) x n) e)
 
-pub search-told : (s : List ℕ) (limit : ℕ) (r : Searched) (t : Told) → r ≡ searchOf (sheetOf s) limit → t ≡ kindTold (r .kind) (r .length) → t ≡ searchTold s limit
-unfolding searchTold
-search-told s limit r t e q = q ∙ ap (λ (x : Searched). kindTold (x .kind) (x .length)) e
-
 pub run-told : (s rows : List ℕ) (r : Course) (t : Told) → r ≡ courseOf (sheetOf s) (length rows / 3) → t ≡ verdictTold (r .ran .verdict) → t ≡ runTold s rows
 unfolding runTold courseOf
 run-told s rows r t e q = q ∙ ap (λ (x : Course). verdictTold (x .ran .verdict)) e
@@ -84,7 +80,18 @@ run-table s rows r e = ap (λ (x : Course). x .ran .table) e
 pub tables : {b : Bool} (enough : b ≡ false) (t u : Table) (xs after : List ℕ) → t ≡ u → after ≡ tableOut t xs → after ≡ cond b xs (tableOut u xs)
 tables enough t u xs after same e = second xs (tableOut u xs) after enough (e ∙ ap (λ (x : Table). tableOut x xs) same)
 
--- the bytes of a plan that was found
-pub search-plan : (s : List ℕ) (limit : ℕ) (r : Searched) (plan after : List ℕ) → length (r .plan) ≡ 8 → r ≡ searchOf (sheetOf s) limit
-    → after ≡ r .plan ++ drop (length (r .plan)) plan → after ≡ searchOf (sheetOf s) limit .plan ++ drop 8 plan
-search-plan s limit r plan after n e q = q ∙ ap₂ (λ (x : List ℕ) (k : ℕ). x ++ drop k plan) (ap (λ (x : Searched). x .plan) e) n
+-- ---- what a search leaves, once the slices are long enough
+module _ {b : Bool} (enough : b ≡ false) (s : List ℕ) (limit : ℕ) (r : Searched) (is : r ≡ searchOf (sheetOf s) limit) where
+  told-is : kindTold (r .kind) (r .length) ≡ searchTold s limit
+  unfolding searchTold
+  told-is = ap (λ (x : Searched). kindTold (x .kind) (x .length)) is
+
+  pub search-byte : (answer : ℕ) → answer ≡ kindTold (r .kind) (r .length) .answer → answer ≡ cond b 255 (searchTold s limit .answer)
+  search-byte answer e = second 255 (searchTold s limit .answer) answer enough (e ∙ ap (λ (x : Told). x .answer) told-is)
+
+  pub search-plan : (plan after : List ℕ) → after ≡ r .plan ++ drop 8 plan → after ≡ cond b plan (searchOf (sheetOf s) limit .plan ++ drop 8 plan)
+  search-plan plan after e =
+      second plan (searchOf (sheetOf s) limit .plan ++ drop 8 plan) after enough (e ∙ ap (λ (x : Searched). x .plan ++ drop 8 plan) is)
+
+  pub search-info : (info after : List ℕ) → after ≡ infoOf (kindTold (r .kind) (r .length)) info → after ≡ cond b info (infoOf (searchTold s limit) info)
+  search-info info after e = numbers enough (kindTold (r .kind) (r .length)) (searchTold s limit) told-is info after e

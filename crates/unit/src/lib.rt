@@ -1,6 +1,6 @@
 // The calls for C: sheets, tables, rows and plans as numbers in slices that the caller lends.
 ghost use mathlib.Core.Path.{_≡_};
-ghost use mathlib.Core.Bool.{cond};
+ghost use mathlib.Core.Bool.{true, cond};
 ghost use mathlib.Core.List.{_++_};
 ghost use lib.Dec.{ltb};
 ghost use lib.ListN.{length, drop};
@@ -131,14 +131,11 @@ pub extern "C" fn krepuskilo_search(
         return 255;
     }
     let searched = plan::search(sheet, limit as usize);
-    let kind = searched.kind;
-    let told = numbers::told_kind(kind, searched.length as u64);
-    numbers::copy_bytes(plan, &searched.plan);
-    numbers::write_info(info, told);
-    told.answer
+    numbers::write_search(plan, info, searched)
 }
 
-// The same with a memory: 258 numbers to a slot. What it holds does not matter, before or after.
+// The same with a memory, 258 numbers to a slot. What it holds at entry does not matter, nor how long it is; afterwards it holds anything,
+// but where plan or info is too short it is as it was.
 #[no_mangle]
 pub extern "C" fn krepuskilo_search_with(
     sheet: &[u8],
@@ -150,6 +147,7 @@ pub extern "C" fn krepuskilo_search_with(
     ensures { λ r. ⌜ r ≡ cond (lacks 8 (now (plan .entry)) (now (info .entry))) 255 (U.searchTold (now (sheet .entry)) limit .answer) ⌝ }
     ensures { λ r. ⌜ now (plan .exit) ≡ cond (lacks 8 (now (plan .entry)) (now (info .entry))) (now (plan .entry)) (searchOf (sheetOf (now (sheet .entry))) limit .plan ++ drop 8 (now (plan .entry))) ⌝ }
     ensures { λ r. ⌜ now (info .exit) ≡ cond (lacks 8 (now (plan .entry)) (now (info .entry))) (now (info .entry)) (infoOf (U.searchTold (now (sheet .entry)) limit) (now (info .entry))) ⌝ }
+    ensures { λ r. ⌜ (lacks 8 (now (plan .entry)) (now (info .entry)) ≡ true → now (memory .exit) ≡ now (memory .entry)) ⌝ }
 {
     if plan.len() < 8 {
         return 255;
@@ -158,11 +156,7 @@ pub extern "C" fn krepuskilo_search_with(
         return 255;
     }
     let searched = plan::search_with(sheet, limit as usize, memory);
-    let kind = searched.kind;
-    let told = numbers::told_kind(kind, searched.length as u64);
-    numbers::copy_bytes(plan, &searched.plan);
-    numbers::write_info(info, told);
-    told.answer
+    numbers::write_search(plan, info, searched)
 }
 
 // The run of a sheet's plan, its rows as three numbers each.

@@ -1,6 +1,7 @@
 // Values laid out as numbers: answers, tables, rows and plans.
 use crate::Told;
 use plan::Kind;
+use plan::Searched;
 use plan::Verdict;
 use sheet::Answer;
 use sheet::rows::wide;
@@ -126,6 +127,24 @@ pub(crate) fn copy_bytes<'a, 'b>(to: &'a mut [u8], from: &'b [u8])
         to[i] = from[i];
         i += 1;
     }
+}
+
+// The end of a search: its plan to the front of eight bytes or more, and the numbers of info. The result is the answer.
+pub(crate) fn write_search<'a, 'b>(
+    plan: &'a mut [u8],
+    info: &'b mut [u64],
+    searched: Searched,
+) -> u8
+    requires { ⌜ (8 ≤ length (now plan)) × (4 ≤ length (now info)) ⌝ }
+    ensures { λ r. ⌜ r ≡ kindTold (searched .kind) (searched .length) .answer ⌝ }
+    ensures { λ r. ⌜ now (plan .exit) ≡ searched .plan ++ drop 8 (now (plan .entry)) ⌝ }
+    ensures { λ r. ⌜ now (info .exit) ≡ infoOf (kindTold (searched .kind) (searched .length)) (now (info .entry)) ⌝ }
+{
+    let kind = searched.kind;
+    let told = told_kind(kind, searched.length as u64);
+    copy_bytes(plan, &searched.plan);
+    write_info(info, told);
+    told.answer
 }
 
 // The table in 257 numbers: the count, the masks of true propositions, those of false ones.

@@ -1,9 +1,7 @@
 -- `krepuskilo_search` meets its contract: the answer of `search` in numbers and its plan, or 255. Assumes nothing.
-use mathlib.Core.Path.{_≡_}
-use lib.ListN.{length}
 use borrow.Author.Needs.{needs}
 use Rattle.sheet.proofs.Bools.{cond-true}
-use Rattle.unit.proofs.Answering.{second, lacks-first, lacks-info, lacks-none, byte, numbers, search-told, search-plan}
+use Rattle.unit.proofs.Answering.{lacks-first, lacks-info, lacks-none, search-byte, search-plan, search-info}
 use Rattle.unit.proofs.krepuskilo_search.Statement.{statement}
 use Rattle.unit.proofs.krepuskilo_search.Tie as tie
 
@@ -22,14 +20,8 @@ returns-2 c =
 search-requires : tie.Need-search-requires
 search-requires c κs = search needs
 
-told-kind-requires : tie.Need-told-kind-requires
-told-kind-requires c κs = search needs
-
-copy-bytes-requires : tie.Need-copy-bytes-requires
-copy-bytes-requires c κs = search needs
-
-write-info-requires : tie.Need-write-info-requires
-write-info-requires c κs = search needs
+write-search-requires : tie.Need-write-search-requires
+write-search-requires c κs = search needs
 
 same-length : tie.Need-same-length
 same-length c = search needs
@@ -39,12 +31,13 @@ same-length-2 c = search needs
 
 returns-3 : tie.Need-returns-3
 returns-3 c =
-    let r = c .before .before .before .before .before .before .before .before .before .before .before .before in
+    let w = c .before .before .before .before in
+    let r = w .before .before .before in
     let a = r .before .before .before .before .before .before .args in
     let e = lacks-none 8 (a .plan .now) (a .info .now) (r .before .before .if1 .left) (r .before .if2 .left) in
-    let n : length (r .search .result .plan) ≡ 8 = search needs in
-    let same = search-told _ _ _ _ (r .search .ensures) (c .before .before .before .before .before .before .before .before .before .before .before .told-kind .ensures) in
-    (byte e _ _ same, (second _ _ _ e (search-plan _ _ _ _ _ n (r .search .ensures) (c .before .before .before .before .before .before .copy-bytes .ensures)), numbers e _ _ same _ _ (c .before .before .write-info .ensures)))
+    let is = r .search .ensures in
+    let k = w .write-search .ensures in
+    (search-byte e _ _ _ is _ (k .0), (search-plan e _ _ _ is _ _ (k .1 .0), search-info e _ _ _ is _ _ (k .1 .1)))
 
 pub krepuskilo-search-spec : {M : Type 1} → statement M
 krepuskilo-search-spec =
@@ -53,9 +46,7 @@ krepuskilo-search-spec =
     returns
     returns-2
     search-requires
-    told-kind-requires
-    copy-bytes-requires
-    write-info-requires
+    write-search-requires
     same-length
     same-length-2
     returns-3)

@@ -1,9 +1,9 @@
--- `krepuskilo_search_with` meets its contract: the answer of `search` in numbers and its plan, or 255. Assumes nothing.
-use mathlib.Core.Path.{_≡_}
-use lib.ListN.{length}
+-- `krepuskilo_search_with` meets its contract: the answer of `search_with` in numbers and its plan, or 255. Assumes nothing.
+use mathlib.Core.Path.{refl, sym, _∙_}
+use mathlib.Core.Bool.{true≢false}
 use borrow.Author.Needs.{needs}
 use Rattle.sheet.proofs.Bools.{cond-true}
-use Rattle.unit.proofs.Answering.{second, lacks-first, lacks-info, lacks-none, byte, numbers, search-told, search-plan}
+use Rattle.unit.proofs.Answering.{lacks-first, lacks-info, lacks-none, search-byte, search-plan, search-info}
 use Rattle.unit.proofs.krepuskilo_search_with.Statement.{statement}
 use Rattle.unit.proofs.krepuskilo_search_with.Tie as tie
 
@@ -11,25 +11,19 @@ returns : tie.Need-returns
 returns c =
     let a = c .before .before .before .before .before .args in
     let e = lacks-first 8 (a .plan .now) (a .info .now) (c .if1 .taken) in
-    (cond-true _ _ e, (cond-true _ _ e, cond-true _ _ e))
+    (cond-true _ _ e, (cond-true _ _ e, (cond-true _ _ e, λ h. refl)))
 
 returns-2 : tie.Need-returns-2
 returns-2 c =
     let a = c .before .before .before .before .before .before .args in
     let e = lacks-info 8 (a .plan .now) (a .info .now) (c .before .if1 .left) (c .if2 .taken) in
-    (cond-true _ _ e, (cond-true _ _ e, cond-true _ _ e))
+    (cond-true _ _ e, (cond-true _ _ e, (cond-true _ _ e, λ h. refl)))
 
 search-with-requires : tie.Need-search-with-requires
 search-with-requires c κs = search needs
 
-told-kind-requires : tie.Need-told-kind-requires
-told-kind-requires c κs = search needs
-
-copy-bytes-requires : tie.Need-copy-bytes-requires
-copy-bytes-requires c κs = search needs
-
-write-info-requires : tie.Need-write-info-requires
-write-info-requires c κs = search needs
+write-search-requires : tie.Need-write-search-requires
+write-search-requires c κs = search needs
 
 same-length : tie.Need-same-length
 same-length c = search needs
@@ -42,12 +36,13 @@ same-length-3 c = search needs
 
 returns-3 : tie.Need-returns-3
 returns-3 c =
-    let r = c .before .before .before .before .before .before .before .before .before .before .before .before .before .before in
+    let w = c .before .before .before .before in
+    let r = w .before .before .before .before .before in
     let a = r .before .before .before .before .before .before .before .before .args in
     let e = lacks-none 8 (a .plan .now) (a .info .now) (r .before .before .before .if1 .left) (r .before .before .if2 .left) in
-    let n : length (r .search-with .result .plan) ≡ 8 = search needs in
-    let same = search-told _ _ _ _ (r .search-with .ensures) (c .before .before .before .before .before .before .before .before .before .before .before .told-kind .ensures) in
-    (byte e _ _ same, (second _ _ _ e (search-plan _ _ _ _ _ n (r .search-with .ensures) (c .before .before .before .before .before .before .copy-bytes .ensures)), numbers e _ _ same _ _ (c .before .before .write-info .ensures)))
+    let is = r .search-with .ensures in
+    let k = w .write-search .ensures in
+    (search-byte e _ _ _ is _ (k .0), (search-plan e _ _ _ is _ _ (k .1 .0), (search-info e _ _ _ is _ _ (k .1 .1), λ h. absurd (true≢false (sym h ∙ e)))))
 
 pub krepuskilo-search-with-spec : {M : Type 1} → statement M
 krepuskilo-search-with-spec =
@@ -56,9 +51,7 @@ krepuskilo-search-with-spec =
     returns
     returns-2
     search-with-requires
-    told-kind-requires
-    copy-bytes-requires
-    write-info-requires
+    write-search-requires
     same-length
     same-length-2
     same-length-3
