@@ -9,6 +9,9 @@ use crate::sheets::{bad_table, good_table, rubbish, Random};
 use crate::worlds::{self, Checked};
 use std::collections::BTreeMap;
 
+/// The numbers of a slot in the memory of a search.
+const SLOT: usize = 258;
+
 pub struct Comparer {
     pub passed: u64,
     pub failed: u64,
@@ -17,6 +20,8 @@ pub struct Comparer {
     pub random: Random,
     /// How often each answer was due: the call, its number, and the verdict of a run or the end of a search.
     answers: BTreeMap<(&'static str, u8, &'static str), u64>,
+    /// What the last search left in its memory.
+    left: Vec<u32>,
 }
 
 fn name_of(what: Call) -> &'static str {
@@ -27,6 +32,7 @@ fn name_of(what: Call) -> &'static str {
         Call::Picture => "picture",
         Call::Run => "run",
         Call::Search(_) => "search",
+        Call::SearchWith(_) => "search_with",
     }
 }
 
@@ -34,7 +40,7 @@ fn name_of(what: Call) -> &'static str {
 fn end_of(what: Call, info: &[u64]) -> &'static str {
     match what {
         Call::Run => [" reached", " short", " stopped", " full"][info[1] as usize],
-        Call::Search(_) => [" reached", " full", " none"][info[1] as usize],
+        Call::Search(_) | Call::SearchWith(_) => [" reached", " full", " none"][info[1] as usize],
         _ => "",
     }
 }
@@ -65,16 +71,17 @@ fn places<T: PartialEq + std::fmt::Display>(name: &str, before: &[T], library: &
 fn difference(sheet: &[u8], what: Call, lent: &Lent, library: (u8, &Lent), reference: (u8, &Lent)) -> String {
     let (got, due) = (library.1, reference.1);
     format!(
-        "{what:?}\nsheet: {}\nlent: info {}, table {}, bytes {}, rows {}\nlibrary: {} info {:?}\nreference: {} info {:?}{}{}{}",
-        hexadecimal(sheet), lent.info.len(), table_words(what, &lent.table), lent.bytes.len(), lent.rows.len(), library.0, got.info,
-        reference.0, due.info, places("table", &lent.table, &got.table, &due.table),
+        "{what:?}\nsheet: {}\nlent: info {}, table {}, bytes {}, rows {}, memory {}\nlibrary: {} info {:?}\nreference: {} info {:?}{}{}{}{}",
+        hexadecimal(sheet), lent.info.len(), table_words(what, &lent.table), lent.bytes.len(), lent.rows.len(), lent.memory.len(),
+        library.0, got.info, reference.0, due.info, places("table", &lent.table, &got.table, &due.table),
         places("bytes", &lent.bytes, &got.bytes, &due.bytes), places("rows", &lent.rows, &got.rows, &due.rows),
+        places("memory", &lent.memory, &got.memory, &due.memory),
     )
 }
 
 impl Comparer {
     pub fn new(seed: u64) -> Comparer {
-        Comparer { passed: 0, failed: 0, calls: 0, random: Random::new(seed), answers: BTreeMap::new() }
+        Comparer { passed: 0, failed: 0, calls: 0, random: Random::new(seed), answers: BTreeMap::new(), left: Vec::new() }
     }
 
     /// Counts one comparison; only the first that fails is described.
@@ -106,6 +113,19 @@ impl Comparer {
             table,
             bytes: (0..bytes).map(|_| r.next() as u8).collect(),
             rows: (0..rows).map(|_| r.next()).collect(),
+            memory: Vec::new(),
+        }
+    }
+
+    /// A memory of 0, 1, 3 or 64 slots, or of a part of one more: rubbish, which is small so that it is like marks and counts; or what the last
+    /// search left, of another sheet or to another limit; or the sheet's own first table in every slot, with the highest mark there is.
+    fn memory(&mut self, sheet: &[u8]) -> Vec<u32> {
+        let length = self.random.pick(&[0, SLOT, 3 * SLOT, 64 * SLOT, 100, 2 * SLOT - 1, 3 * SLOT + 1]);
+        let first = accepted(sheet).and_then(|sheet| start(&sheet).ok());
+        match (self.random.below(3), first) {
+            (0, Some(entries)) => [9].into_iter().chain(numbers_of(&entries)).cycle().take(length).collect(),
+            (1, _) if !self.left.is_empty() => self.left.iter().copied().cycle().take(length).collect(),
+            _ => (0..length).map(|_| self.random.below(11) as u32).collect(),
         }
     }
 
@@ -118,12 +138,17 @@ impl Comparer {
         let mut found = lent.clone();
         let Some(answer) = call(sheet, what, &mut found) else { return };
         self.calls += 1;
+        if matches!(what, Call::SearchWith(_)) && number != 255 {
+            wanted.memory.clone_from(&found.memory);
+            self.left.clone_from(&found.memory);
+        }
         self.count(answer == number && found == wanted, || difference(sheet, what, &lent, (answer, &found), (number, &wanted)));
     }
 
     /// A call with one or more of the slices too short.
     fn too_short(&mut self, sheet: &[u8], what: Call) {
         let mut lent = self.lent(None, 9, 200);
+        lent.memory = self.memory(sheet);
         let r = &mut self.random;
         match r.below(4) {
             0 => lent.info.truncate(r.below(4)),
@@ -150,8 +175,13 @@ impl Comparer {
         let limits = [0, 1, 2, 3, 4, 5, 6, 7, 8, 9, 10, 255, 256, 1 << 32, u64::MAX];
         for limit in [8, 4, 2, self.random.pick(&limits)] {
             let bytes = self.random.pick(&[8, 8, 9, 12]);
-            let lent = self.lent(None, bytes, 0);
-            self.one(sheet, Call::Search(limit), budget, lent);
+            let mut lent = self.lent(None, bytes, 0);
+            if self.random.one_in(4) {
+                self.one(sheet, Call::Search(limit), budget, lent);
+            } else {
+                lent.memory = self.memory(sheet);
+                self.one(sheet, Call::SearchWith(limit), budget, lent);
+            }
         }
     }
 
@@ -189,7 +219,7 @@ impl Comparer {
         }
     }
 
-    /// All six calls on one sheet, over its own tables, those given, and `more` random ones.
+    /// All calls on one sheet, over its own tables, those given, and `more` random ones.
     pub fn sheet(&mut self, bytes: &[u8], tables: &[[u32; NUMBERS]], more: usize, budget: usize) {
         let lent = self.lent(None, 0, 0);
         self.one(bytes, Call::Judge, 0, lent);
@@ -198,7 +228,7 @@ impl Comparer {
         self.runs(bytes);
         self.searches(bytes, budget);
         let limit = self.random.pick(&[0, 8, 9]);
-        let calls = [Call::Judge, Call::Start, Call::Step(0), Call::Picture, Call::Run, Call::Search(limit)];
+        let calls = [Call::Judge, Call::Start, Call::Step(0), Call::Picture, Call::Run, Call::Search(limit), Call::SearchWith(limit)];
         let any = self.random.pick(&calls);
         self.too_short(bytes, any);
         let Some(sheet) = accepted(bytes) else {

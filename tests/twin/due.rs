@@ -132,11 +132,12 @@ fn search_due(bytes: &[u8], limit: u64, budget: usize, lent: &mut Lent) -> Optio
 /// "255 if a lent slice is too short (info: 4 numbers; table: 257; plan: 8): then nothing at all is written."
 fn too_short(call: Call, lent: &Lent) -> bool {
     let table = matches!(call, Call::Start | Call::Step(_) | Call::Picture | Call::Run) && lent.table.len() < NUMBERS;
-    let plan = matches!(call, Call::Search(_)) && lent.bytes.len() < 8;
+    let plan = matches!(call, Call::Search(_) | Call::SearchWith(_)) && lent.bytes.len() < 8;
     lent.info.len() < 4 || table || plan
 }
 
-/// The answer that is due; what is due in the lent slices is in `lent` afterwards. None if a search takes more than `budget` steps.
+/// The answer that is due; what is due in the lent slices is in `lent` afterwards, but for the memory of a search, of which nothing is due
+/// unless the answer is 255. None if a search takes more than `budget` steps.
 pub fn due(bytes: &[u8], call: Call, budget: usize, lent: &mut Lent) -> Option<u8> {
     if too_short(call, lent) {
         return Some(255);
@@ -147,7 +148,7 @@ pub fn due(bytes: &[u8], call: Call, budget: usize, lent: &mut Lent) -> Option<u
         Call::Step(number) => step_due(bytes, number, lent),
         Call::Picture => picture_due(bytes, lent),
         Call::Run => run_due(bytes, lent),
-        Call::Search(limit) => search_due(bytes, limit, budget, lent)?,
+        Call::Search(limit) | Call::SearchWith(limit) => search_due(bytes, limit, budget, lent)?,
     };
     let (number, info) = match answer {
         Ok([first, second, third]) => (0, [0, first, second, third]),
