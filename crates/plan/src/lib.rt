@@ -116,7 +116,7 @@ pub fn report(bytes: &[u8], out: &mut [u8]) -> usize
     text::write_text(out, course)
 }
 
-// The first plan of at most `limit` moves that is reached or full.
+// The first plan of at most `limit` moves that is reached or full. It has eight slots of memory of its own.
 pub fn search(bytes: &[u8], limit: usize) -> Searched
     ensures { λ r. ⌜ r ≡ searchOf (sheetOf (now (bytes .entry))) limit ⌝ }
 {
@@ -124,8 +124,8 @@ pub fn search(bytes: &[u8], limit: usize) -> Searched
     search_with(bytes, limit, &mut memory)
 }
 
-// The same, and quicker with a memory: slots of 258 numbers, as many as there are. What it holds at entry does not matter, nor how long it
-// is; what it holds afterwards is not promised.
+// The same with a memory that the caller lends, and the quicker the more slots of 258 numbers it has. It is scratch: what it holds at entry
+// does not matter, nor how long it is, and afterwards it holds anything.
 pub fn search_with<'a, 'b>(bytes: &'a [u8], limit: usize, memory: &'b mut [u32]) -> Searched
     ensures { λ r. ⌜ r ≡ searchOf (sheetOf (now (bytes .entry))) limit ⌝ }
 {
