@@ -194,7 +194,7 @@ pub record RunDemand (s : List ℕ) (x : Statement) : Type 0 where
   -- "the rest kept"
   pub rest : (rows : List Row) (i : ℕ) → length (taken s x (length rows)) < i → (d : Row) → getD (rowsAfter (sheetOf s) rows) i d ≡ getD rows i d
 
--- ---- search, its numbers; what it finds is in demand 2
+-- ---- search, its numbers; what it finds is in demand 2. `search_with` promises the same `searchOf`, whatever memory it is lent
 pub record SearchDemand (s : List ℕ) (x : Statement) : Type 0 where
   -- "8 search limit above 8 (position 0)"
   pub on-8 : (limit : ℕ) → (searchOf (sheetOf s) limit .kind ≡ kind.Refused 8 0) ↔ (8 < limit)

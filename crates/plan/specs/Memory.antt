@@ -1,4 +1,5 @@
--- What the search remembers: tables with marks, in slots of 258 numbers.
+-- What the search remembers: tables with marks, in slots of 258 numbers. Any numbers are such a memory; whether what it says is so, is
+-- `Remembers`, which all numbers meet whose marks are 0.
 use mathlib.Core.Path.{_≡_}
 use mathlib.Core.List.{List}
 use Prim.Native.Nat.{ℕ, _+_, _*_, _≤_, _<_}

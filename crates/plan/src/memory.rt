@@ -8,7 +8,6 @@ ghost use Prim.Native.Nat.{ℕ, _+_, _*_, _≤_, _<_};
 ghost use lib.ListN.{length};
 ghost use mathlib.Core.List.{List};
 ghost use Rattle.table.specs.Slots.{entriesOf};
-ghost use Rattle.sheet.specs.Rows.{rowOf};
 ghost use Rattle.plan.specs.Memory.{markIn, tableIn, Recalls, Remembers, Known};
 
 // One entry more in a digest.

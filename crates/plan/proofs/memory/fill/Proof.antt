@@ -1,5 +1,5 @@
 -- `memory::fill` meets its contract. The invariant: mark, count and the first i entries are written. Assumes nothing.
-use mathlib.Core.Path.{_≡_, sym, _∙_}
+use mathlib.Core.Path.{sym, _∙_}
 use Prim.Native.Nat.{_≤_, _-_, _+_}
 use lib.ListN.{getD, length-set}
 use native.Mathlib.Omega.{arith}

@@ -2,7 +2,6 @@
 use mathlib.Core.Path.{_≡_, refl, sym, _∙_}
 use Prim.Native.Nat.{_≤_, _-_}
 use native.Mathlib.Omega.{arith}
-use borrow.Author.Needs.{needs}
 use Rattle.table.specs.Slots.{lastWithin, entriesOf}
 use Rattle.table.proofs.Scan.{turn-found, turn-none}
 use Rattle.table.proofs.slots.last_within.Statement.{statement}
