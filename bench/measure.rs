@@ -1,9 +1,9 @@
-//! One call on both sides: first compared, then timed.
+//! One call on all sides: first compared, then timed.
 
-use crate::{proved, twin};
+use crate::sides::{sides, Side, COUNT, KINDS};
 use std::hint::black_box;
 
-/// A call with the number it takes.
+/// A call with the number it takes; a search with a memory also has its slots.
 #[derive(Clone, Copy)]
 pub enum Call {
     Judge,
@@ -12,9 +12,11 @@ pub enum Call {
     Picture,
     Run,
     Search(u64),
+    SearchWith(u64, usize),
 }
 
-/// What a call is made on. `answer` is the answer that is meant, so that a case cannot turn into another one unseen.
+/// What a call is made on. `answer` is the answer that is meant and `info` the numbers, where they are known, so that a case cannot turn into
+/// another one unseen. `large`: pictures of 64 or more clauses are met.
 pub struct Case {
     pub name: &'static str,
     pub size: String,
@@ -22,79 +24,44 @@ pub struct Case {
     pub table: Vec<u32>,
     pub call: Call,
     pub answer: u8,
+    pub info: Option<[u64; 4]>,
+    pub large: bool,
 }
 
 /// Everything that a call may be lent.
-#[derive(Clone, PartialEq)]
-struct Lent {
-    info: [u64; 4],
-    table: Vec<u32>,
-    bytes: Vec<u8>,
-    rows: Vec<u64>,
+pub struct Lent {
+    pub info: [u64; 4],
+    pub table: Vec<u32>,
+    pub bytes: Vec<u8>,
+    pub rows: Vec<u64>,
+    pub memory: Vec<u32>,
 }
 
 impl Lent {
+    /// The memory holds numbers that mean nothing.
     fn new(case: &Case) -> Lent {
-        let size = if let Call::Search(_) = case.call { 8 } else { 2050 };
-        Lent { info: [7; 4], table: case.table.clone(), bytes: vec![170; size], rows: vec![9; 195] }
+        let (size, slots) = match case.call {
+            Call::Search(_) => (8, 0),
+            Call::SearchWith(_, slots) => (8, slots),
+            _ => (2050, 0),
+        };
+        Lent { info: [7; 4], table: case.table.clone(), bytes: vec![170; size], rows: vec![9; 195], memory: vec![5; slots * 258] }
+    }
+
+    /// All that is promised. What a memory holds is not.
+    fn same(&self, other: &Lent) -> bool {
+        self.info == other.info && self.table == other.table && self.bytes == other.bytes && self.rows == other.rows
     }
 }
 
-/// The library, or its twin.
-struct Side {
-    judge: fn(&[u8], &mut [u64]) -> u8,
-    start: fn(&[u8], &mut [u32], &mut [u64]) -> u8,
-    step: fn(&[u8], &mut [u32], u64, &mut [u64]) -> u8,
-    picture: fn(&[u8], &[u32], &mut [u8], &mut [u64]) -> u8,
-    run: fn(&[u8], &mut [u64], &mut [u32], &mut [u64]) -> u8,
-    search: fn(&[u8], u64, &mut [u8], &mut [u64]) -> u8,
-}
-
-const SIDES: [Side; 2] = [
-    Side {
-        judge: proved::judge,
-        start: proved::start,
-        step: proved::step,
-        picture: proved::picture,
-        run: proved::run,
-        search: proved::search,
-    },
-    Side {
-        judge: twin::judge,
-        start: twin::start,
-        step: twin::step,
-        picture: twin::picture,
-        run: twin::run,
-        search: twin::search,
-    },
-];
-
-impl Side {
-    /// The call of a case. A step gets its table anew, since it writes over it.
-    fn call(&self, case: &Case, lent: &mut Lent) -> u8 {
-        let s = black_box(&case.sheet[..]);
-        match case.call {
-            Call::Judge => (self.judge)(s, &mut lent.info),
-            Call::Start => (self.start)(s, &mut lent.table, &mut lent.info),
-            Call::Step(number) => {
-                lent.table.copy_from_slice(&case.table);
-                (self.step)(s, &mut lent.table, number, &mut lent.info)
-            }
-            Call::Picture => (self.picture)(s, &lent.table, &mut lent.bytes, &mut lent.info),
-            Call::Run => (self.run)(s, &mut lent.rows, &mut lent.table, &mut lent.info),
-            Call::Search(limit) => (self.search)(s, limit, &mut lent.bytes, &mut lent.info),
-        }
+/// The seconds of so many calls.
+fn batch(side: &Side, case: &Case, lent: &mut Lent, times: u64) -> f64 {
+    let began = seconds();
+    for _ in 0..times {
+        black_box(side.call(case, lent));
+        black_box(&mut *lent);
     }
-
-    /// The seconds of so many calls.
-    fn batch(&self, case: &Case, lent: &mut Lent, times: u64) -> f64 {
-        let began = seconds();
-        for _ in 0..times {
-            black_box(self.call(case, lent));
-            black_box(&mut *lent);
-        }
-        seconds() - began
-    }
+    seconds() - began
 }
 
 #[repr(C)]
@@ -118,54 +85,89 @@ fn seconds() -> f64 {
     time.seconds as f64 + time.nanoseconds as f64 * 1e-9
 }
 
-/// The seconds of a call, proved and twin.
+/// What a call takes on one kind of side: the seconds at the quickest placement, and the factor from there to the slowest.
 #[derive(Clone, Copy)]
-pub struct Times {
-    pub proved: f64,
-    pub twin: f64,
+pub struct Time {
+    pub least: f64,
+    pub spread: f64,
 }
 
-/// Both sides once on fresh buffers: the answer that is meant, and everything lent alike. Otherwise what is wrong.
-fn compare(case: &Case) -> Result<f64, String> {
-    let mut after = Vec::new();
-    let mut longest: f64 = 0.0;
-    for side in &SIDES {
+/// One time for each of `KINDS`.
+pub type Times = [Time; KINDS.len()];
+
+/// What a side gave on fresh buffers is what is meant. Otherwise what is wrong.
+fn meant(case: &Case, answer: u8, lent: &Lent) -> Result<(), String> {
+    if answer != case.answer {
+        return Err(format!("the answer is {}, not {}", answer, case.answer));
+    }
+    match case.info {
+        Some(info) if info != lent.info => Err(format!("info is {:?}, not {:?}", lent.info, info)),
+        _ => Ok(()),
+    }
+}
+
+/// The seconds of a call on each side.
+type Seconds = [f64; COUNT];
+
+/// All sides once on fresh buffers: what is meant, and everything alike. Otherwise what is wrong.
+fn compare(case: &Case) -> Result<Seconds, String> {
+    let mut first: Option<Lent> = None;
+    let mut taken = [0.0; COUNT];
+    for (i, side) in sides().iter().enumerate() {
         let mut lent = Lent::new(case);
         let began = seconds();
         let answer = side.call(case, &mut lent);
-        longest = longest.max(seconds() - began);
-        after.push((answer, lent));
-    }
-    if after[0].0 != case.answer {
-        return Err(format!("the library answers {}, not {}", after[0].0, case.answer));
-    }
-    if after[0] != after[1] {
-        return Err("the library and the twin differ".to_string());
-    }
-    Ok(longest)
-}
-
-/// A call that takes longer than this, in seconds, is timed alone, in fewer rounds.
-const LONG: f64 = 0.15;
-/// A batch of shorter calls takes at least about this.
-const BATCH: f64 = 0.04;
-
-/// Compares, then times: batches of both sides in turn, each side first every other round; the least of each counts.
-pub fn measure(case: &Case) -> Result<Times, String> {
-    let longest = compare(case)?;
-    let mut lent = Lent::new(case);
-    let (rounds, times) = if longest > LONG {
-        (7, 1)
-    } else {
-        let tries = 1 + (0.002 / longest.max(1e-9)) as u64;
-        let one = SIDES[1].batch(case, &mut lent, tries) / tries as f64;
-        (31, 1 + (BATCH / one.max(1e-9)) as u64)
-    };
-    let mut least = [f64::INFINITY; 2];
-    for round in 0..rounds {
-        for i in [round % 2, 1 - round % 2] {
-            least[i] = least[i].min(SIDES[i].batch(case, &mut lent, times));
+        taken[i] = seconds() - began;
+        let name = KINDS[i % KINDS.len()];
+        meant(case, answer, &lent).map_err(|wrong| format!("{name}: {wrong}"))?;
+        match &first {
+            Some(other) if !other.same(&lent) => return Err(format!("{} and {name} differ", KINDS[0])),
+            Some(_) => {}
+            None => first = Some(lent),
         }
     }
-    Ok(Times { proved: least[0] / times as f64, twin: least[1] / times as f64 })
+    Ok(taken)
+}
+
+/// A batch of calls takes about this, in seconds, unless a single call takes longer.
+const BATCH: f64 = 0.015;
+/// A call that takes longer than this has fewer rounds, and its comparison is the first of them.
+const LONG: f64 = 0.15;
+/// A call that takes longer than this has no other round.
+const LONGEST: f64 = 2.0;
+
+/// How many rounds of batches, and how many calls to a batch. The rounds divide the number of sides: each kind of side is first as often.
+fn pace(case: &Case, lent: &mut Lent, longest: f64) -> (usize, u64) {
+    if longest > LONGEST {
+        return (1, 1);
+    }
+    if longest > LONG {
+        return (3, 1);
+    }
+    let tries = 1 + (0.002 / longest.max(1e-9)) as u64;
+    let one = batch(sides()[0], case, lent, tries) / tries as f64;
+    (if one > 2.0 * BATCH { 6 } else { 12 }, (BATCH / one.max(1e-9)).ceil() as u64)
+}
+
+/// Compares, then times: batches of all sides in turn, another side first in each round; the least of each side counts.
+pub fn measure(case: &Case) -> Result<Times, String> {
+    let compared = compare(case)?;
+    let longest = compared.iter().copied().fold(0.0, f64::max);
+    let mut lent = Lent::new(case);
+    let (rounds, calls) = pace(case, &mut lent, longest);
+    let (done, mut least) = if longest > LONG { (1, compared) } else { (0, [f64::INFINITY; COUNT]) };
+    for round in done..rounds {
+        for turn in 0..COUNT {
+            let i = (turn + round * COUNT / rounds) % COUNT;
+            least[i] = least[i].min(batch(sides()[i], case, &mut lent, calls) / calls as f64);
+        }
+    }
+    Ok(std::array::from_fn(|kind| time(&least, kind)))
+}
+
+/// The time of one kind, from the least seconds of all sides.
+fn time(least: &Seconds, kind: usize) -> Time {
+    let own = || least.iter().copied().skip(kind).step_by(KINDS.len());
+    let quickest = own().fold(f64::INFINITY, f64::min);
+    Time { least: quickest, spread: own().fold(0.0, f64::max) / quickest }
 }

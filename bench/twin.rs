@@ -1,13 +1,28 @@
-//! The plain Rust twin of crate `unit`: its six calls over the same slices, by the same algorithms on the same data layout, nothing proved.
-//! What the proved code hands on by value goes by reference here, and bounds checks are as the compiler leaves them.
+//! The plain Rust twin of crate `unit`: its seven calls over the same slices, by the same algorithms on the same data layout, nothing proved.
+//! What the proved code hands on by value goes by reference here, and bounds checks are as the compiler leaves them. A crate of its own.
+//! `--cfg blocks`: a candidate is compared with four entries at a time, as in the library. `--cfg counted`: the steps of tables are counted.
 
+#[path = "twin/calls.rs"]
+mod calls;
+#[path = "twin/lists.rs"]
 mod lists;
+#[path = "twin/masks.rs"]
 mod masks;
+#[path = "twin/memory.rs"]
+mod memory;
+#[path = "twin/picture.rs"]
 mod picture;
+#[path = "twin/plan.rs"]
 mod plan;
+#[path = "twin/sheet.rs"]
 mod sheet;
+#[path = "twin/start.rs"]
 mod start;
+#[path = "twin/step.rs"]
 mod step;
+
+#[cfg(counted)]
+pub(crate) use step::steps_taken;
 
 use lists::{Table, View};
 use plan::{Kind, Verdict};
@@ -38,8 +53,7 @@ fn write_table(numbers: &mut [u32], table: &Table) {
     numbers[129..257].copy_from_slice(&table.falses);
 }
 
-#[inline(never)]
-pub fn judge(bytes: &[u8], info: &mut [u64]) -> u8 {
+fn judge(bytes: &[u8], info: &mut [u64]) -> u8 {
     if info.len() < 4 {
         return SHORT;
     }
@@ -54,8 +68,7 @@ fn started(bytes: &[u8]) -> Result<Table, Fault> {
     start::first_table(&sheet)
 }
 
-#[inline(never)]
-pub fn start(bytes: &[u8], table: &mut [u32], info: &mut [u64]) -> u8 {
+fn start(bytes: &[u8], table: &mut [u32], info: &mut [u64]) -> u8 {
     if table.len() < 257 || info.len() < 4 {
         return SHORT;
     }
@@ -78,8 +91,7 @@ fn stepped(bytes: &[u8], table: &mut [u32], number: u64) -> Result<(), Fault> {
     Ok(())
 }
 
-#[inline(never)]
-pub fn step(bytes: &[u8], table: &mut [u32], number: u64, info: &mut [u64]) -> u8 {
+fn step(bytes: &[u8], table: &mut [u32], number: u64, info: &mut [u64]) -> u8 {
     if table.len() < 257 || info.len() < 4 {
         return SHORT;
     }
@@ -94,8 +106,7 @@ fn pictured(bytes: &[u8], table: &[u32], buffer: &mut [u8]) -> Result<usize, Fau
     picture::picture(from, buffer)
 }
 
-#[inline(never)]
-pub fn picture(bytes: &[u8], table: &[u32], buffer: &mut [u8], info: &mut [u64]) -> u8 {
+fn picture(bytes: &[u8], table: &[u32], buffer: &mut [u8], info: &mut [u64]) -> u8 {
     if table.len() < 257 || info.len() < 4 {
         return SHORT;
     }
@@ -112,8 +123,7 @@ fn ran(bytes: &[u8], rows: &mut [u64], last: &mut Table) -> Result<Verdict, Faul
     plan::run(&sheet, rows, last)
 }
 
-#[inline(never)]
-pub fn run(bytes: &[u8], rows: &mut [u64], table: &mut [u32], info: &mut [u64]) -> u8 {
+fn run(bytes: &[u8], rows: &mut [u64], table: &mut [u32], info: &mut [u64]) -> u8 {
     if table.len() < 257 || info.len() < 4 {
         return SHORT;
     }
@@ -129,13 +139,13 @@ pub fn run(bytes: &[u8], rows: &mut [u64], table: &mut [u32], info: &mut [u64]) 
     tell(info, given.map(numbers))
 }
 
-fn searched(bytes: &[u8], limit: u64, plan: &mut [u8]) -> Result<[u64; 3], Fault> {
+fn searched(bytes: &[u8], limit: u64, memory: &mut [u32], plan: &mut [u8]) -> Result<[u64; 3], Fault> {
     let mut sheet = Sheet::EMPTY;
     sheet.read(bytes)?;
     if 8 < limit {
         return Err(Fault(8, 0));
     }
-    let Some(found) = plan::search(&sheet, limit as usize)? else {
+    let Some(found) = plan::search(&sheet, limit as usize, memory)? else {
         return Ok([2, 0, 0]);
     };
     plan.copy_from_slice(&found.plan);
@@ -146,12 +156,16 @@ fn searched(bytes: &[u8], limit: u64, plan: &mut [u8]) -> Result<[u64; 3], Fault
     })
 }
 
-#[inline(never)]
-pub fn search(bytes: &[u8], limit: u64, plan: &mut [u8], info: &mut [u64]) -> u8 {
+/// The search with eight slots of its own.
+fn search(bytes: &[u8], limit: u64, plan: &mut [u8], info: &mut [u64]) -> u8 {
+    search_with(bytes, limit, &mut [0; 8 * 258], plan, info)
+}
+
+pub(crate) fn search_with(bytes: &[u8], limit: u64, memory: &mut [u32], plan: &mut [u8], info: &mut [u64]) -> u8 {
     if plan.len() < 8 || info.len() < 4 {
         return SHORT;
     }
     plan[..8].fill(0);
-    let given = searched(bytes, limit, &mut plan[..8]);
+    let given = searched(bytes, limit, memory, &mut plan[..8]);
     tell(info, given)
 }

@@ -34,6 +34,17 @@ impl<'a> View<'a> {
         self.trues == other.trues && self.falses == other.falses
     }
 
+    /// The last set that lies in l; the scan starts with the newest.
+    fn last_singly(self, l: Literals) -> Option<usize> {
+        (0..self.len()).rev().find(|&i| within(self.get(i), l))
+    }
+
+    /// Some set contains l. There is no way out before the last of them, so that the compiler compares several at once.
+    #[cfg(blocks)]
+    fn some_above(self, l: Literals) -> bool {
+        self.iter().fold(false, |some, e| some | within(l, e))
+    }
+
     /// Each set is consistent and below n, and none lies in another.
     pub fn described(self, n: usize) -> bool {
         self.iter().all(|e| consistent(e) && below(n, e)) && self.apart()
@@ -51,6 +62,12 @@ impl<'a> View<'a> {
         }
         true
     }
+}
+
+/// Some of four sets lies in l. There is no way out before the last of them, so that the compiler compares the four at once.
+#[cfg(blocks)]
+fn some_of_four(trues: &[u32; 4], falses: &[u32; 4], l: Literals) -> bool {
+    trues.iter().zip(falses).fold(false, |some, (&trues, &falses)| some | within(Literals { trues, falses }, l))
 }
 
 /// A list of at most N sets, in the first count slots; the slots after them are zero.
@@ -93,14 +110,34 @@ impl<const N: usize> List<N> {
     }
 
     /// The last set that lies in l; the scan starts with the newest.
+    #[cfg(not(blocks))]
     fn last_within(&self, l: Literals) -> Option<usize> {
-        let all = self.view();
-        (0..all.len()).rev().find(|&i| within(all.get(i), l))
+        self.view().last_singly(l)
     }
 
-    /// The sets that contain l go; the others move up in order, and the slots that come free are zero.
+    /// The same by blocks of four; the sets that they leave over are the oldest.
+    #[cfg(blocks)]
+    fn last_within(&self, l: Literals) -> Option<usize> {
+        let (old_trues, trues) = self.trues[..self.count].as_rchunks();
+        let (old_falses, falses) = self.falses[..self.count].as_rchunks();
+        let old = View { trues: old_trues, falses: old_falses };
+        for (block, (t, f)) in trues.iter().zip(falses).enumerate().rev() {
+            if some_of_four(t, f, l) {
+                let last = View { trues: t, falses: f }.last_singly(l);
+                return last.map(|i| old.len() + 4 * block + i);
+            }
+        }
+        old.last_singly(l)
+    }
+
+    /// The sets that contain l go; the others move up in order, and the slots that come free are zero. Without blocks the compiler makes the
+    /// search for the first of them compare several at once; with blocks it does not, and a scan comes before it, as in the library.
     fn remove(&mut self, l: Literals) {
         let n = self.count;
+        #[cfg(blocks)]
+        if !self.view().some_above(l) {
+            return;
+        }
         let Some(first) = self.view().iter().position(|e| within(l, e)) else {
             return;
         };

@@ -2,6 +2,7 @@
 
 use super::lists::{Table, View};
 use super::masks::{clash, flip, Literals};
+use super::memory::Memory;
 use super::picture::clause_count;
 use super::sheet::{Fault, Move, Sheet};
 use super::start::first_table;
@@ -58,14 +59,14 @@ pub struct Found {
 }
 
 /// The plans with the moves taken so far, move m next and `left` moves more. A move that leaves the table as it was is not followed.
-fn begin(moves: &[Move], goal: &[Literals], table: View, place: usize, left: usize, m: usize) -> Option<Found> {
+fn begin(moves: &[Move], goal: &[Literals], table: View, place: usize, left: usize, m: usize, memory: &mut Memory) -> Option<Found> {
     let mut after = Table::EMPTY;
     match step(&moves[m], table, &mut after) {
         Ok(()) => {
             if after.view().same(table) {
                 return None;
             }
-            let mut found = walk(moves, goal, after.view(), place + 1, left)?;
+            let mut found = walk(moves, goal, after.view(), place + 1, left, memory)?;
             found.plan[place] = m as u8;
             Some(found)
         }
@@ -78,16 +79,26 @@ fn begin(moves: &[Move], goal: &[Literals], table: View, place: usize, left: usi
     }
 }
 
-/// The plans with the moves taken so far and `left` moves more, in ascending order.
-fn walk(moves: &[Move], goal: &[Literals], table: View, place: usize, left: usize) -> Option<Found> {
+/// The plans with the moves taken so far and `left` moves more, in ascending order. The table is remembered at the start, since shorter plans
+/// were all tried before, and again if none of these plans ends the search.
+fn walk(moves: &[Move], goal: &[Literals], table: View, place: usize, left: usize, memory: &mut Memory) -> Option<Found> {
     if left == 0 {
         return in_goal(goal, table).then_some(Found { kind: Kind::Reached, plan: [0; 8], length: place });
     }
-    (0..moves.len()).find_map(|m| begin(moves, goal, table, place, left - 1, m))
+    if memory.remembers(table, left) {
+        return None;
+    }
+    memory.remember(table, left);
+    let found = (0..moves.len()).find_map(|m| begin(moves, goal, table, place, left - 1, m, memory));
+    if found.is_none() {
+        memory.remember(table, left + 1);
+    }
+    found
 }
 
 /// The first plan of at most `limit` moves, shorter first, that is reached or full.
-pub fn search(sheet: &Sheet, limit: usize) -> Result<Option<Found>, Fault> {
+pub fn search(sheet: &Sheet, limit: usize, numbers: &mut [u32]) -> Result<Option<Found>, Fault> {
     let table = first_table(sheet)?;
-    Ok((0..=limit).find_map(|length| walk(sheet.moves(), sheet.goal.items(), table.view(), 0, length)))
+    let mut memory = Memory::new(numbers);
+    Ok((0..=limit).find_map(|length| walk(sheet.moves(), sheet.goal.items(), table.view(), 0, length, &mut memory)))
 }

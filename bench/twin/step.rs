@@ -3,6 +3,8 @@
 use super::lists::{Full, Table, View};
 use super::masks::{clash, consistent, contains, flip, join, literal, next, replace, within, Literals, NONE};
 use super::sheet::{Effect, Fault, Move};
+#[cfg(counted)]
+use std::sync::atomic::{AtomicU64, Ordering::Relaxed};
 
 /// The results of e and f clash, and d admits both conditions.
 fn opposed(e: &Effect, d: Literals, f: &Effect) -> bool {
@@ -47,8 +49,20 @@ fn split(effects: &[Effect], at: usize, piece: Literals, results: Literals, to: 
     Ok(())
 }
 
+/// How many steps were taken.
+#[cfg(counted)]
+static TAKEN: AtomicU64 = AtomicU64::new(0);
+
+/// How many steps were taken since this was asked last.
+#[cfg(counted)]
+pub fn steps_taken() -> u64 {
+    TAKEN.swap(0, Relaxed)
+}
+
 /// The step, into an empty table: 24, 25, then 21.
 pub fn step(m: &Move, from: View, to: &mut Table) -> Result<(), Fault> {
+    #[cfg(counted)]
+    TAKEN.fetch_add(1, Relaxed);
     if !from.iter().all(|e| within(m.precondition, e)) {
         return Err(Fault(24, 0));
     }

@@ -16,6 +16,7 @@ pub mod Stepping
 pub mod Candidates
 pub mod Starting
 pub mod PairLaws
+pub mod PairScan
 pub mod Describing
 pub mod Walks
 pub mod Advancing

@@ -4,6 +4,7 @@ use crate::Tabled;
 use crate::slots::Grown;
 use crate::slots::copy_masks;
 use crate::slots::offer;
+use crate::slots::offer_by_newest;
 use crate::steps::Stepped;
 use crate::steps::lacking;
 use sheet::Answer;
@@ -106,7 +107,7 @@ pub(crate) fn choose<'a, 'b>(
     ensures { λ r. ⌜ Puts (keep L.consistent (spec.falsify (drop at (R.setsAt size (now (row .entry)))) piece)) k (now (trues .entry)) (now (falses .entry)) r (now (trues .exit)) (now (falses .exit)) ⌝ }
 {
     if size <= at {
-        return offer(trues, falses, k, piece);
+        return offer_by_newest(trues, falses, k, piece);
     }
     let after = at + 1;
     let mut rest = lacking(set_from(row, 2 * at), piece);
@@ -121,7 +122,7 @@ pub(crate) fn choose<'a, 'b>(
             };
             sum = m;
         } else {
-            let Grown::To(m) = offer(trues, falses, sum, chosen) else {
+            let Grown::To(m) = offer_by_newest(trues, falses, sum, chosen) else {
                 return Grown::Full;
             };
             sum = m;

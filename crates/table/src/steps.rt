@@ -48,30 +48,56 @@ pub(crate) fn sure<'a>(
     true
 }
 
-// The results of e and f clash, and d admits both conditions.
-pub(crate) fn opposed(e: Effect, d: Literals, f: Effect) -> bool
-    ensures { λ r. ⌜ r ≡ P.opposed e d f ⌝ }
+// Some entry admits c: both together are consistent. The scan has no way out before its end, so that the compiler can test several at a time.
+pub(crate) fn admitted<'a>(c: Literals, trues: &'a [u32], falses: &'a [u32], count: usize) -> bool
+    requires { ⌜ (count ≤ length (now trues)) × (count ≤ length (now falses)) ⌝ }
+    ensures { λ r. ⌜ r ≡ anyOf (λ d. L.consistent (L.join d c)) (entriesOf count (now (trues .entry)) (now (falses .entry))) ⌝ }
+{
+    let mut found = false;
+    let mut i: usize = 0;
+    while i < count {
+        if masks::consistent(masks::join(entry_at(trues, falses, i), c)) {
+            found = true;
+        }
+        i += 1;
+    }
+    found
+}
+
+// The results of e and f clash, and some entry admits both conditions.
+pub(crate) fn opposed<'a>(
+    e: Effect,
+    f: Effect,
+    trues: &'a [u32],
+    falses: &'a [u32],
+    count: usize,
+) -> bool
+    requires { ⌜ (count ≤ length (now trues)) × (count ≤ length (now falses)) ⌝ }
+    ensures { λ r. ⌜ r ≡ anyOf (λ d. P.opposed e d f) (entriesOf count (now (trues .entry)) (now (falses .entry))) ⌝ }
 {
     if masks::clash(e.result, f.result) {
-        return masks::consistent(masks::join(d, masks::join(e.condition, f.condition)));
+        return admitted(masks::join(e.condition, f.condition), trues, falses, count);
     }
     false
 }
 
-// Some effect from `from` on is opposed to e in d.
-pub(crate) fn opposes<'a>(
+// Some effect from `from` on is opposed to e in some entry.
+pub(crate) fn opposes<'a, 'b>(
     effects: &'a [u32],
     size: usize,
     e: Effect,
     from: usize,
-    d: Literals,
+    trues: &'b [u32],
+    falses: &'b [u32],
+    count: usize,
 ) -> bool
     requires { ⌜ 4 * size ≤ length (now effects) ⌝ }
-    ensures { λ r. ⌜ r ≡ anyOf (P.opposed e d) (drop from (R.effectsAt size (now (effects .entry)))) ⌝ }
+    requires { ⌜ (count ≤ length (now trues)) × (count ≤ length (now falses)) ⌝ }
+    ensures { λ r. ⌜ r ≡ anyOf (λ f. anyOf (λ d. P.opposed e d f) (entriesOf count (now (trues .entry)) (now (falses .entry)))) (drop from (R.effectsAt size (now (effects .entry)))) ⌝ }
 {
     let mut j = from;
     while j < size {
-        if opposed(e, d, effect_at(effects, j)) {
+        if opposed(e, effect_at(effects, j), trues, falses, count) {
             return true;
         }
         j += 1;
@@ -79,23 +105,7 @@ pub(crate) fn opposes<'a>(
     false
 }
 
-// Two effects are opposed in d.
-pub(crate) fn contradicts<'a>(effects: &'a [u32], size: usize, d: Literals) -> bool
-    requires { ⌜ 4 * size ≤ length (now effects) ⌝ }
-    ensures { λ r. ⌜ r ≡ P.contradicts (R.effectsAt size (now (effects .entry))) d ⌝ }
-{
-    let mut i: usize = 0;
-    while i < size {
-        let e = effect_at(effects, i);
-        if opposes(effects, size, e, i + 1, d) {
-            return true;
-        }
-        i += 1;
-    }
-    false
-}
-
-// Two effects are opposed in some entry (25).
+// Two effects are opposed in some entry (25). Whether their results clash is asked once for a pair, not in each entry.
 pub(crate) fn unclear<'a, 'b>(
     effects: &'a [u32],
     size: usize,
@@ -108,8 +118,9 @@ pub(crate) fn unclear<'a, 'b>(
     ensures { λ r. ⌜ r ≡ anyOf (λ d. P.contradicts (R.effectsAt size (now (effects .entry))) d) (entriesOf count (now (trues .entry)) (now (falses .entry))) ⌝ }
 {
     let mut i: usize = 0;
-    while i < count {
-        if contradicts(effects, size, entry_at(trues, falses, i)) {
+    while i < size {
+        let e = effect_at(effects, i);
+        if opposes(effects, size, e, i + 1, trues, falses, count) {
             return true;
         }
         i += 1;
@@ -229,7 +240,12 @@ pub(crate) fn split<'a, 'b>(
             };
             sum = m;
         } else {
-            let Grown::To(m) = slots::offer(trues, falses, sum, masks::replace(p, s.results)) else {
+            let Grown::To(m) = slots::offer_by_newest(
+                trues,
+                falses,
+                sum,
+                masks::replace(p, s.results),
+            ) else {
                 return Grown::Full;
             };
             sum = m;

@@ -25,7 +25,7 @@ use Rattle.table.proofs.first.choose.Reads as choose
 use Rattle.table.proofs.first.choose.Kinds as choose-kinds
 use Rattle.table.proofs.first.+choose.Lts-choose as choose-lts
 use Rattle.sheet.proofs.rows.set_from.Reads as set-from-reads
-use Rattle.table.proofs.slots.offer.Reads as offer-reads
+use Rattle.table.proofs.slots.offer_by_newest.Reads as offer-by-newest-reads
 use Rattle.table.proofs.steps.lacking.Reads as lacking-reads
 use Rattle.table.proofs.first.+choose.{statement}
 use Rattle.table.proofs.first.+choose.Tie.{close}
@@ -40,7 +40,7 @@ abbrev choose-below : ℕ → In 2 choose-kinds.ps
 choose-below t = and 2 choose-kinds.ps (falls 2 choose-kinds.ps _<_ μ-choose t) choose.Pre
 
 abbrev claims : ℕ → choose-lts.Claims
-claims t = (offer-reads.Asked, offer-reads.Learnt, set-from-reads.Asked, set-from-reads.Learnt, lacking-reads.Asked, lacking-reads.Learnt, next-reads.Asked, next-reads.Learnt, literal-reads.Asked, literal-reads.Learnt, flip-reads.Asked, flip-reads.Learnt, join-reads.Asked, join-reads.Learnt, choose-below t, choose.Post)
+claims t = (offer-by-newest-reads.Asked, offer-by-newest-reads.Learnt, set-from-reads.Asked, set-from-reads.Learnt, lacking-reads.Asked, lacking-reads.Learnt, next-reads.Asked, next-reads.Learnt, literal-reads.Asked, literal-reads.Learnt, flip-reads.Asked, flip-reads.Learnt, join-reads.Asked, join-reads.Learnt, choose-below t, choose.Post)
 
 abbrev choose-Inv-loop : choose-lts.InvT-loop
 choose-Inv-loop row size at piece trues₀ falses₀ k after rest₀ sum₀ l₀ trues falses rest sum l =
@@ -51,8 +51,8 @@ choose-Inv-loop row size at piece trues₀ falses₀ k after rest₀ sum₀ l₀
 abbrev choose-μ-loop : choose-lts.MeasureT-loop
 choose-μ-loop row size at piece trues₀ falses₀ k after rest₀ sum₀ l₀ trues falses rest sum l = length (L.members rest 0)
 
-choose-offer-requires : (t : ℕ) → choose-lts.Need-offer-requires (claims t) (choose-at t) choose.Post choose-Inv-loop choose-μ-loop
-choose-offer-requires t c κs = c .before .before .before .before .before .pre .1 .1 .1
+choose-offer-by-newest-requires : (t : ℕ) → choose-lts.Need-offer-by-newest-requires (claims t) (choose-at t) choose.Post choose-Inv-loop choose-μ-loop
+choose-offer-by-newest-requires t c κs = c .before .before .before .before .before .pre .1 .1 .1
 
 choose-same-length : (t : ℕ) → choose-lts.Need-same-length (claims t) (choose-at t) choose.Post choose-Inv-loop choose-μ-loop
 choose-same-length t c = search needs
@@ -63,7 +63,7 @@ choose-same-length-2 t c = search needs
 choose-returns : (t : ℕ) → choose-lts.Need-returns (claims t) (choose-at t) choose.Post choose-Inv-loop choose-μ-loop
 choose-returns t c =
     let s = c .before .before .before .before .before .before .before .before .before .before in
-    puts-is _ _ _ _ _ _ _ _ (chosen-all (s .args .size) (s .args .row .now) (s .args .at) _ (omega arith) (s .pre .1 .1 .0)) (c .before .before .before .before .offer .ensures)
+    puts-is _ _ _ _ _ _ _ _ (chosen-all (s .args .size) (s .args .row .now) (s .args .at) _ (omega arith) (s .pre .1 .1 .0)) (c .before .before .before .before .offer-by-newest .ensures)
 
 choose-add-after : (t : ℕ) → choose-lts.Need-add-after (claims t) (choose-at t) choose.Post choose-Inv-loop choose-μ-loop
 choose-add-after t c = omega arith
@@ -123,8 +123,8 @@ choose-returns-2 t c =
     going-full _ _ _ _ _ _ _ _ _ _ _ _ _ (w .0)
     (choices-step _ _ _ _ _ _ _ _ (w .1) (o .before .before .before .loop-test .taken) (o .before .before .literal .ensures) (o .before .flip .ensures) (o .join .ensures) refl) (c .before .before .before .before .before .before .choose .ensures) (c .enum-told .given .1)
 
-choose-offer-requires-2 : (t : ℕ) → choose-lts.Need-offer-requires-2 (claims t) (choose-at t) choose.Post choose-Inv-loop choose-μ-loop
-choose-offer-requires-2 t c κs = held-own _ _ _ _ (c .before .before .before .before .before .before .before .loop .inv .0 .held)
+choose-offer-by-newest-requires-2 : (t : ℕ) → choose-lts.Need-offer-by-newest-requires-2 (claims t) (choose-at t) choose.Post choose-Inv-loop choose-μ-loop
+choose-offer-by-newest-requires-2 t c κs = held-own _ _ _ _ (c .before .before .before .before .before .before .before .loop .inv .0 .held)
 
 choose-enum-known-m-2 : (t : ℕ) → choose-lts.Need-enum-known-m-2 (claims t) (choose-at t) choose.Post choose-Inv-loop choose-μ-loop
 choose-enum-known-m-2 t c = search needs
@@ -133,10 +133,10 @@ choose-enum-told-2 : (t : ℕ) → choose-lts.Need-enum-told-2 (claims t) (choos
 choose-enum-told-2 t c = search needs
 
 choose-same-length-5 : (t : ℕ) → choose-lts.Need-same-length-5 (claims t) (choose-at t) choose.Post choose-Inv-loop choose-μ-loop
-choose-same-length-5 t c = c .before .before .before .before .before .before .offer2 .kept .0 ∙ holds-trues-long _ _ _ _ _ (c .before .before .before .before .before .before .before .before .before .before .before .before .before .before .loop .inv .0 .held)
+choose-same-length-5 t c = c .before .before .before .before .before .before .offer-by-newest2 .kept .0 ∙ holds-trues-long _ _ _ _ _ (c .before .before .before .before .before .before .before .before .before .before .before .before .before .before .loop .inv .0 .held)
 
 choose-same-length-6 : (t : ℕ) → choose-lts.Need-same-length-6 (claims t) (choose-at t) choose.Post choose-Inv-loop choose-μ-loop
-choose-same-length-6 t c = c .before .before .before .before .before .before .offer2 .kept .1 .0 ∙ holds-falses-long _ _ _ _ _ (c .before .before .before .before .before .before .before .before .before .before .before .before .before .before .loop .inv .0 .held) ∙ sym (holds-falses-long _ _ _ _ _ (c .before .before .before .before .before .before .before .before .before .before .before .before .before .before .before .before .before .before .before .before .before .before .pre .1 .1 .1))
+choose-same-length-6 t c = c .before .before .before .before .before .before .offer-by-newest2 .kept .1 .0 ∙ holds-falses-long _ _ _ _ _ (c .before .before .before .before .before .before .before .before .before .before .before .before .before .before .loop .inv .0 .held) ∙ sym (holds-falses-long _ _ _ _ _ (c .before .before .before .before .before .before .before .before .before .before .before .before .before .before .before .before .before .before .before .before .before .before .pre .1 .1 .1))
 
 choose-returns-3 : (t : ℕ) → choose-lts.Need-returns-3 (claims t) (choose-at t) choose.Post choose-Inv-loop choose-μ-loop
 choose-returns-3 t c =
@@ -146,7 +146,7 @@ choose-returns-3 t c =
     let steady = chosen-steady _ _ _ _ _ _ (s .pre .1 .1 .0) (w .2) (w .1) (o .before .before .before .loop-test .taken) (o .before .before .literal .ensures) (o .before .flip .ensures) (o .join .ensures) in
     let q = chosen-all (s .args .size) (s .args .row .now) (s .args .at + 1) _ (c .before .before .before .before .before .before .before .before .before .if2 .left) steady in
     going-full _ _ _ _ _ _ _ _ _ _ _ _ _ (w .0)
-    (choices-step _ _ _ _ _ _ _ _ (w .1) (o .before .before .before .loop-test .taken) (o .before .before .literal .ensures) (o .before .flip .ensures) (o .join .ensures) refl) (puts-is _ _ _ _ _ _ _ _ q (c .before .before .before .before .before .before .offer2 .ensures)) (c .enum-told2 .given .1)
+    (choices-step _ _ _ _ _ _ _ _ (w .1) (o .before .before .before .loop-test .taken) (o .before .before .literal .ensures) (o .before .flip .ensures) (o .join .ensures) refl) (puts-is _ _ _ _ _ _ _ _ q (c .before .before .before .before .before .before .offer-by-newest2 .ensures)) (c .enum-told2 .given .1)
 
 choose-lacking-requires-2 : (t : ℕ) → choose-lts.Need-lacking-requires-2 (claims t) (choose-at t) choose.Post choose-Inv-loop choose-μ-loop
 choose-lacking-requires-2 t c κs = search needs
@@ -191,7 +191,7 @@ pub +choose-spec : {M : Type 1} → statement M
     choose.Post
     choose-Inv-loop
     choose-μ-loop
-    (choose-offer-requires t)
+    (choose-offer-by-newest-requires t)
     (choose-same-length t)
     (choose-same-length-2 t)
     (choose-returns t)
@@ -210,7 +210,7 @@ pub +choose-spec : {M : Type 1} → statement M
     (choose-same-length-3 t)
     (choose-same-length-4 t)
     (choose-returns-2 t)
-    (choose-offer-requires-2 t)
+    (choose-offer-by-newest-requires-2 t)
     (choose-enum-known-m-2 t)
     (choose-enum-told-2 t)
     (choose-same-length-5 t)

@@ -24,7 +24,7 @@ use Rattle.table.proofs.steps.+split.Lts-split as split-lts
 use Rattle.sheet.proofs.masks.next.Reads as next-reads
 use Rattle.sheet.proofs.masks.replace.Reads as replace-reads
 use Rattle.table.proofs.effects.effect_at.Reads as effect-at-reads
-use Rattle.table.proofs.slots.offer.Reads as offer-reads
+use Rattle.table.proofs.slots.offer_by_newest.Reads as offer-by-newest-reads
 use Rattle.table.proofs.steps.carried.Reads as carried-reads
 use Rattle.table.proofs.steps.lacking.Reads as lacking-reads
 use Rattle.table.proofs.steps.part.Reads as part-reads
@@ -42,7 +42,7 @@ abbrev split-below : ℕ → In 2 split-kinds.ps
 split-below t = and 2 split-kinds.ps (falls 2 split-kinds.ps _<_ μ-split t) split.Pre
 
 abbrev claims : ℕ → split-lts.Claims
-claims t = (effect-at-reads.Asked, effect-at-reads.Learnt, lacking-reads.Asked, lacking-reads.Learnt, part-reads.Asked, part-reads.Learnt, carried-reads.Asked, carried-reads.Learnt, settle-reads.Asked, settle-reads.Learnt, split-below t, split.Post, replace-reads.Asked, replace-reads.Learnt, offer-reads.Asked, offer-reads.Learnt, next-reads.Asked, next-reads.Learnt)
+claims t = (effect-at-reads.Asked, effect-at-reads.Learnt, lacking-reads.Asked, lacking-reads.Learnt, part-reads.Asked, part-reads.Learnt, carried-reads.Asked, carried-reads.Learnt, settle-reads.Asked, settle-reads.Learnt, split-below t, split.Post, replace-reads.Asked, replace-reads.Learnt, offer-by-newest-reads.Asked, offer-by-newest-reads.Learnt, next-reads.Asked, next-reads.Learnt)
 
 abbrev split-Inv-loop : split-lts.InvT-loop
 split-Inv-loop effects size at piece results trues₀ falses₀ k e condition missing next sum₀ t₀ trues falses sum t =
@@ -136,8 +136,8 @@ split-returns t c =
 split-replace-requires : (t : ℕ) → split-lts.Need-replace-requires (claims t) (split-at t) split.Post split-Inv-loop split-μ-loop
 split-replace-requires t c κs = search needs
 
-split-offer-requires : (t : ℕ) → split-lts.Need-offer-requires (claims t) (split-at t) split.Post split-Inv-loop split-μ-loop
-split-offer-requires t c κs = held-own _ _ _ _ (c .before .before .before .before .before .before .before .before .before .loop .inv .1 .held)
+split-offer-by-newest-requires : (t : ℕ) → split-lts.Need-offer-by-newest-requires (claims t) (split-at t) split.Post split-Inv-loop split-μ-loop
+split-offer-by-newest-requires t c κs = held-own _ _ _ _ (c .before .before .before .before .before .before .before .before .before .loop .inv .1 .held)
 
 split-enum-known-m-2 : (t : ℕ) → split-lts.Need-enum-known-m-2 (claims t) (split-at t) split.Post split-Inv-loop split-μ-loop
 split-enum-known-m-2 t c = search needs
@@ -146,11 +146,11 @@ split-enum-told-2 : (t : ℕ) → split-lts.Need-enum-told-2 (claims t) (split-a
 split-enum-told-2 t c = search needs
 
 split-same-length-3 : (t : ℕ) → split-lts.Need-same-length-3 (claims t) (split-at t) split.Post split-Inv-loop split-μ-loop
-split-same-length-3 t c = c .before .before .before .before .before .before .offer .kept .0 ∙ holds-trues-long _ _ _ _ _ (c .before .before .before .before .before .before .before .before .before .before .before .before .before .before .before .before .loop .inv .1 .held)
+split-same-length-3 t c = c .before .before .before .before .before .before .offer-by-newest .kept .0 ∙ holds-trues-long _ _ _ _ _ (c .before .before .before .before .before .before .before .before .before .before .before .before .before .before .before .before .loop .inv .1 .held)
 
 split-same-length-4 : (t : ℕ) → split-lts.Need-same-length-4 (claims t) (split-at t) split.Post split-Inv-loop split-μ-loop
 split-same-length-4 t c =
-    c .before .before .before .before .before .before .offer .kept .1 .0
+    c .before .before .before .before .before .before .offer-by-newest .kept .1 .0
     ∙ holds-falses-long _ _ _ _ _ (c .before .before .before .before .before .before .before .before .before .before .before .before .before .before .before .before .loop .inv .1 .held)
     ∙ sym (holds-falses-long _ _ _ _ _ (c .before .before .before .before .before .before .before .before .before .before .before .before .before .before .before .before .before .before .before .before .before .before .before .pre .1 .1 .1 .1))
 
@@ -159,7 +159,7 @@ split-returns-2 t c =
     let s = c .before .before .before .before .before .before .before .before .before .before .before .before in
     let a = s .before .before .before .before .before .before .before .before .before .before .before .args in
     going-full _ _ _ _ _ _ _ _ _ _ _ _ _ (s .before .before .before .before .loop .inv .1) (turned t s _ refl)
-    (settles-leaf _ _ _ _ (s .settle .ensures .0) (effects-end (a .size) (a .effects .now) (s .settle .result .at) (omega (arith, c .before .before .before .before .before .before .before .before .before .before .if1 .left))) _ (c .before .before .before .before .before .before .before .replace .ensures) _ _ _ _ _ _ (c .before .before .before .before .before .before .offer .ensures)) (c .enum-told2 .given .1)
+    (settles-leaf _ _ _ _ (s .settle .ensures .0) (effects-end (a .size) (a .effects .now) (s .settle .result .at) (omega (arith, c .before .before .before .before .before .before .before .before .before .before .if1 .left))) _ (c .before .before .before .before .before .before .before .replace .ensures) _ _ _ _ _ _ (c .before .before .before .before .before .before .offer-by-newest .ensures)) (c .enum-told2 .given .1)
 
 split-next-requires : (t : ℕ) → split-lts.Need-next-requires (claims t) (split-at t) split.Post split-Inv-loop split-μ-loop
 split-next-requires t c κs = search needs
@@ -216,7 +216,7 @@ pub +split-spec : {M : Type 1} → statement M
     (split-same-length-2 t)
     (split-returns t)
     (split-replace-requires t)
-    (split-offer-requires t)
+    (split-offer-by-newest-requires t)
     (split-enum-known-m-2 t)
     (split-enum-told-2 t)
     (split-same-length-3 t)

@@ -1,21 +1,31 @@
--- `table::steps::opposes` meets its contract. The invariant: the effects from j on decide. Assumes nothing.
+-- `steps::opposes` meets its contract. The invariant: the effects from j on decide. Assumes nothing.
 use mathlib.Core.Path.{_≡_, refl, sym, ap, _∙_}
+use mathlib.Core.Bool.{Bool}
+use mathlib.Core.List.{List}
 use Prim.Native.Nat.{_-_}
 use borrow.Author.Needs.{needs}
 use lib.ListN.{drop}
+use Rattle.sheet.specs.declared.Literals.{Literals}
+use Rattle.sheet.specs.declared.Effect.{Effect}
 use Rattle.sheet.specs.Lists.{anyOf}
 use Rattle.sheet.specs.Rows.{effectsAt}
 use Rattle.table.specs.Pairs.{opposed as opposedBy}
+use Rattle.table.specs.Slots.{entriesOf}
 use Rattle.table.proofs.Turns.{any-stop, any-on}
 use Rattle.sheet.proofs.RowLaws.{effects-step, effects-end}
 use Rattle.table.proofs.steps.opposes.Statement.{statement}
 use Rattle.table.proofs.steps.opposes.Tie as tie
 
+-- in some entry
+abbrev against : Effect → List Literals → Effect → Bool
+against e t f = anyOf (λ d. opposedBy e d f) t
+
 abbrev Inv-loop : tie.InvT-loop
-Inv-loop effects size e from d j₀ j = anyOf (opposedBy e d) (drop from (effectsAt size effects)) ≡ anyOf (opposedBy e d) (drop j (effectsAt size effects))
+Inv-loop effects size e from trues falses count j₀ j =
+    anyOf (against e (entriesOf count trues falses)) (drop from (effectsAt size effects)) ≡ anyOf (against e (entriesOf count trues falses)) (drop j (effectsAt size effects))
 
 abbrev μ-loop : tie.MeasureT-loop
-μ-loop effects size e from d j₀ j = size - j
+μ-loop effects size e from trues falses count j₀ j = size - j
 
 loop-holds : tie.Need-loop-holds Inv-loop μ-loop
 loop-holds c = refl
@@ -28,8 +38,8 @@ opposed-requires c κs = search needs
 
 returns : tie.Need-returns Inv-loop μ-loop
 returns c =
-    let a = c .before .before .before .before .before .before .args in
-    any-stop (opposedBy (a .e) (a .d)) _ _ _ _
+    let a = c .before .before .before .before .before .before .before .before .args in
+    any-stop (against (a .e) (entriesOf (a .count) (a .trues .now) (a .falses .now))) _ _ _ _
     (effects-step (a .size) (a .effects .now) (c .before .before .before .before .loop .j) _ (c .before .before .before .loop-test .taken) (c .before .before .effect-at .ensures))
     (c .before .opposed .ensures) (c .if1 .taken)
     ∙ sym (c .before .before .before .before .loop .inv)
@@ -42,16 +52,16 @@ loop-less c = search needs
 
 loop-again : tie.Need-loop-again Inv-loop μ-loop
 loop-again c =
-    let a = c .before .before .before .before .before .before .args in
+    let a = c .before .before .before .before .before .before .before .before .args in
     c .before .before .before .before .loop .inv
-    ∙ any-on (opposedBy (a .e) (a .d)) _ _ _ _
+    ∙ any-on (against (a .e) (entriesOf (a .count) (a .trues .now) (a .falses .now))) _ _ _ _
     (effects-step (a .size) (a .effects .now) (c .before .before .before .before .loop .j) _ (c .before .before .before .loop-test .taken) (c .before .before .effect-at .ensures))
     (c .before .opposed .ensures) (c .if1 .left)
 
 returns-2 : tie.Need-returns-2 Inv-loop μ-loop
 returns-2 c =
-    let a = c .before .before .before .args in
-    sym (c .before .loop .inv ∙ ap (anyOf (opposedBy (a .e) (a .d))) (effects-end (a .size) (a .effects .now) (c .before .loop .j) (c .loop-test .left)))
+    let a = c .before .before .before .before .before .args in
+    sym (c .before .loop .inv ∙ ap (anyOf (against (a .e) (entriesOf (a .count) (a .trues .now) (a .falses .now)))) (effects-end (a .size) (a .effects .now) (c .before .loop .j) (c .loop-test .left)))
 
 pub opposes-spec : {M : Type 1} → statement M
 opposes-spec =

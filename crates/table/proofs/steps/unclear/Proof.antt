@@ -1,40 +1,42 @@
--- `table::steps::unclear` meets its contract. The invariant: the entries from i on decide. Assumes nothing.
-use mathlib.Core.Path.{_≡_, refl, sym, ap, _∙_}
-use Prim.Native.Nat.{_≤_, _-_}
-use native.Mathlib.Omega.{arith}
+-- `steps::unclear` meets its contract. The invariant: the effects from i on decide. Assumes nothing.
+use mathlib.Core.Path.{_≡_, refl, sym, _∙_}
+use Prim.Native.Nat.{_-_}
 use borrow.Author.Needs.{needs}
 use lib.ListN.{drop}
-use Rattle.table.specs.Pairs.{contradicts}
-use Rattle.sheet.specs.Rows.{effectsAt}
 use Rattle.sheet.specs.Lists.{anyOf}
+use Rattle.sheet.specs.Rows.{effectsAt}
+use Rattle.sheet.proofs.RowLaws.{effects-step, effects-end}
+use Rattle.table.specs.Pairs.{contradicts}
 use Rattle.table.specs.Slots.{entriesOf}
-use Rattle.table.proofs.Turns.{any-stop, any-on, entries-next, entries-done}
+use Rattle.table.proofs.PairScan.{pairs-turn, pairs-end}
 use Rattle.table.proofs.steps.unclear.Statement.{statement}
 use Rattle.table.proofs.steps.unclear.Tie as tie
 
 abbrev Inv-loop : tie.InvT-loop
 Inv-loop effects size trues falses count i₀ i =
-    (i ≤ count) × (anyOf (λ d. contradicts (effectsAt size effects) d) (entriesOf count trues falses) ≡ anyOf (λ d. contradicts (effectsAt size effects) d) (drop i (entriesOf count trues falses)))
+    anyOf (λ d. contradicts (effectsAt size effects) d) (entriesOf count trues falses) ≡ anyOf (λ d. contradicts (drop i (effectsAt size effects)) d) (entriesOf count trues falses)
 
 abbrev μ-loop : tie.MeasureT-loop
-μ-loop effects size trues falses count i₀ i = count - i
+μ-loop effects size trues falses count i₀ i = size - i
 
 loop-holds : tie.Need-loop-holds Inv-loop μ-loop
-loop-holds c = (omega arith, refl)
+loop-holds c = refl
 
-entry-at-requires : tie.Need-entry-at-requires Inv-loop μ-loop
-entry-at-requires c κs = search needs
+effect-at-requires : tie.Need-effect-at-requires Inv-loop μ-loop
+effect-at-requires c κs = search needs
 
-contradicts-requires : tie.Need-contradicts-requires Inv-loop μ-loop
-contradicts-requires c κs = search needs
+add-opposes : tie.Need-add-opposes Inv-loop μ-loop
+add-opposes c = search needs
+
+opposes-requires : tie.Need-opposes-requires Inv-loop μ-loop
+opposes-requires c κs = search needs
 
 returns : tie.Need-returns Inv-loop μ-loop
 returns c =
-    let a = c .before .before .before .before .before .before .before .before .args in
-    any-stop (λ d. contradicts (effectsAt (a .size) (a .effects .now)) d) _ _ _ _
-    (entries-next (a .count) (a .trues .now) (a .falses .now) (c .before .before .before .before .loop .i) (c .before .before .entry-at .result) (c .before .before .before .loop-test .taken) (c .before .before .entry-at .ensures))
-    (c .before .contradicts .ensures) (c .if1 .taken)
-    ∙ sym (c .before .before .before .before .loop .inv .1)
+    let o = c .before .before .before .before in
+    let a = o .before .before .before .before .args in
+    sym (o .loop .inv
+    ∙ pairs-turn _ (entriesOf (a .count) (a .trues .now) (a .falses .now)) _ _ _ _ (effects-step (a .size) (a .effects .now) (o .loop .i) _ (c .before .before .before .loop-test .taken) (c .before .before .effect-at .ensures)) (c .before .opposes .ensures) (c .if1 .taken))
 
 add-i : tie.Need-add-i Inv-loop μ-loop
 add-i c = search needs
@@ -44,18 +46,15 @@ loop-less c = search needs
 
 loop-again : tie.Need-loop-again Inv-loop μ-loop
 loop-again c =
-    let a = c .before .before .before .before .before .before .before .before .args in (
-      omega arith,
-      c .before .before .before .before .loop .inv .1
-          ∙ any-on (λ d. contradicts (effectsAt (a .size) (a .effects .now)) d) _ _ _ _
-          (entries-next (a .count) (a .trues .now) (a .falses .now) (c .before .before .before .before .loop .i) (c .before .before .entry-at .result) (c .before .before .before .loop-test .taken) (c .before .before .entry-at .ensures))
-          (c .before .contradicts .ensures) (c .if1 .left),
-    )
+    let o = c .before .before .before .before in
+    let a = o .before .before .before .before .args in
+    o .loop .inv
+    ∙ pairs-turn _ (entriesOf (a .count) (a .trues .now) (a .falses .now)) _ _ _ _ (effects-step (a .size) (a .effects .now) (o .loop .i) _ (c .before .before .before .loop-test .taken) (c .before .before .effect-at .ensures)) (c .before .opposes .ensures) (c .if1 .left)
 
 returns-2 : tie.Need-returns-2 Inv-loop μ-loop
 returns-2 c =
     let a = c .before .before .before .before .before .args in
-    sym (c .before .loop .inv .1 ∙ ap (anyOf (λ d. contradicts (effectsAt (a .size) (a .effects .now)) d)) (entries-done (a .count) (a .trues .now) (a .falses .now) (c .before .loop .i) (c .loop-test .left)))
+    sym (c .before .loop .inv ∙ pairs-end _ (entriesOf (a .count) (a .trues .now) (a .falses .now)) (effects-end (a .size) (a .effects .now) (c .before .loop .i) (c .loop-test .left)))
 
 pub unclear-spec : {M : Type 1} → statement M
 unclear-spec =
@@ -64,8 +63,9 @@ unclear-spec =
     Inv-loop
     μ-loop
     loop-holds
-    entry-at-requires
-    contradicts-requires
+    effect-at-requires
+    add-opposes
+    opposes-requires
     returns
     add-i
     loop-less
