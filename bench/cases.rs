@@ -14,16 +14,11 @@ pub struct Group {
 
 /// An accepted call without a table.
 fn case(name: &'static str, size: &str, sheet: Vec<u8>, call: Call) -> Case {
-    Case { name, size: size.to_string(), sheet, table: tables::none(), call, answer: 0, info: None, large: false }
+    Case { name, size: size.to_string(), sheet, table: tables::none(), call, answer: 0, info: None }
 }
 
 fn on(table: Vec<u32>, case: Case) -> Case {
     Case { table, ..case }
-}
-
-/// A case in which pictures of 64 or more clauses are met.
-fn large(case: Case) -> Case {
-    Case { large: true, ..case }
 }
 
 fn kernels() -> Group {
@@ -32,12 +27,12 @@ fn kernels() -> Group {
         case("judge", "3711 bytes", sheets::longest(), Judge),
         case("oneof", "16 entries", sheets::oneof(), Start),
         case("ors", "128 entries", sheets::ors(), Start),
-        on(tables::eight(), case("steps", "8 entries", sheets::steps(), Step(0))),
-        large(on(tables::hundred(), case("picture", "100 entries", sheets::bare(32), Picture))),
-        large(on(tables::halves(), case("halves", "2 entries", sheets::bare(32), Picture))),
+        on(tables::eight(), case("effects", "8 entries", sheets::effects(), Step(0))),
+        on(tables::hundred(), case("picture", "100 entries", sheets::bare(32), Picture)),
+        on(tables::halves(), case("halves", "2 entries", sheets::bare(32), Picture)),
         case("ring", "64 moves", sheets::ring_run(8, 64), Run),
         case("ring4", "64 moves", sheets::ring_run(4, 64), Run),
-        large(case("pictures", "64 moves", sheets::big_pictures(), Run)),
+        case("pictures", "64 moves", sheets::big_pictures(), Run),
         case("search32", "limit 3", sheets::search32(), Search(3)),
         case("search8", "limit 6", sheets::search8(), Search(6)),
         case("found", "7 moves", sheets::ring_search(4), Search(8)),
@@ -54,7 +49,7 @@ fn worst() -> Group {
         on(tables::markers(1), case("dropped5", "5^7 pieces", sheets::five_to_the_seventh(), Step(0))),
         on(tables::markers(32), case("dropped32", "32*5^7 pieces", sheets::five_to_the_seventh(), Step(0))),
         case("candidates", "8*128*4^7", sheets::candidates(8), Start),
-        large(on(tables::alike(128), case("alike", "128 entries", sheets::bare(32), Picture))),
+        on(tables::alike(128), case("alike", "128 entries", sheets::bare(32), Picture)),
     ];
     Group { name: "worst", title: "the heaviest inputs", grows: false, cases }
 }
@@ -62,8 +57,7 @@ fn worst() -> Group {
 fn entries() -> Group {
     let counts = [1, 2, 4, 8, 16, 32, 64, 128];
     let step = counts.map(|k| on(tables::counted(k), case("step", &k.to_string(), sheets::ninefold(), Call::Step(0))));
-    let draw = |k: u32| on(tables::alike(k), case("draw", &k.to_string(), sheets::bare(32), Call::Picture));
-    let picture = counts.map(|k| Case { large: 4 <= k, ..draw(k) });
+    let picture = counts.map(|k| on(tables::alike(k), case("draw", &k.to_string(), sheets::bare(32), Call::Picture)));
     let cases = step.into_iter().chain(picture).collect();
     Group { name: "entries", title: "step and picture as the entries grow", grows: true, cases }
 }

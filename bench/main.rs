@@ -9,15 +9,16 @@ mod tables;
 mod text;
 
 use cases::{groups, Group};
-use measure::{measure, Case, Times};
+use measure::{measure, Case, Measured, Times};
 use sides::PADDINGS;
 use std::process::exit;
 use text::listed;
 
 /// A ratio of the library to the plain baseline above this is named at the end.
 const BAR: f64 = 1.15;
-/// So is one above this where pictures of 64 or more clauses are met.
+/// So is one above this where a picture of so many clauses is met.
 const GOAL: f64 = 0.80;
+const MANY: u64 = 64;
 
 /// What is counted over all groups.
 #[derive(Default)]
@@ -30,14 +31,14 @@ struct Sum {
 }
 
 impl Sum {
-    fn add(&mut self, case: &Case, ratio: f64) {
+    fn add(&mut self, case: &Case, ratio: f64, clauses: u64) {
         let named = || format!("{} ({:.2})", label(case), ratio);
         self.cases += 1;
         self.greatest = self.greatest.max(ratio);
         if ratio > BAR {
             self.above.push(named());
         }
-        if case.large {
+        if clauses >= MANY {
             self.large += 1;
             if ratio > GOAL {
                 self.missed.push(named());
@@ -50,7 +51,7 @@ impl Sum {
         println!("{} cases; {} ratios above {:.2}{}; the greatest is {:.2}", self.cases, self.above.len(), BAR, above, self.greatest);
         if self.large > 0 {
             let (missing, large) = (self.missed.len(), self.large);
-            println!("64 or more clauses (goal: at most {GOAL:.2}): {missing} of {large} ratios above {GOAL:.2}{missed}");
+            println!("{MANY} or more clauses (goal: at most {GOAL:.2}): {missing} of {large} ratios above {GOAL:.2}{missed}");
         }
     }
 }
@@ -82,7 +83,7 @@ fn show(group: &Group, cases: &[&Case], sum: &mut Sum) {
     row(["case", "size", "proved us", "spread", "plain us", "spread", "ratio", "blocks us", "ratio to blocks"], more);
     let mut before = None;
     for case in cases {
-        let times = measure(case).unwrap_or_else(|wrong| {
+        let Measured { times, clauses } = measure(case).unwrap_or_else(|wrong| {
             println!("bench: {}: {}", label(case), wrong);
             exit(1)
         });
@@ -93,7 +94,7 @@ fn show(group: &Group, cases: &[&Case], sum: &mut Sum) {
         let more = if group.grows { factors(before, case, times) } else { String::new() };
         row([case.name, &case.size, &us[0], &two[0], &us[1], &two[1], &two[2], &us[2], &two[3]], &more);
         before = Some((case.name, times));
-        sum.add(case, ratio);
+        sum.add(case, ratio, clauses);
     }
     println!();
 }

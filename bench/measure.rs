@@ -16,7 +16,7 @@ pub enum Call {
 }
 
 /// What a call is made on. `answer` is the answer that is meant and `info` the numbers, where they are known, so that a case cannot turn into
-/// another one unseen. `large`: pictures of 64 or more clauses are met.
+/// another one unseen.
 pub struct Case {
     pub name: &'static str,
     pub size: String,
@@ -25,7 +25,6 @@ pub struct Case {
     pub call: Call,
     pub answer: u8,
     pub info: Option<[u64; 4]>,
-    pub large: bool,
 }
 
 /// Everything that a call may be lent.
@@ -51,6 +50,15 @@ impl Lent {
     /// All that is promised. What a memory holds is not.
     fn same(&self, other: &Lent) -> bool {
         self.info == other.info && self.table == other.table && self.bytes == other.bytes && self.rows == other.rows
+    }
+
+    /// The clauses of the largest picture that the call met.
+    fn clauses(&self, case: &Case) -> u64 {
+        match case.call {
+            Call::Picture => self.info[1],
+            Call::Run => self.rows.chunks_exact(3).map(|row| row[2]).max().unwrap_or(0),
+            _ => 0,
+        }
     }
 }
 
@@ -95,6 +103,12 @@ pub struct Time {
 /// One time for each of `KINDS`.
 pub type Times = [Time; KINDS.len()];
 
+/// What a case gave: its times, and the clauses of the largest picture that was met.
+pub struct Measured {
+    pub times: Times,
+    pub clauses: u64,
+}
+
 /// What a side gave on fresh buffers is what is meant. Otherwise what is wrong.
 fn meant(case: &Case, answer: u8, lent: &Lent) -> Result<(), String> {
     if answer != case.answer {
@@ -109,8 +123,8 @@ fn meant(case: &Case, answer: u8, lent: &Lent) -> Result<(), String> {
 /// The seconds of a call on each side.
 type Seconds = [f64; COUNT];
 
-/// All sides once on fresh buffers: what is meant, and everything alike. Otherwise what is wrong.
-fn compare(case: &Case) -> Result<Seconds, String> {
+/// All sides once on fresh buffers: what is meant, and everything alike. Otherwise what is wrong. Gives the clauses of the largest picture too.
+fn compare(case: &Case) -> Result<(Seconds, u64), String> {
     let mut first: Option<Lent> = None;
     let mut taken = [0.0; COUNT];
     for (i, side) in sides().iter().enumerate() {
@@ -126,7 +140,7 @@ fn compare(case: &Case) -> Result<Seconds, String> {
             None => first = Some(lent),
         }
     }
-    Ok(taken)
+    Ok((taken, first.map_or(0, |lent| lent.clauses(case))))
 }
 
 /// A batch of calls takes about this, in seconds, unless a single call takes longer.
@@ -150,8 +164,8 @@ fn pace(case: &Case, lent: &mut Lent, longest: f64) -> (usize, u64) {
 }
 
 /// Compares, then times: batches of all sides in turn, another side first in each round; the least of each side counts.
-pub fn measure(case: &Case) -> Result<Times, String> {
-    let compared = compare(case)?;
+pub fn measure(case: &Case) -> Result<Measured, String> {
+    let (compared, clauses) = compare(case)?;
     let longest = compared.iter().copied().fold(0.0, f64::max);
     let mut lent = Lent::new(case);
     let (rounds, calls) = pace(case, &mut lent, longest);
@@ -162,7 +176,7 @@ pub fn measure(case: &Case) -> Result<Times, String> {
             least[i] = least[i].min(batch(sides()[i], case, &mut lent, calls) / calls as f64);
         }
     }
-    Ok(std::array::from_fn(|kind| time(&least, kind)))
+    Ok(Measured { times: std::array::from_fn(|kind| time(&least, kind)), clauses })
 }
 
 /// The time of one kind, from the least seconds of all sides.

@@ -129,7 +129,7 @@ pub fn candidates(clauses: usize) -> Vec<u8> {
 }
 
 /// Four conditional effects over 8 propositions.
-pub fn steps() -> Vec<u8> {
+pub fn effects() -> Vec<u8> {
     let effects = vec![
         effect(&[0, 7], &[10]),
         effect(&[2, 8], &[5]),

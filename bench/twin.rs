@@ -1,6 +1,8 @@
-//! The plain Rust twin of crate `unit`: its seven calls over the same slices, by the same algorithms on the same data layout, nothing proved.
+//! The plain Rust twin of crate `unit`: its seven calls over the same slices, by plain algorithms on the same data layout, nothing proved.
 //! What the proved code hands on by value goes by reference here, and bounds checks are as the compiler leaves them. A crate of its own.
-//! `--cfg blocks`: a candidate is compared with four entries at a time, as in the library. `--cfg counted`: the steps of tables are counted.
+//! `--cfg blocks`: what the library does to be quick is done here too: a candidate is compared with four entries at a time, a piece with the
+//! newest before the others, the choices of a oneof go over the literals that the piece lacks, and 25 is asked once for a pair of effects.
+//! `--cfg counted`: the steps of tables are counted.
 
 #[path = "twin/calls.rs"]
 mod calls;

@@ -165,6 +165,15 @@ impl<const N: usize> List<N> {
         self.push(l)
     }
 
+    /// Puts a piece. With blocks the newest set is tested before the others, as in the library: it most often lies in the next piece.
+    pub fn put_piece(&mut self, l: Literals) -> Result<(), Full> {
+        #[cfg(blocks)]
+        if self.count > 0 && within(self.view().get(self.count - 1), l) {
+            return Ok(());
+        }
+        self.put(l)
+    }
+
     /// Puts a candidate if it is consistent.
     pub fn admit(&mut self, l: Literals) -> Result<(), Full> {
         if consistent(l) {

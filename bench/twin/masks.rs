@@ -28,6 +28,12 @@ pub fn join(a: Literals, b: Literals) -> Literals {
     Literals { trues: a.trues | b.trues, falses: a.falses | b.falses }
 }
 
+/// The literals of a that are not in b.
+#[cfg(blocks)]
+pub fn lacking(a: Literals, b: Literals) -> Literals {
+    Literals { trues: a.trues & !b.trues, falses: a.falses & !b.falses }
+}
+
 pub fn flip(a: Literals) -> Literals {
     Literals { trues: a.falses, falses: a.trues }
 }

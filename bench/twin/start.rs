@@ -1,6 +1,8 @@
 //! The first table: the known literals, then a fresh table for each or-clause and for each oneof-clause.
 
 use super::lists::{Full, Table};
+#[cfg(blocks)]
+use super::masks::lacking;
 use super::masks::{consistent, flip, join, literal, next, Literals, NONE};
 use super::sheet::{Fault, Sheet};
 
@@ -13,6 +15,7 @@ fn widen_or(alts: &[Literals], entry: Literals, to: &mut Table) -> Result<(), Fu
 }
 
 /// Each of the alternatives is made false in every way; a branch that is inconsistent is cut.
+#[cfg(not(blocks))]
 fn choose(others: &[Literals], piece: Literals, to: &mut Table) -> Result<(), Full> {
     let Some((&a, rest)) = others.split_first() else {
         return to.put(piece);
@@ -24,6 +27,23 @@ fn choose(others: &[Literals], piece: Literals, to: &mut Table) -> Result<(), Fu
             choose(rest, chosen, to)?;
         }
         l = next(a, l + 1);
+    }
+    Ok(())
+}
+
+/// Each of the alternatives is made false in every way: by each of its literals that the piece lacks, the first taken away in each turn.
+#[cfg(blocks)]
+fn choose(others: &[Literals], piece: Literals, to: &mut Table) -> Result<(), Full> {
+    let Some((&a, rest)) = others.split_first() else {
+        return to.put_piece(piece);
+    };
+    let mut missing = lacking(a, piece);
+    let mut l = next(missing, 0);
+    while l < 64 {
+        let one = literal(l);
+        choose(rest, join(piece, flip(one)), to)?;
+        missing = lacking(missing, one);
+        l = next(missing, 0);
     }
     Ok(())
 }

@@ -6,19 +6,28 @@ use super::sheet::{Effect, Fault, Move};
 #[cfg(counted)]
 use std::sync::atomic::{AtomicU64, Ordering::Relaxed};
 
-/// The results of e and f clash, and d admits both conditions.
-fn opposed(e: &Effect, d: Literals, f: &Effect) -> bool {
-    clash(e.result, f.result) && consistent(join(d, join(e.condition, f.condition)))
+/// Two effects pass the test.
+fn some_pair(effects: &[Effect], test: impl Fn(&Effect, &Effect) -> bool) -> bool {
+    effects.iter().enumerate().any(|(i, e)| effects[i + 1..].iter().any(|f| test(e, f)))
 }
 
-/// Two effects are opposed in d (25).
-fn contradicts(effects: &[Effect], d: Literals) -> bool {
-    for (i, e) in effects.iter().enumerate() {
-        if effects[i + 1..].iter().any(|f| opposed(e, d, f)) {
-            return true;
-        }
-    }
-    false
+/// Both together are consistent.
+fn admits(d: Literals, c: Literals) -> bool {
+    consistent(join(d, c))
+}
+
+/// In some entry, two effects are opposed (25): their results clash, and the entry admits both conditions.
+#[cfg(not(blocks))]
+fn unclear(effects: &[Effect], from: View) -> bool {
+    from.iter().any(|d| some_pair(effects, |e, f| clash(e.result, f.result) && admits(d, join(e.condition, f.condition))))
+}
+
+/// The same, pair by pair: whether results clash is asked once. The scan of the entries has no way out before the last of them, so that the
+/// compiler tests several at once.
+#[cfg(blocks)]
+fn unclear(effects: &[Effect], from: View) -> bool {
+    let admitted = |c: Literals| from.iter().fold(false, |some, d| some | admits(d, c));
+    some_pair(effects, |e, f| clash(e.result, f.result) && admitted(join(e.condition, f.condition)))
 }
 
 /// The pieces of `piece` by the conditions from `at` on, depth first, the image of each put in its turn; `results` are those of the effects
@@ -32,7 +41,7 @@ fn branch(effects: &[Effect], at: usize, piece: Literals, results: Literals, to:
             return split(effects, i, piece, sum, to);
         }
     }
-    to.put(replace(piece, sum))
+    to.put_piece(replace(piece, sum))
 }
 
 /// The same where the condition at `at` splits the piece.
@@ -67,7 +76,7 @@ pub fn step(m: &Move, from: View, to: &mut Table) -> Result<(), Fault> {
         return Err(Fault(24, 0));
     }
     let effects = m.effects();
-    if from.iter().any(|e| contradicts(effects, e)) {
+    if unclear(effects, from) {
         return Err(Fault(25, 0));
     }
     for e in from.iter() {
