@@ -1,4 +1,4 @@
-//! Krepuskilo for Rust: the six calls of target/staticlib/libunit.a over slices. krepuskilo.h says what each takes, answers and writes. A
+//! Krepuskilo for Rust: the seven calls of target/staticlib/libunit.a over slices. krepuskilo.h says what each takes, answers and writes. A
 //! program takes this file as a module and is compiled with `-L target/staticlib`.
 
 #[link(name = "unit", kind = "static")]
@@ -58,7 +58,7 @@ pub fn search(sheet: &[u8], limit: u64, plan: &mut [u8], info: &mut [u64]) -> u8
     unsafe { krepuskilo_search(s, sheet.len(), limit, p, plan.len(), i, info.len()) }
 }
 
-/// The same with a memory, 258 numbers to a slot: what it holds does not matter, before or after.
+/// The same with a memory, 258 numbers to a slot. It is scratch: what it holds does not matter, and afterwards it holds anything.
 #[allow(dead_code)]
 pub fn search_with(sheet: &[u8], limit: u64, memory: &mut [u32], plan: &mut [u8], info: &mut [u64]) -> u8 {
     let (s, m, p, i) = (sheet.as_ptr(), memory.as_mut_ptr(), plan.as_mut_ptr(), info.as_mut_ptr());
