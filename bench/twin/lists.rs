@@ -39,6 +39,12 @@ impl<'a> View<'a> {
         (0..self.len()).rev().find(|&i| within(self.get(i), l))
     }
 
+    /// Some set lies in l. As below, for short lists.
+    #[cfg(blocks)]
+    pub fn some_within(self, l: Literals) -> bool {
+        self.iter().fold(false, |some, e| some | within(e, l))
+    }
+
     /// Some set contains l. There is no way out before the last of them, so that the compiler compares several at once.
     #[cfg(blocks)]
     fn some_above(self, l: Literals) -> bool {
@@ -86,6 +92,12 @@ impl<const N: usize> List<N> {
 
     pub fn len(&self) -> usize {
         self.count
+    }
+
+    /// How many sets more there is room for.
+    #[cfg(blocks)]
+    pub fn room(&self) -> usize {
+        N - self.count
     }
 
     pub fn view(&self) -> View<'_> {

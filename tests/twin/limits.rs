@@ -236,6 +236,12 @@ fn clauses(r: &mut Random) -> Vec<Case> {
         tables.push(vec![set_of([first.clone(), vec![yes(31)]].concat()), shared]);
         tables.push(vec![first, set_of([second, vec![yes(at)]].concat())]);
     }
+    // The last literal is in both. Joined with those of the second entry it makes so many clauses more before it takes their place: 01 says
+    // that the picture is full where they do not fit.
+    for (first, second) in [(15, 15), (15, 16), (16, 15), (14, 16), (14, 17), (13, 17), (13, 18)] {
+        let of = |places: std::ops::Range<usize>, r: &mut Random| -> Set { places.map(|p| literal(p, r.one_in(2))).chain([yes(31)]).collect() };
+        tables.push(vec![of(0..first, r), of(first..first + second, r)]);
+    }
     for sizes in [vec![16, 16], vec![8, 8, 4], vec![2; 8], vec![17, 15], vec![8, 8, 5], vec![6, 6, 7], vec![4, 4, 4, 4], vec![3, 5, 17]] {
         let mut next = 0;
         let mut table = Vec::new();

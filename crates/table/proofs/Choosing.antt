@@ -44,7 +44,7 @@ puts-later cs k ts fs r us gs r′ us′ gs′ p q e w = rw (p, q, e) w
 
 -- ---- a branch that is inconsistent
 
-stays-inconsistent : (d e : Literals) → consistent d ≡ false → consistent (join d e) ≡ false
+pub stays-inconsistent : (d e : Literals) → consistent d ≡ false → consistent (join d e) ≡ false
 stays-inconsistent d e h = consistent-join d e ∙ rw h
 
 keep-none : {A : Type 0} (f : Literals → Bool) (g : A → List Literals) → ((x : A) → keep f (g x) ≡ []) → (xs : List A) → keep f (collect g xs) ≡ []

@@ -26,6 +26,7 @@ pub mod Order
 pub mod PictureBytes
 pub mod Pictures
 pub mod Joining
+pub mod Absorbing
 pub mod Firsts
 pub mod Inserting
 pub mod Folding

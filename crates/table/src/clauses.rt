@@ -1,16 +1,19 @@
 // The clauses of a table in working order: those of the first entry, joined with those of each next entry.
 use crate::first::admit;
 use crate::slots::Grown;
+use crate::slots::some_within;
 use sheet::Literals;
 use sheet::masks::join;
 use sheet::masks::literal;
 use sheet::masks::next;
 ghost use mathlib.Core.Path.{_≡_};
+ghost use mathlib.Core.Bool.{true};
 ghost use mathlib.Core.List.{map};
 ghost use Prim.Native.Nat.{_≤_};
+ghost use lib.Dec.{T};
 ghost use lib.ListN.{length};
 ghost use Rattle.sheet.specs.Literals as L;
-ghost use Rattle.sheet.specs.Lists.{keep};
+ghost use Rattle.sheet.specs.Lists.{Any, keep};
 ghost use Rattle.table.specs.Picture as P;
 ghost use Rattle.table.specs.Slots.{entriesOf, Holds, Held, Puts};
 ghost use Rattle.table.specs.Counts.{clausesOf, sizeOf};
@@ -71,6 +74,38 @@ pub(crate) fn spread<'a, 'b>(
     Grown::To(count)
 }
 
+// Some of the first m clauses of us and vs lies in c, and there is room for m clauses more.
+pub(crate) fn absorbs<'a>(c: Literals, us: &'a [u32], vs: &'a [u32], m: usize, room: usize) -> bool
+    requires { ⌜ (m ≤ length (now us)) × (m ≤ length (now vs)) ⌝ }
+    ensures { λ r. ⌜ (r ≡ true → Any (λ u. T (L.within u c)) (entriesOf m (now (us .entry)) (now (vs .entry))) × (m ≤ room)) ⌝ }
+{
+    if room < m {
+        return false;
+    }
+    some_within(us, vs, m, c)
+}
+
+// The same as `spread`. Where one of these clauses lies in c, c is among what is joined and lies in all of it: it is put alone, if there is
+// room for all.
+pub(crate) fn distribute<'a, 'b>(
+    c: Literals,
+    us: &'a [u32],
+    vs: &'a [u32],
+    m: usize,
+    trues: &'b mut [u32],
+    falses: &'b mut [u32],
+    n: usize,
+) -> Grown
+    requires { ⌜ (m ≤ length (now us)) × (m ≤ length (now vs)) ⌝ }
+    requires { ⌜ Held (length (now trues)) n (now trues) (now falses) ⌝ }
+    ensures { λ r. ⌜ Puts (keep L.consistent (map (L.join c) (entriesOf m (now (us .entry)) (now (vs .entry))))) n (now (trues .entry)) (now (falses .entry)) r (now (trues .exit)) (now (falses .exit)) ⌝ }
+{
+    if absorbs(c, us, vs, m, trues.len() - n) {
+        return admit(trues, falses, n, c);
+    }
+    spread(c, us, vs, m, trues, falses, n)
+}
+
 // Puts the first n clauses of ts and fs, each joined with the first m of us and vs, into fresh slices.
 pub(crate) fn join_lists<'a, 'b, 'c>(
     ts: &'a [u32],
@@ -94,7 +129,7 @@ pub(crate) fn join_lists<'a, 'b, 'c>(
             trues: ts[i],
             falses: fs[i],
         };
-        let Grown::To(k) = spread(c, us, vs, m, trues, falses, count) else {
+        let Grown::To(k) = distribute(c, us, vs, m, trues, falses, count) else {
             return Grown::Full;
         };
         count = k;

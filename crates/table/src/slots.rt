@@ -93,6 +93,22 @@ pub(crate) fn last_within(trues: &[u32], falses: &[u32], n: usize, l: Literals) 
     last_singly(trues, falses, i, l)
 }
 
+// Some of the first n entries lies in l. Unlike `last_within` it has no way out before its end: it is for short lists.
+pub(crate) fn some_within(trues: &[u32], falses: &[u32], n: usize, l: Literals) -> bool
+    requires { ⌜ (n ≤ length (now trues)) × (n ≤ length (now falses)) ⌝ }
+    ensures { λ r. ⌜ r ≡ anyOf (λ e. L.within e l) (entriesOf n (now (trues .entry)) (now (falses .entry))) ⌝ }
+{
+    let mut found = false;
+    let mut i: usize = 0;
+    while i < n {
+        if within(entry_at(trues, falses, i), l) {
+            found = true;
+        }
+        i += 1;
+    }
+    found
+}
+
 // Some of the first n entries contains l. The scan has no way out before its end, so that the compiler can compare several at a time.
 pub(crate) fn some_above(trues: &[u32], falses: &[u32], n: usize, l: Literals) -> bool
     requires { ⌜ (n ≤ length (now trues)) × (n ≤ length (now falses)) ⌝ }

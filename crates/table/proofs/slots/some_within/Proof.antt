@@ -1,0 +1,68 @@
+-- `slots::some_within` meets its contract. The invariant: what was found, or the entries from i on decide. Assumes nothing.
+use mathlib.Core.Path.{_≡_, refl, sym, ap, _∙_}
+use mathlib.Core.Bool.{Bool, _||_}
+use mathlib.Core.Logic.{⊎-elim}
+use Prim.Native.Nat.{_+_, _-_, _≤_}
+use native.Mathlib.Omega.{arith}
+use lib.ListN.{drop}
+use borrow.Author.Needs.{needs}
+use Rattle.sheet.specs.Literals.{within}
+use Rattle.sheet.specs.Lists.{anyOf}
+use Rattle.table.specs.Slots.{entriesOf}
+use Rattle.table.proofs.Turns.{any-mark, any-keep, any-end, entries-next, entries-done}
+use Rattle.table.proofs.slots.some_within.Statement.{statement}
+use Rattle.table.proofs.slots.some_within.Tie as tie
+
+abbrev Inv-loop : tie.InvT-loop
+Inv-loop trues falses n l found₀ i₀ found i =
+    (i ≤ n) × (anyOf (λ e. within e l) (entriesOf n trues falses) ≡ (found || anyOf (λ e. within e l) (drop i (entriesOf n trues falses))))
+
+abbrev μ-loop : tie.MeasureT-loop
+μ-loop trues falses n l found₀ i₀ found i = n - i
+
+loop-holds : tie.Need-loop-holds Inv-loop μ-loop
+loop-holds c = (omega arith, refl)
+
+entry-at-requires : tie.Need-entry-at-requires Inv-loop μ-loop
+entry-at-requires c κs = (omega arith, omega arith)
+
+within-requires : tie.Need-within-requires Inv-loop μ-loop
+within-requires c κs = search needs
+
+add-i : tie.Need-add-i Inv-loop μ-loop
+add-i c = omega arith
+
+loop-less : tie.Need-loop-less Inv-loop μ-loop
+loop-less c = omega arith
+
+loop-again : tie.Need-loop-again Inv-loop μ-loop
+loop-again c =
+    let a = c .before .before .before .before .before .before .before .args in
+    let g = c .before .before .before .before .loop in
+    let q = entries-next (a .n) (a .trues .now) (a .falses .now) (g .i) _ (omega arith) (c .before .before .entry-at .ensures) in
+    let w = c .before .within .ensures in (
+      omega arith,
+      ⊎-elim
+          (λ v. g .inv .1 ∙ any-mark (λ e. within e (a .l)) _ _ _ _ q w (g .found) (v .0 .taken) ∙ sym (ap (λ (t : Bool). t || anyOf (λ e. within e (a .l)) (drop (g .i + 1) (entriesOf (a .n) (a .trues .now) (a .falses .now)))) (v .1)))
+          (λ v. g .inv .1 ∙ any-keep (λ e. within e (a .l)) _ _ _ _ q w (g .found) (v .0 .left) ∙ sym (ap (λ (t : Bool). t || anyOf (λ e. within e (a .l)) (drop (g .i + 1) (entriesOf (a .n) (a .trues .now) (a .falses .now)))) (v .1)))
+          (c .if1 .came),
+    )
+
+returns : tie.Need-returns Inv-loop μ-loop
+returns c =
+    let a = c .before .before .before .before .args in
+    sym (c .before .loop .inv .1 ∙ any-end (λ e. within e (a .l)) _ _ (entries-done (a .n) (a .trues .now) (a .falses .now) (c .before .loop .i) (omega arith)))
+
+pub some-within-spec : {M : Type 1} → statement M
+some-within-spec =
+    tie.close
+    (tie.spec
+    Inv-loop
+    μ-loop
+    loop-holds
+    entry-at-requires
+    within-requires
+    add-i
+    loop-less
+    loop-again
+    returns)
