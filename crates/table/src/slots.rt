@@ -98,15 +98,16 @@ pub(crate) fn some_within(trues: &[u32], falses: &[u32], n: usize, l: Literals) 
     requires { ⌜ (n ≤ length (now trues)) × (n ≤ length (now falses)) ⌝ }
     ensures { λ r. ⌜ r ≡ anyOf (λ e. L.within e l) (entriesOf n (now (trues .entry)) (now (falses .entry))) ⌝ }
 {
-    let mut found = false;
+    let mut some = false;
     let mut i: usize = 0;
     while i < n {
-        if within(entry_at(trues, falses, i), l) {
-            found = true;
+        let e = entry_at(trues, falses, i);
+        if within(e, l) {
+            some = true;
         }
         i += 1;
     }
-    found
+    some
 }
 
 // Some of the first n entries contains l. The scan has no way out before its end, so that the compiler can compare several at a time.

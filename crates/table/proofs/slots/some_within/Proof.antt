@@ -14,11 +14,11 @@ use Rattle.table.proofs.slots.some_within.Statement.{statement}
 use Rattle.table.proofs.slots.some_within.Tie as tie
 
 abbrev Inv-loop : tie.InvT-loop
-Inv-loop trues falses n l found₀ i₀ found i =
-    (i ≤ n) × (anyOf (λ e. within e l) (entriesOf n trues falses) ≡ (found || anyOf (λ e. within e l) (drop i (entriesOf n trues falses))))
+Inv-loop trues falses n l some₀ i₀ some i =
+    (i ≤ n) × (anyOf (λ e. within e l) (entriesOf n trues falses) ≡ (some || anyOf (λ e. within e l) (drop i (entriesOf n trues falses))))
 
 abbrev μ-loop : tie.MeasureT-loop
-μ-loop trues falses n l found₀ i₀ found i = n - i
+μ-loop trues falses n l some₀ i₀ some i = n - i
 
 loop-holds : tie.Need-loop-holds Inv-loop μ-loop
 loop-holds c = (omega arith, refl)
@@ -43,8 +43,8 @@ loop-again c =
     let w = c .before .within .ensures in (
       omega arith,
       ⊎-elim
-          (λ v. g .inv .1 ∙ any-mark (λ e. within e (a .l)) _ _ _ _ q w (g .found) (v .0 .taken) ∙ sym (ap (λ (t : Bool). t || anyOf (λ e. within e (a .l)) (drop (g .i + 1) (entriesOf (a .n) (a .trues .now) (a .falses .now)))) (v .1)))
-          (λ v. g .inv .1 ∙ any-keep (λ e. within e (a .l)) _ _ _ _ q w (g .found) (v .0 .left) ∙ sym (ap (λ (t : Bool). t || anyOf (λ e. within e (a .l)) (drop (g .i + 1) (entriesOf (a .n) (a .trues .now) (a .falses .now)))) (v .1)))
+          (λ v. g .inv .1 ∙ any-mark (λ e. within e (a .l)) _ _ _ _ q w (g .some) (v .0 .taken) ∙ sym (ap (λ (t : Bool). t || anyOf (λ e. within e (a .l)) (drop (g .i + 1) (entriesOf (a .n) (a .trues .now) (a .falses .now)))) (v .1)))
+          (λ v. g .inv .1 ∙ any-keep (λ e. within e (a .l)) _ _ _ _ q w (g .some) (v .0 .left) ∙ sym (ap (λ (t : Bool). t || anyOf (λ e. within e (a .l)) (drop (g .i + 1) (entriesOf (a .n) (a .trues .now) (a .falses .now)))) (v .1)))
           (c .if1 .came),
     )
 
