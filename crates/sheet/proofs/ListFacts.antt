@@ -1,7 +1,7 @@
 -- Statements over the members of a list.
 -- Assumes nothing.
-use mathlib.Core.Path.{_≡_, refl, ap}
-use mathlib.Core.Bool.{Bool, true, false, not}
+use mathlib.Core.Path.{_≡_, refl, ap, _∙_}
+use mathlib.Core.Bool.{Bool, true, false, not, _||_}
 use mathlib.Core.List.{List, [], _∷_, _++_, map}
 use mathlib.Core.Logic.{_⊎_, inl, inr}
 use Prim.Native.Nat.{ℕ, zero, suc, _<_}
@@ -10,7 +10,7 @@ use native.Mathlib.Omega.{arith}
 use lib.Dec.{T}
 use lib.ListN.{length, getD, take, drop}
 use Rattle.sheet.specs.Lists.{Any, All, anyOf, allOf, addIf, keep, collect}
-use Rattle.sheet.proofs.Bools.{true-T, false-T, and-l, and-r, and-in, and-not, or-out, or-not-l, or-not-r}
+use Rattle.sheet.proofs.Bools.{T-false, true-T, false-T, and-l, and-r, and-in, and-not, or-l, or-r, or-out, or-not-l, or-not-r}
 
 module _ {A : Type 0} where
   pub any-map : (P Q : A → Type 0) → ((x : A) → P x → Q x) → (xs : List A) → Any P xs → Any Q xs
@@ -87,9 +87,18 @@ module _ {A : Type 0} where
       go (inl l) k = inl l
       go (inr r) k = inr (k r)
 
+  pub any-tested : (f : A → Bool) (P : A → Type 0) → ((x : A) → P x → T (f x)) → (xs : List A) → Any P xs → T (anyOf f xs)
+  any-tested f P g [] h = h
+  any-tested f P g (x ∷ xs) (inl h) = or-l (f x) (anyOf f xs) (g x h)
+  any-tested f P g (x ∷ xs) (inr h) = or-r (f x) (anyOf f xs) (any-tested f P g xs h)
+
   pub any-none : (f : A → Bool) (xs : List A) → T (not (anyOf f xs)) → All (λ x. T (not (f x))) xs
   any-none f [] t = tt
   any-none f (x ∷ xs) t = (or-not-l (f x) (anyOf f xs) t, any-none f xs (or-not-r (f x) (anyOf f xs) t))
+
+  pub none-any : (f : A → Bool) (xs : List A) → All (λ x. T (not (f x))) xs → anyOf f xs ≡ false
+  none-any f [] h = refl
+  none-any f (x ∷ xs) h = ap (λ (b : Bool). b || anyOf f xs) (T-false (f x) (h .0)) ∙ none-any f xs (h .1)
 
   pub all-test : (f : A → Bool) (xs : List A) → T (allOf f xs) → All (λ x. T (f x)) xs
   all-test f [] t = tt

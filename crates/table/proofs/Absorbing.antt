@@ -1,6 +1,6 @@
 -- Candidates that all contain one of them: it alone is what they leave, where there is room for all. Assumes nothing.
 use mathlib.Core.Path.{_≡_, refl, sym, ap, _∙_, subst}
-use mathlib.Core.Bool.{Bool, true, false, not, _||_}
+use mathlib.Core.Bool.{Bool, true, false, not}
 use mathlib.Core.List.{List, [], _∷_, _++_, map, append-nil}
 use mathlib.Core.Logic.{_⊎_, inl, inr}
 use mathlib.Core.Option.{Option, none, some, Option·none-ne-some}
@@ -12,8 +12,8 @@ use borrow.Author.Tests.{ne-eqb}
 use Rattle.sheet.specs.declared.Literals.{Literals}
 use Rattle.sheet.specs.Literals.{within, consistent, join}
 use Rattle.sheet.specs.Lists.{Any, All, anyOf, addIf, keep}
-use Rattle.sheet.proofs.Bools.{test, both, T-true, T-false, true-T, not-in, or-l, or-r}
-use Rattle.sheet.proofs.ListFacts.{all-map, all-by, any-map, any-append-r, all-append, all-imaged, any-imaged, any-test, any-none, all-keep}
+use Rattle.sheet.proofs.Bools.{test, both, T-true, true-T, not-in}
+use Rattle.sheet.proofs.ListFacts.{all-map, all-by, any-map, any-append-r, all-append, all-imaged, any-imaged, any-test, any-tested, any-none, none-any, all-keep}
 use Rattle.sheet.proofs.LiteralSets as sets
 use Rattle.sheet.proofs.Members.{any-passed, within-refl, within-trans, within-join-l}
 use Rattle.table.specs.declared.slots.Grown.{Grown}
@@ -27,17 +27,6 @@ use Rattle.table.proofs.PutLaws.{others, Placed, put-cases}
 use Rattle.table.proofs.ClausePut.{within-equal}
 use Rattle.table.proofs.Choosing.{left-out, stays-inconsistent}
 
--- ---- tests over the members of a list
-module _ {A : Type 0} (f : A → Bool) where
-  any-passes : (xs : List A) → Any (λ x. T (f x)) xs → T (anyOf f xs)
-  any-passes [] h = h
-  any-passes (x ∷ xs) (inl t) = or-l (f x) (anyOf f xs) t
-  any-passes (x ∷ xs) (inr r) = or-r (f x) (anyOf f xs) (any-passes xs r)
-
-  none-passes : (xs : List A) → All (λ x. T (not (f x))) xs → anyOf f xs ≡ false
-  none-passes [] h = refl
-  none-passes (x ∷ xs) h = ap (λ (b : Bool). b || anyOf f xs) (T-false (f x) (h .0)) ∙ none-passes xs (h .1)
-
 -- ---- c, and candidates that contain it
 module _ (cap : ℕ) (c : Literals) where
   -- some member lies in c
@@ -50,7 +39,7 @@ module _ (cap : ℕ) (c : Literals) where
   all-dropped (d ∷ ds) t h k =
       ap (λ (o : Option (List Literals)). andThen o (λ u. putAll cap ds u))
       (put-dropped cap t d (T-true (anyOf (λ e. within e d) t)
-      (any-passes (λ e. within e d) t (any-map (λ e. T (within e c)) (λ e. T (within e d)) (λ e i. within-trans e c d i (h .0)) t (any-test (λ e. within e c) t k)))))
+      (any-tested (λ e. within e d) (λ e. T (within e c)) (λ e i. within-trans e c d i (h .0)) t (any-test (λ e. within e c) t k))))
       ∙ all-dropped ds t (h .1) k
 
   -- so it is once c was put
@@ -61,7 +50,7 @@ module _ (cap : ℕ) (c : Literals) where
       go (inl l) = subst Covered (l .1) (l .0)
       go (inr r) =
           subst Covered (r .1 .0)
-          (any-passes (λ e. within e c) (others c t ++ (c ∷ [])) (any-append-r (λ e. T (within e c)) (others c t) (c ∷ []) (inl (within-refl c))))
+          (any-tested (λ e. within e c) (λ e. T (within e c)) (λ e i. i) (others c t ++ (c ∷ [])) (any-append-r (λ e. T (within e c)) (others c t) (c ∷ []) (inl (within-refl c))))
 
   -- what d removes, c removes
   others-twice : (d : Literals) → T (within c d) → (t : List Literals) → others c (others d t) ≡ others c t
@@ -96,9 +85,9 @@ module _ (cap : ℕ) (c : Literals) where
           at (inr q) =
               let apart : All (λ e. T (not (within e c))) t =
               all-map (λ e. T (not (within e d))) (λ e. T (not (within e c))) (λ e i. not-in (within e c) (λ j. both (within e d) (within-trans e c d j k) i)) t (any-none (λ e. within e d) t (r .0)) in
-              let old : anyOf (λ e. within e c) t ≡ false = none-passes (λ e. within e c) t apart in
+              let old : anyOf (λ e. within e c) t ≡ false = none-any (λ e. within e c) t apart in
               let new : anyOf (λ e. within e c) (others d t ++ (d ∷ [])) ≡ false =
-              none-passes (λ e. within e c) (others d t ++ (d ∷ []))
+              none-any (λ e. within e c) (others d t ++ (d ∷ []))
               (all-append (λ e. T (not (within e c))) (others d t) (d ∷ [])
               (all-map (λ e. T (not (within e c)) × T (not (within d e))) (λ e. T (not (within e c))) (λ e i. i .0) (others d t) (all-keep (λ e. not (within d e)) (λ e. T (not (within e c))) t apart))
               (q, tt)) in

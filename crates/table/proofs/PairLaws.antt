@@ -8,10 +8,10 @@ use lib.Dec.{T}
 use Rattle.sheet.specs.declared.Literals.{Literals}
 use Rattle.sheet.specs.declared.Effect.{Effect}
 use Rattle.sheet.specs.Literals.{noLiteral, within, join, clash, consistent, state, Proper}
-use Rattle.sheet.specs.Lists.{Any, All, anyOf, allOf}
+use Rattle.sheet.specs.Lists.{All, anyOf, allOf}
 use Rattle.sheet.specs.Encoding.{ProperEffect}
 use Rattle.sheet.proofs.Bools.{test, both, T-true, T-false, true-T, false-T, T-ext, and-l, and-r, and-in, or-l, or-r, or-out, not-in}
-use Rattle.sheet.proofs.ListFacts.{all-map, any-with, all-with, any-out, any-choose, any-test, all-test, all-fails}
+use Rattle.sheet.proofs.ListFacts.{all-map, any-with, all-with, any-out, any-choose, any-test, all-test, all-fails, any-tested}
 use Rattle.sheet.proofs.LiteralSets.{of-apart, clash-sym, clash-join, of-consistent, consistent-join, consistent-within, below-join, proper-of, proper-below}
 use Rattle.sheet.proofs.Ascending.{mem-none}
 use Rattle.sheet.proofs.Members.{within-trans, within-join-l, within-join-r, join-within, some-world}
@@ -39,11 +39,6 @@ clash-results r (f ∷ es) q = go (within (f .condition) q) (clash-results r es 
         clash-sym r (join (f .result) (results es q)) ∙ clash-join (f .result) (results es q) r
         ∙ ap₂ _||_ (clash-sym (f .result) r) (clash-sym (results es q) r ∙ k)
     go false k = k
-
-any-tested : {A : Type 0} (f : A → Bool) (P : A → Type 0) → ((x : A) → P x → T (f x)) → (xs : List A) → Any P xs → T (anyOf f xs)
-any-tested f P g [] h = h
-any-tested f P g (x ∷ xs) (inl h) = or-l (f x) (anyOf f xs) (g x h)
-any-tested f P g (x ∷ xs) (inr h) = or-r (f x) (anyOf f xs) (any-tested f P g xs h)
 
 -- the results of one effect and of the rest contradict if the rest does or if they clash
 joined-apart : (a b : Literals) → T (consistent a) → T (not (consistent (join a b))) → T (not (consistent b)) ⊎ T (clash a b)
