@@ -6,7 +6,7 @@ use Prim.Native.Nat.{ℕ, _+_, _≤_, _<_}
 use native.Mathlib.Omega.{arith}
 use lib.ListN.{length, replicate}
 use Rattle.sheet.specs.declared.Literals.{Literals}
-use Rattle.sheet.specs.Rows.{setsRow}
+use Rattle.sheet.specs.Packed.{setsIn}
 use Rattle.table.specs.declared.Table.{Table}
 use Rattle.table.specs.Minimal.{Outcome, refused, table, Described}
 use Rattle.table.specs.Step.{stepTable}
@@ -14,14 +14,14 @@ use Rattle.table.specs.Slots.{entriesOf, entries, tableOf}
 use Rattle.table.specs.Calls.{orGiven}
 use Rattle.table.proofs.Demands.{step-table}
 use Rattle.table.proofs.Pads.{length-pad}
-use Rattle.plan.specs.declared.Searched.{Searched}
+use Rattle.plan.specs.declared.SearchAnswer.{SearchAnswer}
 use Rattle.table.specs.declared.steps.Stepped.{Stepped}
 use Rattle.table.specs.declared.steps.Stepped.the-variants as moved
 use Rattle.table.specs.Moves.{Fits, lent, tabled}
 use Rattle.plan.specs.Search.{fullAt, nothing}
 use Rattle.plan.specs.Calls.{answered}
-use Rattle.sheet.specs.Rows.{actionOf}
-use Rattle.plan.specs.Walks.{answeredAt, endedBy, Searchable, Unmet, walked, begun}
+use Rattle.sheet.specs.Packed.{actionOf}
+use Rattle.plan.specs.Walks.{answeredAt, isEnd, Searchable, Unmet, plansTried, moveTried}
 use Rattle.plan.specs.Course.{Ready}
 use Rattle.table.proofs.CallTables.{entries-table}
 use Rattle.plan.proofs.Courses.{stepped, stopped, ready-table, ready-count}
@@ -89,26 +89,26 @@ module _ {moves : List ℕ} {k : ℕ} {goal : List ℕ} {n : ℕ} {ts fs : List 
       module _ (at left : ℕ) where
         module _ (q : Unmet moves k goal t at (left + 1)) where
           pub unmet-after : Unmet moves k goal u (at + 1) left
-          unmet-after = quiet-after (setsRow goal) (actionOf moves) k at (entries t) m left (entries u) came q lt
+          unmet-after = quiet-after (setsIn goal) (actionOf moves) k at (entries t) m left (entries u) came q lt
 
-          pub begun-same : entriesOf j us gs ≡ entriesOf n ts fs → {a : Searched} → a ≡ answered nothing → a ≡ begun moves k goal t at left m
+          pub begun-same : entriesOf j us gs ≡ entriesOf n ts fs → {a : SearchAnswer} → a ≡ answered nothing → a ≡ moveTried moves k goal t at left m
           unfolding answeredAt entries
-          begun-same z {a} w = w ∙ sym (ap (answeredAt at) (unchanged (setsRow goal) (actionOf moves) k at (entries t) m left (entries u) came q z))
+          begun-same z {a} w = w ∙ sym (ap (answeredAt at) (unchanged (setsIn goal) (actionOf moves) k at (entries t) m left (entries u) came q z))
 
-        module _ {a : Searched} (w : a ≡ walked moves k goal u (at + 1) left) where
-          pub begun-ended : endedBy (a .kind) ≡ true → written a at m ≡ begun moves k goal t at left m
-          begun-ended b = onward-ended (setsRow goal) (actionOf moves) k at (entries t) left m (entries u) a came w b
+        module _ {a : SearchAnswer} (w : a ≡ plansTried moves k goal u (at + 1) left) where
+          pub begun-ended : isEnd (a .kind) ≡ true → written a at m ≡ moveTried moves k goal t at left m
+          begun-ended b = onward-ended (setsIn goal) (actionOf moves) k at (entries t) left m (entries u) a came w b
 
-          pub begun-not : endedBy (a .kind) ≡ false → a ≡ begun moves k goal t at left m
-          begun-not b = onward-not (setsRow goal) (actionOf moves) k at (entries t) left m (entries u) a came w b
+          pub begun-not : isEnd (a .kind) ≡ false → a ≡ moveTried moves k goal t at left m
+          begun-not b = onward-not (setsIn goal) (actionOf moves) k at (entries t) left m (entries u) a came w b
 
     -- ---- the step was refused
     module _ {code : ℕ} (e : r ≡ moved.Refused code) (at left : ℕ) where
       pub refused-by : outcome ≡ refused code
       refused-by = stopped t outcome (tabled t (moved.Refused code) us gs) code 0 (step-is (moved.Refused code) e) refl
 
-      pub begun-full : code ≡ 21 → {a : Searched} → a ≡ answeredAt at (fullAt (m ∷ replicate left 0) (at + 1)) → a ≡ begun moves k goal t at left m
-      begun-full z {a} w = at-full (setsRow goal) (actionOf moves) k at (entries t) left m a (h .least) (refused-by ∙ ap refused z) w
+      pub begun-full : code ≡ 21 → {a : SearchAnswer} → a ≡ answeredAt at (fullAt (m ∷ replicate left 0) (at + 1)) → a ≡ moveTried moves k goal t at left m
+      begun-full z {a} w = at-full (setsIn goal) (actionOf moves) k at (entries t) left m a (h .least) (refused-by ∙ ap refused z) w
 
-      pub begun-stopped : (code ≡ 21 → ⊥) → {a : Searched} → a ≡ answered nothing → a ≡ begun moves k goal t at left m
-      begun-stopped z {a} w = at-stop (setsRow goal) (actionOf moves) k at (entries t) left m code a refused-by z w
+      pub begun-stopped : (code ≡ 21 → ⊥) → {a : SearchAnswer} → a ≡ answered nothing → a ≡ moveTried moves k goal t at left m
+      begun-stopped z {a} w = at-stop (setsIn goal) (actionOf moves) k at (entries t) left m code a refused-by z w

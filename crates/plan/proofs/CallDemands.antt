@@ -12,7 +12,7 @@ use Rattle.sheet.specs.Calls.{judgeOf}
 use Rattle.sheet.specs.Faults.{Says}
 use Rattle.sheet.proofs.Demands.{judge-refuses}
 use Rattle.table.specs.declared.Table.{Table}
-use Rattle.table.specs.declared.Tabled.{Tabled}
+use Rattle.table.specs.declared.TableAnswer.{TableAnswer}
 use Rattle.table.specs.Minimal.{Described, Outcome}
 use Rattle.table.specs.Start.{startTable}
 use Rattle.table.specs.Calls.{startOf}
@@ -20,8 +20,8 @@ use Rattle.table.specs.PictureCalls.{refusal, pictureOf}
 use Rattle.table.specs.CallWords.{AsDescribed, ZeroAfter}
 use Rattle.table.proofs.Demands as tables
 use Rattle.table.proofs.CallTables.{entries-table, zero-after}
-use Rattle.plan.specs.declared.Ran.{Ran}
-use Rattle.plan.specs.declared.Searched.{Searched}
+use Rattle.plan.specs.declared.RunAnswer.{RunAnswer}
+use Rattle.plan.specs.declared.SearchAnswer.{SearchAnswer}
 use Rattle.plan.specs.declared.Verdict.the-variants as ran
 use Rattle.plan.specs.declared.Kind.the-variants as kind
 use Rattle.plan.specs.Run.{actionsOf, lastTable}
@@ -42,18 +42,18 @@ unfolding refusedRun refusedSearch
 fault-first s k p j =
     let e = judge-refuses s k p .0 j in
     record {
-      start = ap (λ (r : Tabled). r .answer) (tables.start-fault s k p e);
-      step = λ t m. ap (λ (r : Tabled). r .answer) (tables.step-fault s t m k p e);
+      start = ap (λ (r : TableAnswer). r .answer) (tables.start-fault s k p e);
+      step = λ t m. ap (λ (r : TableAnswer). r .answer) (tables.step-fault s t m k p e);
       picture = λ t len. picture-fault s t len k p e;
-      run = λ rows. ap (λ (r : Ran). r .verdict) (run-fault s rows k p e);
-      search = λ limit. ap (λ (r : Searched). r .kind) (search-fault s limit k p e);
+      run = λ rows. ap (λ (r : RunAnswer). r .verdict) (run-fault s rows k p e);
+      search = λ limit. ap (λ (r : SearchAnswer). r .kind) (search-fault s limit k p e);
     }
 
 -- ---- run and search: their numbers
 module _ (s : List ℕ) (x : Statement) (says : Says s x) where
   pub run-few : (rows : ℕ) → (runOf (sheetOf s) rows .verdict ≡ ran.Refused 23 0) ↔ (rows < 65)
   unfolding refusedRun
-  run-few rows = (run-23-only s x says rows 0, λ h. ap (λ (r : Ran). r .verdict) (run-23 s x says rows h))
+  run-few rows = (run-23-only s x says rows 0, λ h. ap (λ (r : RunAnswer). r .verdict) (run-23 s x says rows h))
 
   pub run-start : (rows : ℕ) → 65 ≤ rows → (k q : ℕ) → (runOf (sheetOf s) rows .verdict ≡ ran.Refused k q) ↔ (startOf (sheetOf s) .answer ≡ Refused k q)
   run-start rows h k q =
@@ -63,7 +63,7 @@ module _ (s : List ℕ) (x : Statement) (says : Says s x) where
 
   pub search-above : (limit : ℕ) → (searchOf (sheetOf s) limit .kind ≡ kind.Refused 8 0) ↔ (8 < limit)
   unfolding refusedSearch
-  search-above limit = (search-8-only s x says limit 0, λ h. ap (λ (r : Searched). r .kind) (search-8 s x says limit h))
+  search-above limit = (search-8-only s x says limit 0, λ h. ap (λ (r : SearchAnswer). r .kind) (search-8 s x says limit h))
 
   pub search-start : (limit : ℕ) → limit ≤ 8 → (k q : ℕ) → (searchOf (sheetOf s) limit .kind ≡ kind.Refused k q) ↔ (startOf (sheetOf s) .answer ≡ Refused k q)
   search-start limit h k q =
@@ -73,7 +73,7 @@ module _ (s : List ℕ) (x : Statement) (says : Says s x) where
 
   -- what a run returns
   pub run-table : (rows : ℕ) → runRefused (runOf (sheetOf s) rows) ≡ false → AsDescribed x (runOf (sheetOf s) rows .table) × ZeroAfter (runOf (sheetOf s) rows .table)
-  run-table rows f = rw (ap (λ (r : Ran). r .table) (run-call s x says rows enough t starts)) (rw (entries-table last (d .most)) d, zero-after last (d .most))
+  run-table rows f = rw (ap (λ (r : RunAnswer). r .table) (run-call s x says rows enough t starts)) (rw (entries-table last (d .most)) d, zero-after last (d .most))
     where
       enough : 65 ≤ rows
       enough = rows-enough s x says rows f

@@ -18,7 +18,7 @@ use Rattle.table.specs.Slots.{entries, tableOf}
 use Rattle.table.proofs.Demands.{start-20, start-kind}
 use Rattle.table.proofs.CallTables.{entries-table}
 use Rattle.table.proofs.ClausePut.{then-some}
-use Rattle.plan.specs.declared.Ran.{Ran}
+use Rattle.plan.specs.declared.RunAnswer.{RunAnswer}
 use Rattle.plan.specs.declared.Verdict as case
 use Rattle.plan.specs.Run.{actionsOf, Verdict, reached, short, stopped, full, runFrom, lastTable, rowsFrom}
 use Rattle.plan.specs.Calls.{verdictOf, refusedRun, planned, runOf, plannedRows, rowsOf}
@@ -28,7 +28,7 @@ use Rattle.plan.proofs.Exactly.{Exact, same-bytes, same-class}
 use Rattle.plan.proofs.TableRuns.{last-arrives, table-exact}
 
 -- an answer of the call as an exact run
-pub record Called (p : Problem) (plan : List Action) (r : Ran) : Type 0 where
+pub record Called (p : Problem) (plan : List Action) (r : RunAnswer) : Type 0 where
   pub answer : Verdict
   pub clauses : Option (List Literals)
   pub exact : Exact p plan answer clauses
@@ -48,14 +48,14 @@ unfolding fullVerdict verdictOf
 not-full v f k e = true≢false (sym (ap (λ (u : Verdict). fullVerdict (verdictOf u)) e) ∙ f)
 
 -- the bytes are those of the clauses
-pub final-bytes : (r : Ran) (b : List ℕ) → finalPicture r ≡ some b → (s : List Literals) × (finalClauses r ≡ some s) × (pictureBytes s ≡ b)
+pub final-bytes : (r : RunAnswer) (b : List ℕ) → finalPicture r ≡ some b → (s : List Literals) × (finalClauses r ≡ some s) × (pictureBytes s ≡ b)
 unfolding finalPicture
 final-bytes r b e =
     let k = then-some (finalClauses r) (λ s. some (pictureBytes s)) b e in
     (k .0, k .1, cc (k .2))
 
 -- ---- two answers on one problem
-module _ (p : Problem) (hn : p .n ≤ 32) (plan other : List Action) (r₁ r₂ : Ran) (k₁ : Called p plan r₁) (k₂ : Called p other r₂) where
+module _ (p : Problem) (hn : p .n ≤ 32) (plan other : List Action) (r₁ r₂ : RunAnswer) (k₁ : Called p plan r₁) (k₂ : Called p other r₂) where
   -- the worlds that the starting worlds come to by the moves taken
   abbrev One : ℕ → Type 0
   One = Comes (p .n) (Starting p) (takenBy (r₁ .verdict) plan)
@@ -132,20 +132,20 @@ module _ (s : List ℕ) (x : Statement) (says : sheetOf s ≡ accepted x) (rows 
     last-described = let h = statement-proper s x says in last-arrives p (h .problem) t starts (x .plan) (h .plan .each) .described
 
     pub last-entries : entries (runOf (sheetOf s) rows .table) ≡ last
-    last-entries = ap (λ (r : Ran). entries (r .table)) run-call ∙ entries-table last (last-described .most)
+    last-entries = ap (λ (r : RunAnswer). entries (r .table)) run-call ∙ entries-table last (last-described .most)
 
     pub last-clauses : finalClauses (runOf (sheetOf s) rows) ≡ picture last
     unfolding finalClauses runRefused
     last-clauses =
         ap₂ (λ (b : Bool) (es : List Literals). cond b none (picture es))
-        (ap (λ (r : Ran). refusedVerdict (r .verdict)) run-call ∙ never-refused (runFrom 128 (p .goal) 0 (actionsOf p (x .plan)) t)) last-entries
+        (ap (λ (r : RunAnswer). refusedVerdict (r .verdict)) run-call ∙ never-refused (runFrom 128 (p .goal) 0 (actionsOf p (x .plan)) t)) last-entries
 
     called-table : Called p (actionsOf p (x .plan)) (runOf (sheetOf s) rows)
     called-table = let h = statement-proper s x says in record {
       answer = runFrom 128 (p .goal) 0 (actionsOf p (x .plan)) t;
       clauses = picture last;
       exact = table-exact p (h .problem) t starts (x .plan) (h .plan .each);
-      verdict-is = ap (λ (r : Ran). r .verdict) run-call;
+      verdict-is = ap (λ (r : RunAnswer). r .verdict) run-call;
       clauses-are = last-clauses;
     }
 

@@ -18,7 +18,7 @@ use Rattle.sheet.proofs.Bits.{Sub, has-or, disjoint-of, of-disjoint}
 use Rattle.sheet.proofs.LiteralSets.{Within, mem-join, or-cases, or-left, or-right, join-comm, clash-sym, apart-of, of-apart}
 use Rattle.sheet.proofs.Ascending.{mem-none}
 use Rattle.sheet.proofs.Results.{has-names, named, within-other, replace-join}
-use Rattle.table.specs.Worlds.{addResult, results, takes, after, when, stepWorld, andThen}
+use Rattle.table.specs.Worlds.{addResult, results, takes, worldAfter, when, stepWorld, andThen}
 use Rattle.table.proofs.Stepping.{after-world}
 use Rattle.plan.specs.Exchange as spec
 use Rattle.plan.specs.Exchange.{resultsBy, changedBy, readBy, changed, reads, touch, touchAnywhere}
@@ -95,14 +95,14 @@ module _ (n : ℕ) (a b : Action) (ha : ProperAction n a) (f : Unseen a b) (w : 
   abbrev st : Literals
   st = state n w
 
-  then-takes : T (takes n a w) → takes n b (after n a w) ≡ takes n b w
+  then-takes : T (takes n a w) → takes n b (worldAfter n a w) ≡ takes n b w
   unfolding takes
   then-takes t =
       ap (λ (y : Literals). within (b .precondition) y && consistent (results (b .effects) y)) (sym (after-world n a ha w l t .1))
       ∙ ap₂ (λ (c : Bool) (r : Literals). c && consistent r) (unseen-precondition a b f st) (unseen-results a b f st)
 
-  then-after : T (takes n a w) → after n b (after n a w) ≡ (replace (replace st (results (a .effects) st)) (results (b .effects) st)) .trues
-  unfolding after
+  then-after : T (takes n a w) → worldAfter n b (worldAfter n a w) ≡ (replace (replace st (results (a .effects) st)) (results (b .effects) st)) .trues
+  unfolding worldAfter
   then-after t =
       ap (λ (y : Literals). (replace y (results (b .effects) y)) .trues) (sym (after-world n a ha w l t .1))
       ∙ ap (λ (r : Literals). (replace (replace st (results (a .effects) st)) r) .trues) (unseen-results a b f st)
@@ -114,7 +114,7 @@ module _ (n : ℕ) (a b : Action) (ha : ProperAction n a) (f : Unseen a b) (w : 
   in-turn = go (takes n a w) refl
     where
       go : (t : Bool) → takes n a w ≡ t
-          → andThen (when t (after n a w)) (stepWorld n b) ≡ when (t && takes n b w) ((replace (replace st (results (a .effects) st)) (results (b .effects) st)) .trues)
+          → andThen (when t (worldAfter n a w)) (stepWorld n b) ≡ when (t && takes n b w) ((replace (replace st (results (a .effects) st)) (results (b .effects) st)) .trues)
       go false e = refl
       go true e = ap₂ when (then-takes (true-T (takes n a w) e)) (then-after (true-T (takes n a w) e))
 

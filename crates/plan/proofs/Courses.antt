@@ -16,7 +16,7 @@ use Rattle.sheet.specs.Encoding.{ProperProblem}
 use Rattle.sheet.proofs.Reading.{pad-set}
 use Rattle.sheet.proofs.SlotLaws.{not-both}
 use Rattle.table.specs.declared.Table.{Table}
-use Rattle.table.specs.declared.Tabled.{Tabled}
+use Rattle.table.specs.declared.TableAnswer.{TableAnswer}
 use Rattle.table.specs.Minimal.{Described, described, Outcome, refused, table}
 use Rattle.table.specs.Start.{startTable}
 use Rattle.table.specs.Step.{stepTable}
@@ -28,7 +28,7 @@ use Rattle.plan.specs.declared.Row.{Row}
 use Rattle.plan.specs.declared.Counts.{Counts}
 use Rattle.plan.specs.declared.Course.{Course}
 use Rattle.plan.specs.declared.Verdict as case
-use Rattle.plan.specs.Run.{actionsOf, endedBy, onward, runFrom, tableOr, lastTable, rowOf, rowsOr, rowsFrom}
+use Rattle.plan.specs.Run.{actionsOf, haltedBy, onward, runFrom, tableOr, lastTable, rowOf, rowsOr, rowsFrom}
 use Rattle.plan.specs.Calls.{verdictOf, refusedRun, planned, runOf, plannedRows, rowsOf}
 use Rattle.plan.specs.Course.{countsOf, courseOf, noted, refusedCourse, courseFrom, plannedCourse, Ready}
 use Rattle.table.proofs.CallTables.{entries-table}
@@ -64,7 +64,7 @@ module _ (goal : List Literals) (rows : List Row) (place : ℕ) (a : Action) (pl
       (sym (append-assoc rows (rowOf place t ∷ []) (rowsFrom 128 (suc place) plan u)))
 
   pub halted : (k : ℕ) → stepTable 128 a t ≡ refused k
-      → courseFrom goal rows place (a ∷ plan) t ≡ Ending (verdictOf (endedBy (eqb k 21) (suc place) k)) (tableOf t) (countsOf (rows ++ rowOf place t ∷ []))
+      → courseFrom goal rows place (a ∷ plan) t ≡ Ending (verdictOf (haltedBy (eqb k 21) (suc place) k)) (tableOf t) (countsOf (rows ++ rowOf place t ∷ []))
   unfolding courseFrom
   halted k e = λ j. record {
     ran = record {
@@ -75,15 +75,15 @@ module _ (goal : List Literals) (rows : List Row) (place : ℕ) (a : Action) (pl
   }
 
 -- ---- what a step answers
-pub stepped : (t : Table) (o : Outcome) (s : Tabled) → s ≡ orGiven t o → s .answer ≡ Accepted → (u : List Literals) × (o ≡ table u) × (s .table ≡ tableOf u)
+pub stepped : (t : Table) (o : Outcome) (s : TableAnswer) → s ≡ orGiven t o → s .answer ≡ Accepted → (u : List Literals) × (o ≡ table u) × (s .table ≡ tableOf u)
 unfolding orGiven
-stepped t (refused k) s e a = not-both (s .answer) k 0 a (ap (λ (x : Tabled). x .answer) e)
-stepped t (table u) s e a = (u, refl, ap (λ (x : Tabled). x .table) e)
+stepped t (refused k) s e a = not-both (s .answer) k 0 a (ap (λ (x : TableAnswer). x .answer) e)
+stepped t (table u) s e a = (u, refl, ap (λ (x : TableAnswer). x .table) e)
 
-pub stopped : (t : Table) (o : Outcome) (s : Tabled) (k p : ℕ) → s ≡ orGiven t o → s .answer ≡ Refused k p → o ≡ refused k
+pub stopped : (t : Table) (o : Outcome) (s : TableAnswer) (k p : ℕ) → s ≡ orGiven t o → s .answer ≡ Refused k p → o ≡ refused k
 unfolding orGiven
-stopped t (refused i) s k p e a = let q = sym (ap (λ (x : Tabled). x .answer) e) ∙ a in let z : i ≡ k = cc in ap refused z
-stopped t (table u) s k p e a = not-both (s .answer) k p (ap (λ (x : Tabled). x .answer) e) a
+stopped t (refused i) s k p e a = let q = sym (ap (λ (x : TableAnswer). x .answer) e) ∙ a in let z : i ≡ k = cc in ap refused z
+stopped t (table u) s k p e a = not-both (s .answer) k p (ap (λ (x : TableAnswer). x .answer) e) a
 
 pub ready-table : (n : ℕ) (u : List Literals) → Described 128 n u → Ready n (tableOf u)
 ready-table n u h =
@@ -96,7 +96,7 @@ unfolding entries
 ready-count n t h = let e = length-entriesOf (t .count) (t .trues) (t .falses) in (omega (arith, h .described .least), omega (arith, h .described .most))
 
 -- ---- the run of a problem's plan from its start
-module _ (p : Problem) (g : ProperProblem p) (s : Tabled) (is : s ≡ orGiven (tableOf []) (startTable 128 p)) where
+module _ (p : Problem) (g : ProperProblem p) (s : TableAnswer) (is : s ≡ orGiven (tableOf []) (startTable 128 p)) where
   -- the start gave a table
   module _ (a : s .answer ≡ Accepted) where
     first : (u : List Literals) × (startTable 128 p ≡ table u) × (s .table ≡ tableOf u)

@@ -18,7 +18,7 @@ use Rattle.sheet.specs.Encoding.{ProperAction, ProperProblem, ProperStatement, 
 use Rattle.sheet.proofs.ListFacts.{all-map}
 use Rattle.sheet.proofs.Demands.{accepted-encoding, statement-proper}
 use Rattle.table.specs.declared.Table.{Table}
-use Rattle.table.specs.declared.Pictured.{Pictured}
+use Rattle.table.specs.declared.PictureAnswer.{PictureAnswer}
 use Rattle.table.specs.Worlds.{stepWorld, andThen, runWorld, Starting}
 use Rattle.table.specs.Picture.{picture, pictureBytes}
 use Rattle.table.specs.Slots.{entries}
@@ -28,7 +28,7 @@ use Rattle.table.specs.CallWords.{AsDescribed, Starts}
 use Rattle.table.proofs.Started.{at-proper}
 use Rattle.table.proofs.CallTables.{entries-table}
 use Rattle.table.proofs.Demands as tables
-use Rattle.plan.specs.declared.Ran.{Ran}
+use Rattle.plan.specs.declared.RunAnswer.{RunAnswer}
 use Rattle.plan.specs.declared.Verdict.the-variants as ran
 use Rattle.plan.specs.Run.{actionsOf}
 use Rattle.plan.specs.Calls.{runOf}
@@ -72,10 +72,10 @@ exchanged-sheet s x says ks = (encode y, y, record { first = says; second = acce
 
 -- ---- the final picture
 module _ (s : List ℕ) (x : Statement) (says : Says s x) (rows : ℕ) where
-  abbrev run : Ran
+  abbrev run : RunAnswer
   run = runOf (sheetOf s) rows
 
-  abbrev drawn : Pictured
+  abbrev drawn : PictureAnswer
   drawn = pictureOf (sheetOf s) (runOf (sheetOf s) rows .table) 2050
 
   zeros : length {A = ℕ} (replicate 2050 0) ≡ 2050
@@ -182,10 +182,10 @@ module _ (s₁ s₂ : List ℕ) (x y : Statement) (same : SamePlanSheet s₁ s�
   abbrev σ : Problem
   σ = x .problem
 
-  abbrev run₁ : Ran
+  abbrev run₁ : RunAnswer
   run₁ = runOf (sheetOf s₁) rows₁
 
-  abbrev run₂ : Ran
+  abbrev run₂ : RunAnswer
   run₂ = runOf (sheetOf s₂) rows₂
 
   -- the second sheet says the first one's problem

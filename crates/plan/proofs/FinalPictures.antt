@@ -11,7 +11,7 @@ use Rattle.sheet.specs.declared.Literals.{Literals}
 use Rattle.sheet.specs.declared.Answer.the-variants.{Accepted}
 use Rattle.sheet.specs.Problem.{Statement}
 use Rattle.sheet.specs.Format.{Judgement, accepted, sheetOf}
-use Rattle.table.specs.declared.Pictured.{Pictured}
+use Rattle.table.specs.declared.PictureAnswer.{PictureAnswer}
 use Rattle.table.specs.Minimal.{described, table}
 use Rattle.table.specs.Start.{startTable}
 use Rattle.table.specs.Picture.{picture, pictureBytes}
@@ -19,7 +19,7 @@ use Rattle.table.specs.Slots.{entries}
 use Rattle.table.specs.PictureCalls.{refusal, tooLong, given, pictureOf, written, bufferOf}
 use Rattle.table.proofs.Demands.{described-iff}
 use Rattle.table.proofs.MaskBytes.{clauseBytes-length}
-use Rattle.plan.specs.declared.Ran.{Ran}
+use Rattle.plan.specs.declared.RunAnswer.{RunAnswer}
 use Rattle.plan.specs.Run.{actionsOf, lastTable}
 use Rattle.plan.specs.Calls.{runOf}
 use Rattle.plan.specs.Demand3.{finalClauses, finalPicture}
@@ -31,7 +31,7 @@ bytes-length s = omega (arith, clauseBytes-length s)
 
 module _ (s : List ℕ) (x : Statement) (says : sheetOf s ≡ accepted x) (rows : ℕ) (enough : 65 ≤ rows) (t : List Literals) (starts : startTable 128 (x .problem) ≡ table t)
     (buffer : List ℕ) where
-  abbrev run : Ran
+  abbrev run : RunAnswer
   run = runOf (sheetOf s) rows
 
   abbrev last : List Literals
@@ -59,7 +59,7 @@ module _ (s : List ℕ) (x : Statement) (says : sheetOf s ≡ accepted x) (rows 
   pub picture-written : (b : List ℕ) → finalPicture run ≡ some b → length b ≤ length buffer
       → (pictureOf (sheetOf s) (run .table) (length buffer) .answer ≡ Accepted) × (bufferOf (sheetOf s) (run .table) buffer ≡ b ++ drop (length b) buffer)
   picture-written b e long = (
-    ap (λ (r : Pictured). r .answer) (call-gives ∙ ap (λ (o : Option (List Literals)). given o (length buffer)) here ∙ gives),
+    ap (λ (r : PictureAnswer). r .answer) (call-gives ∙ ap (λ (o : Option (List Literals)). given o (length buffer)) here ∙ gives),
     call-writes ∙ ap (λ (o : Option (List Literals)). written o buffer) here ∙ writes ∙ ap (λ (c : List ℕ). c ++ drop (length c) buffer) (k .2),
   )
     where

@@ -14,7 +14,7 @@ use Rattle.sheet.specs.Lists.{All, collect}
 use Rattle.sheet.specs.Problem.{Action}
 use Rattle.table.specs.Minimal.{Outcome, refused, table}
 use Rattle.table.specs.Step.{stepTable}
-use Rattle.plan.specs.Run.{Verdict, reached, short, stopped, full, endedBy, onward, runFrom}
+use Rattle.plan.specs.Run.{Verdict, reached, short, stopped, full, haltedBy, onward, runFrom}
 use Rattle.plan.specs.Search.{upto, plansOf, Answer, found, fullAt, nothing, orNext, firstOf}
 use Rattle.plan.specs.Walks.{ranFrom, firstFrom, firstBy}
 use Rattle.plan.proofs.Searching.{collect-append}
@@ -137,7 +137,7 @@ module _ (goal : List Literals) (f : ℕ → Action) (k : ℕ) (at : ℕ) (t : L
     by-table u e = by-step (table u) e ∙ ap (λ (i : ℕ). consed m (firstOf (ranFrom goal f i u) (plansOf k n))) (sym (add-one at))
 
     pub by-stop : (code : ℕ) → stepTable 128 (f m) t ≡ refused code → (code ≡ 21 → ⊥) → firstBy goal f k at t n m ≡ nothing
-    by-stop code e q = by-step (refused code) e ∙ ap (λ (b : Bool). consed m (firstOf (λ p. endedBy b (suc at) code) (plansOf k n))) (ne-eqb code 21 q) ∙ ap (consed m) (all-stopped (suc at) code (plansOf k n))
+    by-stop code e q = by-step (refused code) e ∙ ap (λ (b : Bool). consed m (firstOf (λ p. haltedBy b (suc at) code) (plansOf k n))) (ne-eqb code 21 q) ∙ ap (consed m) (all-stopped (suc at) code (plansOf k n))
 
     pub by-full : 0 < k → stepTable 128 (f m) t ≡ refused 21 → firstBy goal f k at t n m ≡ fullAt (m ∷ replicate n 0) (at + 1)
     by-full h e =

@@ -13,12 +13,12 @@ use Rattle.sheet.specs.Format.{sheetOf}
 use Rattle.table.specs.Worlds.{andThen}
 use Rattle.table.specs.Minimal.{put}
 use Rattle.table.specs.Step.{missing, split, image, stepTable}
-use Rattle.table.specs.Picture.{units, unions, fold, primes, before, insert, sortOnto, sort, picture, pictureBytes}
+use Rattle.table.specs.Picture.{units, unions, fold, primes, precedes, insert, sortOnto, sort, picture, pictureBytes}
 use Rattle.table.specs.Slots.{pairs, entriesOf, entries, tableOf}
 use Rattle.table.specs.Calls.{actionAt}
 use Rattle.table.proofs.Demands.{start-table}
 use Rattle.table.proofs.Examples.{set, paper, bench, paper-proper}
-use Rattle.plan.specs.declared.Ran.{Ran}
+use Rattle.plan.specs.declared.RunAnswer.{RunAnswer}
 use Rattle.plan.specs.declared.Verdict.the-variants as ran
 use Rattle.plan.specs.Run.{actionsOf, inGoal, Verdict, reached, runFrom, lastTable}
 use Rattle.plan.specs.Calls.{verdictOf, runOf}
@@ -39,10 +39,10 @@ came = (refl, refl)
 pub given : runOf (sheetOf printed) 65 ≡ record { verdict = verdictOf reached; table = tableOf (set 1 6 ∷ []) }
 given =
     run-call printed paper (bench .says) 65 (omega arith) first (bench .M1)
-    ∙ ap₂ {C = Ran} (λ (v : Verdict) (u : List Literals). record { verdict = verdictOf v; table = tableOf u }) (came .0) (came .1)
+    ∙ ap₂ {C = RunAnswer} (λ (v : Verdict) (u : List Literals). record { verdict = verdictOf v; table = tableOf u }) (came .0) (came .1)
 
 shown : picture (entries (tableOf (set 1 6 ∷ []))) ≡ some (set 0 2 ∷ set 0 4 ∷ set 1 0 ∷ [])
-unfolding entries tableOf entriesOf pairs pad has mem within consistent join single sign literal contains membersFrom members put units unions fold primes before insert sortOnto sort picture
+unfolding entries tableOf entriesOf pairs pad has mem within consistent join single sign literal contains membersFrom members put units unions fold primes precedes insert sortOnto sort picture
 shown = refl
 
 in-first : T (within (set 1 6) (state 3 1))
@@ -56,7 +56,7 @@ stays = refl
 -- its run is reached, and its final picture has the three clauses f, ¬g, ¬h
 reached-here : runOf (sheetOf printed) 65 .verdict ≡ ran.Reached
 unfolding verdictOf
-reached-here = ap (λ (r : Ran). r .verdict) given
+reached-here = ap (λ (r : RunAnswer). r .verdict) given
 
 final : finalPicture (runOf (sheetOf printed) 65) ≡ some (pictureBytes (set 0 2 ∷ set 0 4 ∷ set 1 0 ∷ []))
 unfolding finalPicture finalClauses runRefused refusedVerdict verdictOf

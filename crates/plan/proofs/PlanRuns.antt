@@ -11,11 +11,11 @@ use Rattle.sheet.specs.declared.Plan.{Plan}
 use Rattle.sheet.specs.Lists.{allOf, pad}
 use Rattle.sheet.specs.Problem.{Action}
 use Rattle.sheet.specs.Decoded.{planIn}
-use Rattle.sheet.specs.Rows.{setsRow}
+use Rattle.sheet.specs.Packed.{setsIn}
 use Rattle.sheet.proofs.ListFacts.{all-at}
 use Rattle.sheet.proofs.Prefixes.{part-step, part-end}
 use Rattle.table.specs.declared.Table.{Table}
-use Rattle.table.specs.declared.Tabled.{Tabled}
+use Rattle.table.specs.declared.TableAnswer.{TableAnswer}
 use Rattle.table.specs.declared.steps.Stepped.{Stepped}
 use Rattle.table.specs.declared.steps.Stepped.the-variants as moved
 use Rattle.table.specs.Minimal.{Outcome}
@@ -26,18 +26,18 @@ use Rattle.table.specs.Moves.{lent, tabled}
 use Rattle.plan.specs.declared.Row.{Row}
 use Rattle.plan.specs.declared.Counts.{Counts}
 use Rattle.plan.specs.declared.Course.{Course}
-use Rattle.plan.specs.declared.Went.{Went}
+use Rattle.plan.specs.declared.RunRecord.{RunRecord}
 use Rattle.plan.specs.declared.Verdict as case
-use Rattle.plan.specs.Run.{inGoal, ended, endedBy, rowOf}
+use Rattle.plan.specs.Run.{inGoal, endedIn, haltedBy, rowOf}
 use Rattle.plan.specs.Calls.{verdictOf}
 use Rattle.plan.specs.Course.{countsOf, countsIn, courseIn, noted, courseFrom}
-use Rattle.sheet.specs.Rows.{actionOf}
+use Rattle.sheet.specs.Packed.{actionOf}
 use Rattle.plan.specs.Walks.{Runnable}
 use Rattle.plan.proofs.Courses.{Ending, note-row, taken, halted, stopped}
 use Rattle.plan.proofs.Beginning.{ready-after, came, refused-by}
 
 -- ---- what a step gave, as an answer with a table
-pub step-as : (t : Table) {r : Stepped} (us gs : List ℕ) {s : Tabled} → tabled t r us gs ≡ s → {y : Stepped} → r ≡ y → tabled t y us gs ≡ s
+pub step-as : (t : Table) {r : Stepped} (us gs : List ℕ) {s : TableAnswer} → tabled t r us gs ≡ s → {y : Stepped} → r ≡ y → tabled t y us gs ≡ s
 step-as t us gs e q = sym (ap (λ (y : Stepped). tabled t y us gs) q) ∙ e
 
 -- ---- a step in its place, on the table t: in the arrays lies the new table, or still t
@@ -52,7 +52,7 @@ module _ (t : Table) (us gs : List ℕ) where
   unfolding orGiven
   kept-here r o e k q =
       let f : tabled (lent (t .count) us gs) (moved.Refused k) us gs ≡ orGiven t o = step-as (lent (t .count) us gs) us gs e q in
-      ap (λ (s : Tabled). s .table) f ∙ ap (λ (x : Outcome). orGiven t x .table) (stopped t o _ k 0 f refl)
+      ap (λ (s : TableAnswer). s .table) f ∙ ap (λ (x : Outcome). orGiven t x .table) (stopped t o _ k 0 f refl)
 
 -- ---- the loop
 -- the moves from place i on
@@ -65,7 +65,7 @@ unfolding countsOf pad
 no-rows p q = λ j. record { count = 0; entries = p j; clauses = q j }
 
 -- a run in arrays of zeros
-pub in-zeros : (w : Went) {ts fs es cs : List ℕ} → ts ≡ replicate 128 0 → fs ≡ replicate 128 0 → es ≡ replicate 65 0 → cs ≡ replicate 65 0
+pub in-zeros : (w : RunRecord) {ts fs es cs : List ℕ} → ts ≡ replicate 128 0 → fs ≡ replicate 128 0 → es ≡ replicate 65 0 → cs ≡ replicate 65 0
     → courseIn w ts fs es cs ≡ courseIn w (replicate 128 0) (replicate 128 0) (replicate 65 0) (replicate 65 0)
 in-zeros w a b d e = λ j. courseIn w (a j) (b j) (d j) (e j)
 
@@ -77,10 +77,10 @@ pub record Going (plan : Plan) (moves goal : List ℕ) (whole : Course) (i : ℕ
   pub few : length rows ≤ i
   pub most : length rows ≤ plan .count
   pub counts-are : c ≡ countsOf rows
-  pub onwards : courseFrom (setsRow goal) rows i (left plan moves i) (entries t) ≡ whole
+  pub onwards : courseFrom (setsIn goal) rows i (left plan moves i) (entries t) ≡ whole
 
 pub going-start : {plan : Plan} {moves goal : List ℕ} {t : Table} {c : Counts} (i : ℕ) → Runnable plan moves goal t → length (plan .numbers) ≡ 64 → c ≡ countsOf []
-    → Going plan moves goal (courseFrom (setsRow goal) [] i (left plan moves i) (entries t)) i t c
+    → Going plan moves goal (courseFrom (setsIn goal) [] i (left plan moves i) (entries t)) i t c
 going-start i h l e = record { can = h; long = omega (arith, h .most); rows = []; few = omega arith; most = omega arith; counts-are = e; onwards = refl }
 
 -- the number of the next move is that of a move
@@ -101,12 +101,12 @@ module _ {plan : Plan} {moves goal : List ℕ} {whole : Course} {i : ℕ} {t : T
   noted-rows = ap (λ (y : Counts). noted y (entries t)) (h .counts-are) ∙ note-row (h .rows) i (entries t) (omega (arith, h .most, h .can .most))
 
   -- after the last move
-  pub going-end : plan .count ≤ i → {v : case.Verdict} → v ≡ verdictOf (ended (allOf (inGoal (setsRow goal)) (entries t)))
+  pub going-end : plan .count ≤ i → {v : case.Verdict} → v ≡ verdictOf (endedIn (allOf (inGoal (setsIn goal)) (entries t)))
       → {d : Counts} → d ≡ noted c (entries t) → Ending v t d ≡ whole
   unfolding courseFrom planIn
   going-end k ev ed =
       (λ j. record { ran = record { verdict = ev j; table = h .can .fits .ready .zeros j }; counts = (ed ∙ noted-rows) j })
-      ∙ sym (ap (λ (p : List ℕ). courseFrom (setsRow goal) (h .rows) i (map (actionOf moves) p) (entries t)) (part-end (plan .count) (plan .numbers) i k (h .long)))
+      ∙ sym (ap (λ (p : List ℕ). courseFrom (setsIn goal) (h .rows) i (map (actionOf moves) p) (entries t)) (part-end (plan .count) (plan .numbers) i k (h .long)))
       ∙ h .onwards
 
   module _ (lt : i < plan .count) where
@@ -116,10 +116,10 @@ module _ {plan : Plan} {moves goal : List ℕ} {whole : Course} {i : ℕ} {t : T
     below : m < h .can .count
     below = number-below (h .can) (h .long) lt
 
-    unrolled : courseFrom (setsRow goal) (h .rows) i (actionOf moves m ∷ left plan moves (i + 1)) (entries t) ≡ whole
+    unrolled : courseFrom (setsIn goal) (h .rows) i (actionOf moves m ∷ left plan moves (i + 1)) (entries t) ≡ whole
     unfolding planIn
     unrolled =
-        sym (ap (λ (p : List ℕ). courseFrom (setsRow goal) (h .rows) i (map (actionOf moves) p) (entries t)) (part-step (plan .count) (plan .numbers) i 0 lt (h .long)))
+        sym (ap (λ (p : List ℕ). courseFrom (setsIn goal) (h .rows) i (map (actionOf moves) p) (entries t)) (part-step (plan .count) (plan .numbers) i 0 lt (h .long)))
         ∙ h .onwards
 
     module _ (r : Stepped) (us gs : List ℕ) (here : tabled (lent (t .count) us gs) r us gs ≡ orGiven t (stepTable 128 (actionOf moves m) (entriesOf (t .count) (t .trues) (t .falses))))
@@ -137,17 +137,17 @@ module _ {plan : Plan} {moves goal : List ℕ} {whole : Course} {i : ℕ} {t : T
         most = omega (arith, h .few, length-append (h .rows) (rowOf i (entries t) ∷ []));
         counts-are = ed ∙ noted-rows;
         onwards =
-            ap (λ (n : ℕ). courseFrom (setsRow goal) (h .rows ++ rowOf i (entries t) ∷ []) n (left plan moves (i + 1)) (entries (lent k us gs))) (add-one i)
-            ∙ sym (taken (setsRow goal) (h .rows) i (actionOf moves m) (left plan moves (i + 1)) (entries t) _ (came (h .can .fits) below r us gs told e))
+            ap (λ (n : ℕ). courseFrom (setsIn goal) (h .rows ++ rowOf i (entries t) ∷ []) n (left plan moves (i + 1)) (entries (lent k us gs))) (add-one i)
+            ∙ sym (taken (setsIn goal) (h .rows) i (actionOf moves m) (left plan moves (i + 1)) (entries t) _ (came (h .can .fits) below r us gs told e))
             ∙ unrolled;
       }
 
       -- the step was refused
-      pub going-halt : {k : ℕ} → r ≡ moved.Refused k → {v : case.Verdict} → v ≡ verdictOf (endedBy (eqb k 21) (i + 1) k) → Ending v (lent (t .count) us gs) d ≡ whole
+      pub going-halt : {k : ℕ} → r ≡ moved.Refused k → {v : case.Verdict} → v ≡ verdictOf (haltedBy (eqb k 21) (i + 1) k) → Ending v (lent (t .count) us gs) d ≡ whole
       going-halt {k} e ev =
           (λ j. record {
-            ran = record { verdict = (ev ∙ ap (λ (n : ℕ). verdictOf (endedBy (eqb k 21) n k)) (add-one i)) j; table = (kept-here t us gs r _ here k e ∙ h .can .fits .ready .zeros) j };
+            ran = record { verdict = (ev ∙ ap (λ (n : ℕ). verdictOf (haltedBy (eqb k 21) n k)) (add-one i)) j; table = (kept-here t us gs r _ here k e ∙ h .can .fits .ready .zeros) j };
             counts = (ed ∙ noted-rows) j;
           })
-          ∙ sym (halted (setsRow goal) (h .rows) i (actionOf moves m) (left plan moves (i + 1)) (entries t) k (refused-by (h .can .fits) below r us gs told e i 0))
+          ∙ sym (halted (setsIn goal) (h .rows) i (actionOf moves m) (left plan moves (i + 1)) (entries t) k (refused-by (h .can .fits) below r us gs told e i 0))
           ∙ unrolled

@@ -16,10 +16,10 @@ use Rattle.table.specs.Minimal.{Outcome, refused, table}
 use Rattle.table.specs.Step.{stepTable}
 use Rattle.table.specs.Slots.{pairs, entriesOf}
 use Rattle.table.proofs.Pads.{length-pad, getD-pad}
-use Rattle.plan.specs.Run.{endedBy, onward, runFrom}
+use Rattle.plan.specs.Run.{haltedBy, onward, runFrom}
 use Rattle.plan.specs.Search.{plansOf, nothing}
 use Rattle.plan.specs.Order.{Fails}
-use Rattle.plan.specs.Walks.{ranFrom, firstFrom, firstBy, Quiet}
+use Rattle.plan.specs.Walks.{ranFrom, firstFrom, firstBy, NoShorterPlan}
 use Rattle.plan.proofs.Searching.{plans-in, plans-out, none-is, none-each}
 use Rattle.plan.proofs.FirstAnswers.{firstBelow, each-nothing, consed, by-table}
 
@@ -28,7 +28,7 @@ pub fails-place : (goal : List Literals) (plan : List Action) (t : List Literals
 fails-place goal [] t a b h = h
 fails-place goal (x ∷ plan) t a b h = go (stepTable 128 x t) (λ u. fails-place goal plan u (suc a) (suc b)) h
   where
-    by : (c : Bool) (N : ℕ) → Fails (endedBy c (suc a) N) → Fails (endedBy c (suc b) N)
+    by : (c : Bool) (N : ℕ) → Fails (haltedBy c (suc a) N) → Fails (haltedBy c (suc b) N)
     by true N k = k
     by false N k = k
 
@@ -38,8 +38,8 @@ fails-place goal (x ∷ plan) t a b h = go (stepTable 128 x t) (λ u. fails-plac
     go (table u) ih k = ih u k
 
 module _ (goal : List Literals) (f : ℕ → Action) (k at : ℕ) (t : List Literals) where
-  module _ (m n : ℕ) (u : List Literals) (e : stepTable 128 (f m) t ≡ table u) (h : Quiet goal f k at t (n + 1)) where
-    pub quiet-after : m < k → Quiet goal f k (at + 1) u n
+  module _ (m n : ℕ) (u : List Literals) (e : stepTable 128 (f m) t ≡ table u) (h : NoShorterPlan goal f k at t (n + 1)) where
+    pub quiet-after : m < k → NoShorterPlan goal f k (at + 1) u n
     quiet-after l q i s =
         fails-place goal (map f q) u (suc at) (at + 1)
         (subst (λ (o : Outcome). Fails (onward o (suc at) (λ v. runFrom 128 goal (suc at) (map f q) v))) e (h (m ∷ q) (l, i) (omega arith)))
@@ -53,7 +53,7 @@ module _ (goal : List Literals) (f : ℕ → Action) (k at : ℕ) (t : List Lite
         (λ q w. fails-place goal (map f q) t at (at + 1) (h q (w .0) (omega (arith, w .1)))) (plansOf k n) (plans-out k n)))
 
 -- no shorter length had an answer
-pub quiet-lengths : (goal : List Literals) (f : ℕ → Action) (k : ℕ) (t : List Literals) (n : ℕ) → firstBelow (firstFrom goal f k 0 t) n ≡ nothing → Quiet goal f k 0 t n
+pub quiet-lengths : (goal : List Literals) (f : ℕ → Action) (k : ℕ) (t : List Literals) (n : ℕ) → firstBelow (firstFrom goal f k 0 t) n ≡ nothing → NoShorterPlan goal f k 0 t n
 quiet-lengths goal f k t n e q i s =
     any-out (λ p. Fails (ranFrom goal f 0 t p)) (λ p. p ≡ q) (λ p h r. subst (λ (x : List ℕ). Fails (ranFrom goal f 0 t x)) r h) (plansOf k (length q))
     (none-each (ranFrom goal f 0 t) (plansOf k (length q)) (each-nothing (firstFrom goal f k 0 t) n e (length q) s)) (plans-in k q i)

@@ -14,13 +14,13 @@ use lib.Seq.{getD-set-same, getD-set-other, getD-take, getD-drop, getD-append-ad
 use Rattle.sheet.specs.declared.Literals.{Literals}
 use Rattle.sheet.specs.Lists.{All}
 use Rattle.sheet.specs.Problem.{Action}
-use Rattle.sheet.specs.Rows.{rowOf, setsRow, actionOf}
+use Rattle.sheet.specs.Packed.{itemAt, setsIn, actionOf}
 use Rattle.sheet.proofs.ListFacts.{all-map, any-out}
-use Rattle.sheet.proofs.RowLaws.{row-lent}
+use Rattle.sheet.proofs.PackedLaws.{item-lent}
 use Rattle.table.specs.Slots.{entriesOf}
 use Rattle.plan.specs.Search.{plansOf, nothing, firstOf}
 use Rattle.plan.specs.Order.{Fails}
-use Rattle.plan.specs.Walks.{ranFrom, firstFrom, Quiet}
+use Rattle.plan.specs.Walks.{ranFrom, firstFrom, NoShorterPlan}
 use Rattle.plan.specs.Memory.{markIn, tableIn, Known, Remembers, Recalls}
 use Rattle.plan.proofs.Searching.{plans-in, plans-out, none-is, none-each}
 use Rattle.plan.proofs.Pruning.{fails-place, agree-entries}
@@ -28,18 +28,18 @@ use Rattle.plan.proofs.Pruning.{fails-place, agree-entries}
 -- ---- no answer within so many moves
 module _ (goal : List Literals) (f : ℕ → Action) (k : ℕ) (t : List Literals) where
   -- wherever the plans begin
-  pub quiet-place : (a b n : ℕ) → Quiet goal f k a t n → Quiet goal f k b t n
+  pub quiet-place : (a b n : ℕ) → NoShorterPlan goal f k a t n → NoShorterPlan goal f k b t n
   quiet-place a b n h q i s = fails-place goal (map f q) t a b (h q i s)
 
   -- so the plans of fewer moves have none
-  pub quiet-none : (at n left : ℕ) → Quiet goal f k at t n → left < n → firstFrom goal f k at t left ≡ nothing
+  pub quiet-none : (at n left : ℕ) → NoShorterPlan goal f k at t n → left < n → firstFrom goal f k at t left ≡ nothing
   quiet-none at n left h l =
       none-is (ranFrom goal f at t) (plansOf k left)
       (all-map (λ q. All (λ i. i < k) q × (length q ≡ left)) (λ q. Fails (ranFrom goal f at t q))
       (λ q w. h q (w .0) (omega (arith, w .1))) (plansOf k left) (plans-out k left))
 
   -- where the plans of n moves have none either, it is so of one move more
-  pub quiet-more : (at n : ℕ) → Quiet goal f k at t n → firstFrom goal f k at t n ≡ nothing → Quiet goal f k at t (n + 1)
+  pub quiet-more : (at n : ℕ) → NoShorterPlan goal f k at t n → firstFrom goal f k at t n ≡ nothing → NoShorterPlan goal f k at t (n + 1)
   quiet-more at n h e q i s = go (ℕ-discrete (length q) n)
     where
       go : Dec (length q ≡ n) → Fails (ranFrom goal f at t q)
@@ -52,22 +52,22 @@ module _ (goal : List Literals) (f : ℕ → Action) (k : ℕ) (t : List Literal
 module _ (moves : List ℕ) (count : ℕ) (goal : List ℕ) where
   -- what is recalled need not be tried
   pub skip : {memory : List ℕ} {es : List Literals} {left : ℕ} (at : ℕ) → Remembers moves count goal memory → Recalls memory es left
-      → firstFrom (setsRow goal) (actionOf moves) count at es left ≡ nothing
+      → firstFrom (setsIn goal) (actionOf moves) count at es left ≡ nothing
   skip {memory} {es} {left} at h r =
-      quiet-none (setsRow goal) (actionOf moves) count es at (markIn (rowOf 258 memory (r .slot))) left
-      (quiet-place (setsRow goal) (actionOf moves) count es 0 at (markIn (rowOf 258 memory (r .slot)))
-      (subst (λ (x : List Literals). Known moves count goal x (markIn (rowOf 258 memory (r .slot)))) (r .alike) (h (r .slot) (r .room))))
+      quiet-none (setsIn goal) (actionOf moves) count es at (markIn (itemAt 258 memory (r .slot))) left
+      (quiet-place (setsIn goal) (actionOf moves) count es 0 at (markIn (itemAt 258 memory (r .slot)))
+      (subst (λ (x : List Literals). Known moves count goal x (markIn (itemAt 258 memory (r .slot)))) (r .alike) (h (r .slot) (r .room))))
       (r .above)
 
   -- what is entered after all shorter plans is known
-  pub entered : (es : List Literals) (at left : ℕ) → Quiet (setsRow goal) (actionOf moves) count at es left → Known moves count goal es left
-  entered es at left h = quiet-place (setsRow goal) (actionOf moves) count es at 0 left h
+  pub entered : (es : List Literals) (at left : ℕ) → NoShorterPlan (setsIn goal) (actionOf moves) count at es left → Known moves count goal es left
+  entered es at left h = quiet-place (setsIn goal) (actionOf moves) count es at 0 left h
 
   -- what was tried without an answer is known for one move more
-  pub tried : (es : List Literals) (at left : ℕ) → Quiet (setsRow goal) (actionOf moves) count at es left
-      → firstFrom (setsRow goal) (actionOf moves) count at es left ≡ nothing → Known moves count goal es (left + 1)
+  pub tried : (es : List Literals) (at left : ℕ) → NoShorterPlan (setsIn goal) (actionOf moves) count at es left
+      → firstFrom (setsIn goal) (actionOf moves) count at es left ≡ nothing → Known moves count goal es (left + 1)
   tried es at left h e =
-      quiet-place (setsRow goal) (actionOf moves) count es at 0 (left + 1) (quiet-more (setsRow goal) (actionOf moves) count es at left h e)
+      quiet-place (setsIn goal) (actionOf moves) count es at 0 (left + 1) (quiet-more (setsIn goal) (actionOf moves) count es at left h e)
 
   -- by what is in a slot
   pub known-in : (slot : List ℕ) (es : List Literals) (mark : ℕ) → markIn slot ≡ mark → tableIn slot ≡ es → Known moves count goal es mark
@@ -76,7 +76,7 @@ module _ (moves : List ℕ) (count : ℕ) (goal : List ℕ) where
       subst (λ (x : List Literals). Known moves count goal x (markIn slot)) (sym b) (subst (λ (m : ℕ). Known moves count goal es m) (sym a) h)
 
   -- where no slot has a mark, nothing is said
-  pub blank : (memory : List ℕ) → ((j : ℕ) → j * 258 + 258 ≤ length memory → markIn (rowOf 258 memory j) ≡ 0) → Remembers moves count goal memory
+  pub blank : (memory : List ℕ) → ((j : ℕ) → j * 258 + 258 ≤ length memory → markIn (itemAt 258 memory j) ≡ 0) → Remembers moves count goal memory
   blank memory h j l q i s = absurd (not-suc-le-zero (subst (λ (m : ℕ). length q < m) (h j l) s))
 
 -- ---- a slot that is written
@@ -147,8 +147,8 @@ module _ (xs slot : List ℕ) (j : ℕ) (room : j * 258 + 258 ≤ length xs) (lo
       let d = length-drop (j * 258) xs in
       omega (arith, a, b, c, d, front-long, room, long)
 
-  row-same : rowOf 258 put j ≡ slot
-  unfolding rowOf
+  row-same : itemAt 258 put j ≡ slot
+  unfolding itemAt
   row-same = ap (take 258) (drop-at front (slot ++ rest) (j * 258) front-long) ∙ take-at slot rest 258 long
 
   before : (x : ℕ) → x < j * 258 → getD put x 0 ≡ getD xs x 0
@@ -170,8 +170,8 @@ module _ (xs slot : List ℕ) (j : ℕ) (room : j * 258 + 258 ≤ length xs) (lo
       let e : j * 258 + (258 + (x - (j * 258 + 258))) ≡ x = omega (arith, b) in
       subst (λ (y : ℕ). getD put y 0 ≡ getD xs y 0) e (after (x - (j * 258 + 258)))
 
-  row-other : (i : ℕ) → (i ≡ j → ⊥) → i * 258 + 258 ≤ length xs → rowOf 258 put i ≡ rowOf 258 xs i
-  unfolding rowOf
+  row-other : (i : ℕ) → (i ≡ j → ⊥) → i * 258 + 258 ≤ length xs → itemAt 258 put i ≡ itemAt 258 xs i
+  unfolding itemAt
   row-other i ne l =
       ext-getD 0 (take 258 (drop (i * 258) put)) (take 258 (drop (i * 258) xs)) (wide put (omega (arith, l, put-long)) ∙ sym (wide xs l))
       (λ y b. let c : y < 258 = omega (arith, b, wide put (omega (arith, l, put-long))) in
@@ -189,15 +189,15 @@ module _ (xs slot : List ℕ) (j : ℕ) (room : j * 258 + 258 ≤ length xs) (lo
       → Remembers moves count goal put
   kept-by moves count goal h g i l = go (ℕ-discrete i j)
     where
-      go : Dec (i ≡ j) → Known moves count goal (tableIn (rowOf 258 put i)) (markIn (rowOf 258 put i))
-      go (yes e) = subst (λ (s : List ℕ). Known moves count goal (tableIn s) (markIn s)) (sym (ap (rowOf 258 put) e ∙ row-same)) g
+      go : Dec (i ≡ j) → Known moves count goal (tableIn (itemAt 258 put i)) (markIn (itemAt 258 put i))
+      go (yes e) = subst (λ (s : List ℕ). Known moves count goal (tableIn s) (markIn s)) (sym (ap (itemAt 258 put) e ∙ row-same)) g
       go (no ne) =
           let r : i * 258 + 258 ≤ length xs = omega (arith, l, put-long) in
           subst (λ (s : List ℕ). Known moves count goal (tableIn s) (markIn s)) (sym (row-other i ne r)) (h i r)
 
 -- ---- marks at the heads of the slots
-pub mark-head : (memory : List ℕ) (j : ℕ) → markIn (rowOf 258 memory j) ≡ getD memory (j * 258) 0
-unfolding rowOf
+pub mark-head : (memory : List ℕ) (j : ℕ) → markIn (itemAt 258 memory j) ≡ getD memory (j * 258) 0
+unfolding itemAt
 mark-head memory j = let e : j * 258 + 0 ≡ j * 258 = omega arith in
     getD-take 258 (drop (j * 258) memory) 0 0 (omega arith) ∙ getD-drop (j * 258) memory 0 0 ∙ ap (λ (k : ℕ). getD memory k 0) e
 
@@ -215,6 +215,6 @@ pub recalled : (memory : List ℕ) (es : List Literals) (left j : ℕ) → j * 2
 recalled memory es left j room a b = record {
   slot = j;
   room = room;
-  above = subst (λ (s : List ℕ). left < markIn s) (row-lent 258 j memory) a;
-  alike = sym (ap tableIn (row-lent 258 j memory)) ∙ b;
+  above = subst (λ (s : List ℕ). left < markIn s) (item-lent 258 j memory) a;
+  alike = sym (ap tableIn (item-lent 258 j memory)) ∙ b;
 }

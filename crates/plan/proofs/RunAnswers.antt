@@ -21,7 +21,7 @@ use Rattle.table.specs.Minimal.{Outcome}
 use Rattle.table.specs.Start.{startTable}
 use Rattle.table.specs.Calls.{actionAt}
 use Rattle.table.proofs.Demands as tables
-use Rattle.plan.specs.declared.Ran.{Ran}
+use Rattle.plan.specs.declared.RunAnswer.{RunAnswer}
 use Rattle.plan.specs.declared.Verdict as case
 use Rattle.plan.specs.declared.Verdict.the-variants as ran
 use Rattle.plan.specs.Run.{actionsOf, Verdict, reached, short, stopped, full, runFrom}
@@ -81,7 +81,7 @@ taken-actions p (ran.Refused number position) q = refl
 -- ---- an accepted sheet
 module _ (s : List ℕ) (x : Statement) (says : Says s x) where
   module _ (rows : ℕ) where
-    abbrev run : Ran
+    abbrev run : RunAnswer
     run = runOf (sheetOf s) rows
 
     pub refused-run : (k q : ℕ) → run .verdict ≡ ran.Refused k q → runRefused run ≡ true
@@ -100,7 +100,7 @@ module _ (s : List ℕ) (x : Statement) (says : Says s x) where
     rows-enough f = go (ltb rows 65) refl
       where
         go : (b : Bool) → ltb rows 65 ≡ b → 65 ≤ rows
-        go true e = absurd (unrefused f 23 0 (unfold refusedRun in ap (λ (r : Ran). r .verdict) (run-23 s x says rows (ltb-true rows 65 e))))
+        go true e = absurd (unrefused f 23 0 (unfold refusedRun in ap (λ (r : RunAnswer). r .verdict) (run-23 s x says rows (ltb-true rows 65 e))))
         go false e = ltb-false rows 65 e
 
     pub run-starts : runRefused run ≡ false → (t : List Literals) × (startTable 128 (x .problem) ≡ Outcome.table t)
@@ -109,7 +109,7 @@ module _ (s : List ℕ) (x : Statement) (says : Says s x) where
     -- one that has them is not refused
     pub started-run : 65 ≤ rows → (t : List Literals) → startTable 128 (x .problem) ≡ Outcome.table t → runRefused run ≡ false
     unfolding runRefused
-    started-run enough t e = ap (λ (r : Ran). refusedVerdict (r .verdict)) (run-call s x says rows enough t e) ∙ never-refused (runFrom 128 (x .problem .goal) 0 (actionsOf (x .problem) (x .plan)) t)
+    started-run enough t e = ap (λ (r : RunAnswer). refusedVerdict (r .verdict)) (run-call s x says rows enough t e) ∙ never-refused (runFrom 128 (x .problem .goal) 0 (actionsOf (x .problem) (x .plan)) t)
 
 -- ---- any plan on the sheet that carries it
 pub carried : (p : Problem) → ProperProblem p → (q : List ℕ) → All (λ i. i < length (p .actions)) q → length q ≤ 64
@@ -121,7 +121,7 @@ carried p hp q h l =
 module _ (p : Problem) (hp : ProperProblem p) (q : List ℕ) (h : All (λ i. i < length (p .actions)) q) (l : length q ≤ 64) where
   -- from the start table
   pub with-table : (t : List Literals) → startTable 128 p ≡ Outcome.table t → runWith p q .verdict ≡ verdictOf (runFrom 128 (p .goal) 0 (actionsOf p q) t)
-  with-table t e = ap (λ (r : Ran). r .verdict) (run-call (encode (record { problem = p; plan = q })) (record { problem = p; plan = q }) (carried p hp q h l) 65 (omega arith) t e)
+  with-table t e = ap (λ (r : RunAnswer). r .verdict) (run-call (encode (record { problem = p; plan = q })) (record { problem = p; plan = q }) (carried p hp q h l) 65 (omega arith) t e)
 
   -- the start is refused
   pub with-refused : (N : ℕ) → startTable 128 p ≡ Outcome.refused N → runWith p q .verdict ≡ ran.Refused N 0

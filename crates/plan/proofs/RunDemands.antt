@@ -19,7 +19,7 @@ use Rattle.table.specs.Start.{startTable}
 use Rattle.table.specs.Slots.{entries}
 use Rattle.table.specs.CallWords.{Starts}
 use Rattle.table.proofs.Demands as tables
-use Rattle.plan.specs.declared.Ran.{Ran}
+use Rattle.plan.specs.declared.RunAnswer.{RunAnswer}
 use Rattle.plan.specs.declared.Verdict as case
 use Rattle.plan.specs.Run.{actionsOf, Verdict, full, runFrom, movesTaken}
 use Rattle.plan.specs.Calls.{verdictOf, runOf}
@@ -54,7 +54,7 @@ module _ (s : List ℕ) (x : Statement) (says : Says s x) (rows : ℕ) (given : 
   verdict = runFrom 128 (x .problem .goal) 0 (actionsOf (x .problem) (x .plan)) (run-starts s x says rows given .0)
 
   call-verdict : runOf (sheetOf s) rows .verdict ≡ verdictOf verdict
-  call-verdict = ap (λ (r : Ran). r .verdict) (run-call s x says rows (rows-enough s x says rows given) (run-starts s x says rows given .0) starts)
+  call-verdict = ap (λ (r : RunAnswer). r .verdict) (run-call s x says rows (rows-enough s x says rows given) (run-starts s x says rows given .0) starts)
 
   -- by the starting worlds
   run-is : runFull (runOf (sheetOf s) rows) ≡ false → (v : Verdict) → ((k : ℕ) → v ≡ full k → ⊥)

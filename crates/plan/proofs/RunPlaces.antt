@@ -20,8 +20,8 @@ use Rattle.sheet.specs.Encoding.{ProperProblem}
 use Rattle.sheet.proofs.ListFacts.{map-take, map-drop, all-drop}
 use Rattle.sheet.proofs.Demands.{statement-proper}
 use Rattle.table.specs.declared.Table.{Table}
-use Rattle.table.specs.declared.Tabled.{Tabled}
-use Rattle.table.specs.declared.Pictured.{Pictured}
+use Rattle.table.specs.declared.TableAnswer.{TableAnswer}
+use Rattle.table.specs.declared.PictureAnswer.{PictureAnswer}
 use Rattle.table.specs.Worlds.{andThen, InGoal}
 use Rattle.table.specs.Minimal.{In, Described, described, Outcome}
 use Rattle.table.specs.Start.{startTable}
@@ -37,7 +37,7 @@ use Rattle.table.proofs.Demands as tables
 use Rattle.table.proofs.Started.{at-proper}
 use Rattle.table.proofs.CallTables.{entries-table}
 use Rattle.plan.specs.declared.Row.{Row}
-use Rattle.plan.specs.declared.Ran.{Ran}
+use Rattle.plan.specs.declared.RunAnswer.{RunAnswer}
 use Rattle.plan.specs.declared.Verdict as case
 use Rattle.plan.specs.declared.Verdict.the-variants as ran
 use Rattle.plan.specs.Run.{actionsOf, Verdict, reached, short, stopped, full, runFrom, lastTable, movesTaken, rowOf, rowsFrom}
@@ -108,7 +108,7 @@ module _ (s : List ℕ) (x : Statement) (says : Says s x) where
       → stepped s ms (tableOf u) ≡ tabled (tableAt 128 (length ms) (actionsOf p ms) u)
   unfolding tabled actionsOf
   stepped-at [] h u d = refl
-  stepped-at (m ∷ ms) h u d = ap (λ (r : Tabled). andThen (whenAccepted (r .answer) (r .table)) (λ v. stepped s ms v)) (step-call u d m (h .0)) ∙ go (stepTable 128 (actionAt p m) u) refl (stepped-at ms (h .1))
+  stepped-at (m ∷ ms) h u d = ap (λ (r : TableAnswer). andThen (whenAccepted (r .answer) (r .table)) (λ v. stepped s ms v)) (step-call u d m (h .0)) ∙ go (stepTable 128 (actionAt p m) u) refl (stepped-at ms (h .1))
     where
       go : (o : Outcome) → stepTable 128 (actionAt p m) u ≡ o
           → ((v : List Literals) → Described 128 (p .n) v → stepped s ms (tableOf v) ≡ tabled (tableAt 128 (length ms) (map (actionAt p) ms) v))
@@ -127,7 +127,7 @@ module _ (s : List ℕ) (x : Statement) (says : Says s x) where
 
     arrived-at : (i : ℕ) → i ≤ length (x .plan) → arrived s (take i (x .plan)) ≡ tabled (tableAt 128 i plan t)
     arrived-at i l =
-        ap (λ (r : Tabled). andThen (whenAccepted (r .answer) (r .table)) (λ v. stepped s (take i (x .plan)) v)) start-call
+        ap (λ (r : TableAnswer). andThen (whenAccepted (r .answer) (r .table)) (λ v. stepped s (take i (x .plan)) v)) start-call
         ∙ stepped-at (take i (x .plan)) (all-take (λ m. m < length (x .problem .actions)) i (x .plan) hq) t first
         ∙ ap tabled (place ∙ at-take i plan t)
       where
@@ -174,7 +174,7 @@ module _ (s : List ℕ) (x : Statement) (says : Says s x) where
 
             refuses : stepOf (sheetOf s) (tableOf (r .last)) m .answer ≡ Refused N 0
             refuses = unfold orGiven in
-                ap (λ (z : Tabled). z .answer)
+                ap (λ (z : TableAnswer). z .answer)
                 (step-call (r .last) (place-described j (r .last) (r .arrives)) m on ∙ ap (orGiven (tableOf (r .last))) (ap (λ (a : Action). stepTable 128 a (r .last)) move ∙ r .gives))
 
     call-refuses : (k N : ℕ) → StepRefused s (x .plan) k N → (j : ℕ) × (k ≡ suc j) × Refuses 128 plan t j N
@@ -195,7 +195,7 @@ module _ (s : List ℕ) (x : Statement) (says : Says s x) where
           later = map (actionAt p) (r .later);
           next = unfold actionsOf in sym (map-drop (actionAt p) (r .before) (x .plan)) ∙ ap (map (actionAt p)) (r .next);
           gives = number-of (tableOf u) (stepTable 128 (actionAt p (r .move)) u) N
-              (ap (λ (z : Tabled). z .answer) (sym (step-call u (place-described (r .before) u e) (r .move) on)) ∙ ap (λ (l : Table). stepOf (sheetOf s) l (r .move) .answer) is ∙ r .gives);
+              (ap (λ (z : TableAnswer). z .answer) (sym (step-call u (place-described (r .before) u e) (r .move) on)) ∙ ap (λ (l : Table). stepOf (sheetOf s) l (r .move) .answer) is ∙ r .gives);
         }
           where
             is : tableOf u ≡ r .last
@@ -228,7 +228,7 @@ module _ (s : List ℕ) (x : Statement) (says : Says s x) where
       verdict = runFrom 128 (x .problem .goal) 0 (actionsOf (x .problem) (x .plan)) t
 
       call-verdict : runOf (sheetOf s) rows .verdict ≡ verdictOf verdict
-      call-verdict = ap (λ (r : Ran). r .verdict) (run-call s x says rows enough t starts)
+      call-verdict = ap (λ (r : RunAnswer). r .verdict) (run-call s x says rows enough t starts)
 
       stopped-is : (k N : ℕ) → (runOf (sheetOf s) rows .verdict ≡ ran.Stopped k N) ↔ (StepRefused s (x .plan) k N × ((N ≡ 24) ⊎ (N ≡ 25)))
       unfolding verdictOf
@@ -284,7 +284,7 @@ module _ (s : List ℕ) (x : Statement) (says : Says s x) where
       last-is =
           ap (arrived s) taken-first
           ∙ arrived-some (movesTaken 128 plan t) (lastTable 128 plan t) (omega (arith, size, taken-most plan t)) (last-at 128 plan t)
-          ∙ ap some (sym (ap (λ (r : Ran). r .table) (run-call s x says rows enough t starts)))
+          ∙ ap some (sym (ap (λ (r : RunAnswer). r .table) (run-call s x says rows enough t starts)))
 
       -- ---- the rows
       rows-are : rowsOf (sheetOf s) rows ≡ rowsFrom 128 0 plan t
@@ -299,7 +299,7 @@ module _ (s : List ℕ) (x : Statement) (says : Says s x) where
     -- the clauses of a row, by the picture call
     row-clauses : (u : List Literals) → Described 128 (p .n) u
         → clausesOr (pictureOf (sheetOf s) (tableOf u) 2050 .answer) (pictureOf (sheetOf s) (tableOf u) 2050 .clauses) ≡ sizeOf (picture u)
-    row-clauses u d = ap (λ (r : Pictured). clausesOr (r .answer) (r .clauses)) call ∙ go (picture u) refl
+    row-clauses u d = ap (λ (r : PictureAnswer). clausesOr (r .answer) (r .clauses)) call ∙ go (picture u) refl
       where
         call : pictureOf (sheetOf s) (tableOf u) 2050 ≡ pictured.given (picture u) 2050
         call = unfold pictureOf in rw (says, entries-table u (d .most), tables.described-iff 128 (x .problem .n) u .1 d) refl

@@ -14,7 +14,7 @@ use Rattle.sheet.specs.Problem.{Action}
 use Rattle.table.specs.Minimal.{Outcome, refused, table}
 use Rattle.table.specs.Step.{stepTable}
 use Rattle.plan.specs.declared.Row.{Row}
-use Rattle.plan.specs.Run.{inGoal, ended, endedBy, onward, runFrom, tableOr, lastTable, countOr, movesTaken, rowOf, rowsOr, rowsFrom}
+use Rattle.plan.specs.Run.{inGoal, endedIn, haltedBy, onward, runFrom, tableOr, lastTable, countOr, movesTaken, rowOf, rowsOr, rowsFrom}
 use Rattle.plan.specs.Places.{thenTable, tableAt, Refuses}
 
 module _ (cap : ℕ) where
@@ -85,23 +85,23 @@ module _ (cap : ℕ) where
 
   -- ---- the verdict, from `place` moves on
   pub run-ended : (goal : List Literals) (place : ℕ) (plan : List Action) (t u : List Literals) → tableAt cap (length plan) plan t ≡ some u
-      → runFrom cap goal place plan t ≡ ended (allOf (inGoal goal) u)
-  run-ended goal place [] t u h = ap (λ (x : List Literals). ended (allOf (inGoal goal) x)) (Option·some-injective t u h)
+      → runFrom cap goal place plan t ≡ endedIn (allOf (inGoal goal) u)
+  run-ended goal place [] t u h = ap (λ (x : List Literals). endedIn (allOf (inGoal goal) x)) (Option·some-injective t u h)
   run-ended goal place (a ∷ plan) t u h =
       let x = at-later a plan t u (length plan) h in
       ap (λ (o : Outcome). onward o (suc place) (λ v. runFrom cap goal (suc place) plan v)) (x .1) ∙ run-ended goal (suc place) plan (x .0) u (x .2)
 
   pub run-refused : (goal : List Literals) (place : ℕ) (plan : List Action) (t : List Literals) (k N : ℕ) → Refuses cap plan t k N
-      → runFrom cap goal place plan t ≡ endedBy (eqb N 21) (suc (place + k)) N
+      → runFrom cap goal place plan t ≡ haltedBy (eqb N 21) (suc (place + k)) N
   run-refused goal place [] t k N r = nothing-refuses t k N r
   run-refused goal place (a ∷ plan) t zero N r =
       let q : place ≡ place + 0 = omega arith in
-      ap (λ (o : Outcome). onward o (suc place) (λ v. runFrom cap goal (suc place) plan v)) (first-refuses a plan t N r) ∙ ap (λ (i : ℕ). endedBy (eqb N 21) (suc i) N) q
+      ap (λ (o : Outcome). onward o (suc place) (λ v. runFrom cap goal (suc place) plan v)) (first-refuses a plan t N r) ∙ ap (λ (i : ℕ). haltedBy (eqb N 21) (suc i) N) q
   run-refused goal place (a ∷ plan) t (suc k) N r =
       let x = rest-refuses a plan t k N r in
       let q : suc place + k ≡ place + suc k = omega arith in
       ap (λ (o : Outcome). onward o (suc place) (λ v. runFrom cap goal (suc place) plan v)) (x .1) ∙ run-refused goal (suc place) plan (x .0) k N (x .2)
-      ∙ ap (λ (i : ℕ). endedBy (eqb N 21) (suc i) N) q
+      ∙ ap (λ (i : ℕ). haltedBy (eqb N 21) (suc i) N) q
 
   -- ---- the moves taken, and the table returned
   pub last-at : (plan : List Action) (t : List Literals) → tableAt cap (movesTaken cap plan t) plan t ≡ some (lastTable cap plan t)

@@ -16,10 +16,10 @@ use Rattle.sheet.specs.Problem.{Action, Problem, Statement}
 use Rattle.sheet.specs.Format.{Judgement, accepted, refused as faulty, sheetOf}
 use Rattle.sheet.specs.Encoding.{ProperAction, ProperProblem}
 use Rattle.sheet.specs.Decoded.{planIn}
-use Rattle.sheet.specs.Rows.{rowOf, itemsAt, setsRow, countIn, actionFrom, actionOf}
+use Rattle.sheet.specs.Packed.{itemAt, itemsAt, setsIn, countIn, actionFrom, actionOf}
 use Rattle.sheet.proofs.ListFacts.{all-map}
 use Rattle.table.specs.declared.Table.{Table}
-use Rattle.table.specs.declared.Tabled.{Tabled}
+use Rattle.table.specs.declared.TableAnswer.{TableAnswer}
 use Rattle.table.specs.Start.{startTable}
 use Rattle.table.specs.Slots.{entries, tableOf}
 use Rattle.table.specs.Calls.{orGiven, actionAt}
@@ -29,7 +29,7 @@ use Rattle.plan.specs.Order.{PlanOf}
 use Rattle.plan.specs.Calls.{refusedSearch, answered, searchedFrom, searched, searchOf}
 use Rattle.plan.specs.Course.{courseFrom, Ready}
 use Rattle.plan.specs.Walks.{ranFrom, Searchable, Runnable, searchedBy}
-use Rattle.sheet.proofs.RowLaws.{sets-long, effects-long, item-at}
+use Rattle.sheet.proofs.PackedLaws.{sets-long, effects-long, item-at}
 use Rattle.table.proofs.Started.{at-proper}
 use Rattle.plan.proofs.Searching.{out-plans}
 use Rattle.plan.proofs.Courses.{stopped, ready-count, started}
@@ -40,8 +40,8 @@ map-below f g k h [] l = refl
 map-below f g k h (i ∷ q) l = ap₂ {C = List Action} (λ (a : Action) (b : List Action). a ∷ b) (h i (l .0)) (map-below f g k h q (l .1))
 
 -- a row says how many sets or effects it has
-sets-count : (row : List ℕ) → length (setsRow row) ≡ getD row 0 0
-unfolding setsRow
+sets-count : (row : List ℕ) → length (setsIn row) ≡ getD row 0 0
+unfolding setsIn
 sets-count row = sets-long (getD row 0 0) (drop 1 row)
 
 effects-count : (row : List ℕ) → length (actionFrom row .effects) ≡ countIn row
@@ -50,7 +50,7 @@ effects-count row = effects-long (countIn row) (take 32 (drop 3 row))
 
 -- ---- the moves and the goal of a problem in rows
 module _ (p : Problem) (g : ProperProblem p) (moves goal : List ℕ) (long : length moves ≡ 1120) (are : itemsAt 35 actionFrom (length (p .actions)) moves ≡ p .actions)
-    (goal-long : length goal ≡ 17) (is : setsRow goal ≡ p .goal) where
+    (goal-long : length goal ≡ 17) (is : setsIn goal ≡ p .goal) where
   abbrev count : ℕ
   count = length (p .actions)
 
@@ -73,7 +73,7 @@ module _ (p : Problem) (g : ProperProblem p) (moves goal : List ℕ) (long : len
       least = g .actions .least;
       most = g .actions .most;
       room = omega (arith, g .actions .most);
-      effects-most = λ i lt. omega (arith, effects-count (rowOf 35 moves i), move i lt .effects .most);
+      effects-most = λ i lt. omega (arith, effects-count (itemAt 35 moves i), move i lt .effects .most);
       actions = move;
       goal-fits = (goal-long, omega (arith, sets-count goal, ap length is, g .goal .most));
       entries-most = ready-count (p .n) t ready .1;
@@ -92,15 +92,15 @@ module _ (p : Problem) (g : ProperProblem p) (moves goal : List ℕ) (long : len
     unfolding searchedFrom
     sought limit =
         ap answered (same-first _ _ (plansUpTo count limit)
-        (all-map (PlanOf count limit) (λ q. ranFrom (setsRow goal) (actionOf moves) 0 (entries t) q ≡ runFrom 128 (p .goal) 0 (actionsOf p q) (entries t))
+        (all-map (PlanOf count limit) (λ q. ranFrom (setsIn goal) (actionOf moves) 0 (entries t) q ≡ runFrom 128 (p .goal) 0 (actionsOf p q) (entries t))
         (λ q h. ap₂ (λ (x : List Literals) (q : List Action). runFrom 128 x 0 q (entries t)) is (plan-laid q (h .0)))
         (plansUpTo count limit) (out-plans count limit)))
 
-    pub coursed : (q : List ℕ) → All (λ i. i < count) q → courseFrom (setsRow goal) [] 0 (map (actionOf moves) q) (entries t) ≡ courseFrom (p .goal) [] 0 (actionsOf p q) (entries t)
+    pub coursed : (q : List ℕ) → All (λ i. i < count) q → courseFrom (setsIn goal) [] 0 (map (actionOf moves) q) (entries t) ≡ courseFrom (p .goal) [] 0 (actionsOf p q) (entries t)
     coursed q h = ap₂ (λ (x : List Literals) (q : List Action). courseFrom x [] 0 q (entries t)) is (plan-laid q h)
 
 -- ---- the search of a problem from its start
-module _ (p : Problem) (s : Tabled) (is : s ≡ orGiven (tableOf []) (startTable 128 p)) (limit : ℕ) where
+module _ (p : Problem) (s : TableAnswer) (is : s ≡ orGiven (tableOf []) (startTable 128 p)) (limit : ℕ) where
   -- the start gave a table
   pub sought-from : ProperProblem p → s .answer ≡ Accepted → answered (searchedFrom p limit (entries (s .table))) ≡ searched p limit (startTable 128 p)
   unfolding searched

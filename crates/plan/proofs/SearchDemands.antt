@@ -25,8 +25,8 @@ use Rattle.table.specs.CallWords.{Starts}
 use Rattle.table.proofs.Demands as tables
 use Rattle.table.proofs.CallTables.{start-some}
 use Rattle.table.proofs.CallDemands.{start-else}
-use Rattle.plan.specs.declared.Ran.{Ran}
-use Rattle.plan.specs.declared.Searched.{Searched}
+use Rattle.plan.specs.declared.RunAnswer.{RunAnswer}
+use Rattle.plan.specs.declared.SearchAnswer.{SearchAnswer}
 use Rattle.plan.specs.declared.Verdict as case
 use Rattle.plan.specs.declared.Verdict.the-variants as ran
 use Rattle.plan.specs.declared.Kind.the-variants as kind
@@ -65,11 +65,11 @@ misses-unfull (stopped k N) f = refl
 misses-unfull (full k) f = absurd f
 
 -- a run by a verdict that is not full
-unfull-run : (r : Ran) (v : case.Verdict) → r .verdict ≡ v → fullVerdict v ≡ false → runFull r ≡ false
+unfull-run : (r : RunAnswer) (v : case.Verdict) → r .verdict ≡ v → fullVerdict v ≡ false → runFull r ≡ false
 unfolding runFull
 unfull-run r v e f = ap fullVerdict e ∙ f
 
-missed-unfull : (r : Ran) → Misses (r .verdict) → runFull r ≡ false
+missed-unfull : (r : RunAnswer) → Misses (r .verdict) → runFull r ≡ false
 unfolding runFull
 missed-unfull r = go (r .verdict)
   where
@@ -125,14 +125,14 @@ module _ (s : List ℕ) (x : Statement) (says : Says s x) (limit : ℕ) (le : li
   hπ : ProperProblem π
   hπ = statement-proper s x says .problem
 
-  abbrev Search : Searched
+  abbrev Search : SearchAnswer
   Search = searchOf (sheetOf s) limit
 
   -- ---- the start is refused
   module _ (N : ℕ) (starts : startTable 128 (x .problem) ≡ Outcome.refused N) where
     call-refused : searchOf (sheetOf s) limit .kind ≡ kind.Refused N 0
     unfolding searched refusedSearch
-    call-refused = ap (λ (r : Searched). r .kind) (search-within s x says limit le ∙ ap (searched (x .problem) limit) starts)
+    call-refused = ap (λ (r : SearchAnswer). r .kind) (search-within s x says limit le ∙ ap (searched (x .problem) limit) starts)
 
     run-refused : (q : List ℕ) → PlanOf (length (x .problem .actions)) limit q → runWith (x .problem) q .verdict ≡ ran.Refused N 0
     run-refused q h = with-refused (x .problem) hπ q (h .0) (omega (arith, h .1)) N starts
@@ -172,12 +172,12 @@ module _ (s : List ℕ) (x : Statement) (says : Says s x) (limit : ℕ) (le : li
     at-found : (q : List ℕ) → answer ≡ found q → PlanOf moves limit q → (searchOf (sheetOf s) limit .kind ≡ kind.Reached) × (planFound (searchOf (sheetOf s) limit) ≡ q)
     at-found q e h =
         let k = found-plan q (within q h) in
-        (ap (λ (r : Searched). r .kind) (call ∙ ap answered e) ∙ k .0, ap (λ (r : Searched). planFound r) (call ∙ ap answered e) ∙ k .1)
+        (ap (λ (r : SearchAnswer). r .kind) (call ∙ ap answered e) ∙ k .0, ap (λ (r : SearchAnswer). planFound r) (call ∙ ap answered e) ∙ k .1)
 
     at-full : (q : List ℕ) (i : ℕ) → answer ≡ fullAt q i → PlanOf moves limit q → (searchOf (sheetOf s) limit .kind ≡ kind.Full i) × (planFound (searchOf (sheetOf s) limit) ≡ q)
     at-full q i e h =
         let k = full-plan q i (within q h) in
-        (ap (λ (r : Searched). r .kind) (call ∙ ap answered e) ∙ k .0, ap (λ (r : Searched). planFound r) (call ∙ ap answered e) ∙ k .1)
+        (ap (λ (r : SearchAnswer). r .kind) (call ∙ ap answered e) ∙ k .0, ap (λ (r : SearchAnswer). planFound r) (call ∙ ap answered e) ∙ k .1)
 
     found-first : (q : List ℕ) → (answer ≡ found q) ↔ FirstPlan verdict-of moves limit q reached
     found-first = searches.search-found (x .problem) hπ t starts limit
@@ -188,12 +188,12 @@ module _ (s : List ℕ) (x : Statement) (says : Says s x) (limit : ℕ) (le : li
     -- the plan of the answer
     its-found : searchOf (sheetOf s) limit .kind ≡ kind.Reached → answer ≡ found (planFound (searchOf (sheetOf s) limit))
     its-found e =
-        let r = reached-is answer (ap (λ (r : Searched). r .kind) (sym call) ∙ e) in
+        let r = reached-is answer (ap (λ (r : SearchAnswer). r .kind) (sym call) ∙ e) in
         r .1 ∙ ap found (sym (at-found (r .0) (r .1) (found-first (r .0) .0 (r .1) .plan) .1))
 
     its-full : (i : ℕ) → searchOf (sheetOf s) limit .kind ≡ kind.Full i → answer ≡ fullAt (planFound (searchOf (sheetOf s) limit)) i
     its-full i e =
-        let r = full-is answer i (ap (λ (r : Searched). r .kind) (sym call) ∙ e) in
+        let r = full-is answer i (ap (λ (r : SearchAnswer). r .kind) (sym call) ∙ e) in
         r .1 ∙ ap (λ (q : List ℕ). fullAt q i) (sym (at-full (r .0) i (r .1) (full-first (r .0) i .0 (r .1) .plan) .1))
 
     by-reached : (q : List ℕ) → ((searchOf (sheetOf s) limit .kind ≡ kind.Reached) × (planFound (searchOf (sheetOf s) limit) ≡ q)) ↔ FirstRun (x .problem) limit q ran.Reached
@@ -211,7 +211,7 @@ module _ (s : List ℕ) (x : Statement) (says : Says s x) (limit : ℕ) (le : li
     )
 
     its-nothing : (searchOf (sheetOf s) limit .kind ≡ kind.Nothing) ↔ (answer ≡ nothing)
-    its-nothing = (λ e. nothing-is answer (ap (λ (r : Searched). r .kind) (sym call) ∙ e), λ e. ap (λ (r : Searched). r .kind) (call ∙ ap answered e) ∙ nothing-kind)
+    its-nothing = (λ e. nothing-is answer (ap (λ (r : SearchAnswer). r .kind) (sym call) ∙ e), λ e. ap (λ (r : SearchAnswer). r .kind) (call ∙ ap answered e) ∙ nothing-kind)
 
     by-nothing : (searchOf (sheetOf s) limit .kind ≡ kind.Nothing) ↔ ((q : List ℕ) → PlanOf moves limit q → Misses (runWith (x .problem) q .verdict))
     by-nothing = (
@@ -223,7 +223,7 @@ module _ (s : List ℕ) (x : Statement) (says : Says s x) (limit : ℕ) (le : li
     ends i e =
         let q = planFound (searchOf (sheetOf s) limit) in
         searches.full-at-end (x .problem) hπ t starts limit q i (its-full i e)
-        ∙ sym (ap (λ (r : Searched). r .length) (call ∙ ap answered (its-full i e)) ∙ full-length q i)
+        ∙ sym (ap (λ (r : SearchAnswer). r .length) (call ∙ ap answered (its-full i e)) ∙ full-length q i)
 
     found-by : searchOf (sheetOf s) limit .kind ≡ kind.Reached
         → Solves (x .problem) (planFound (searchOf (sheetOf s) limit))
@@ -369,7 +369,7 @@ module _ (s : List ℕ) (x : Statement) (says : Says s x) (limit : ℕ) (le : li
       go (inr t) = spoiled-by (t .0) (t .1) r h (search-full (planFound (searchOf (sheetOf s) limit)) k .0 (e, refl) .earlier r h l)
 
 -- ---- the eight bytes of a search
-abbrev Padded : Searched → Type 0
+abbrev Padded : SearchAnswer → Type 0
 Padded r = (r .length ≤ 8) × (r .plan ≡ pad 8 0 (planFound r))
 
 padded-refused : (k q : ℕ) → Padded (refusedSearch k q)
@@ -385,7 +385,7 @@ padded-answer nothing f g = unfold answered pad in (omega arith, refl)
 abbrev Short : Answer → Type 0
 Short a = ((q : List ℕ) → a ≡ found q → length q ≤ 8) × ((q : List ℕ) (k : ℕ) → a ≡ fullAt q k → length q ≤ 8)
 
-module _ (P : Searched → Type 0) (none-found : (k q : ℕ) → P (refusedSearch k q)) (any-answer : (a : Answer) → Short a → P (answered a)) (s : List ℕ) (limit : ℕ) where
+module _ (P : SearchAnswer → Type 0) (none-found : (k q : ℕ) → P (refusedSearch k q)) (any-answer : (a : Answer) → Short a → P (answered a)) (s : List ℕ) (limit : ℕ) where
   module _ (x : Statement) (e : sheetOf s ≡ accepted x) where
     by-start : (N : ℕ) → limit ≤ 8 → startTable 128 (x .problem) ≡ Outcome.refused N → searchOf (sheetOf s) limit ≡ refusedSearch N 0
     unfolding searched
@@ -419,7 +419,7 @@ pub search-bytes : (s : List ℕ) (limit : ℕ) → Padded (searchOf (sheetOf s)
 search-bytes = search-any Padded padded-refused (λ a h. padded-answer a (h .0) (h .1))
 
 -- none has length 0
-abbrev Unplanned : Searched → Type 0
+abbrev Unplanned : SearchAnswer → Type 0
 Unplanned r = r .kind ≡ kind.Nothing → r .length ≡ 0
 
 unplanned : (a : Answer) → Unplanned (answered a)

@@ -13,13 +13,13 @@ use Rattle.sheet.specs.Problem.{Problem}
 use Rattle.sheet.specs.Encoding.{ProperProblem}
 use Rattle.sheet.specs.Decoded.{planIn, problemIn, statementIn, judgementIn}
 use Rattle.sheet.specs.Format.{sheetOf}
-use Rattle.sheet.specs.Rows.{itemsAt, actionFrom, clausesAt}
-use Rattle.sheet.proofs.RowLaws.{items-length}
+use Rattle.sheet.specs.Packed.{itemsAt, actionFrom, clausesAt}
+use Rattle.sheet.proofs.PackedLaws.{items-length}
 use Rattle.sheet.proofs.SlotLaws.{accepted-proper, ors-few, oneofs-few, numbers-below}
-use Rattle.table.specs.declared.Tabled.{Tabled}
+use Rattle.table.specs.declared.TableAnswer.{TableAnswer}
 use Rattle.table.specs.declared.steps.Stepped.{Stepped}
 use Rattle.table.specs.declared.steps.Stepped.the-variants as stepped
-use Rattle.table.specs.Start.{orOf, oneOf, clausesOf, growAll, startTable}
+use Rattle.table.specs.Start.{orOf, oneOf, startClauses, growAll, startTable}
 use Rattle.table.specs.Slots.{entries, tableOf}
 use Rattle.table.specs.Moves.{lent, tabled, Filled}
 use Rattle.table.specs.Calls.{orGiven}
@@ -28,7 +28,7 @@ use Rattle.plan.specs.Course.{refusedCourse, courseFrom, plannedCourse, 
 use Rattle.plan.specs.Walks.{Searchable, Runnable, searchedBy}
 use Rattle.plan.proofs.Courses.{start-ready, start-run, start-halt}
 use Rattle.plan.proofs.SearchCalls.{searchable, runnable, sought, coursed, sought-from, sought-refused}
-use Rattle.sheet.specs.Rows.{setsRow, actionOf}
+use Rattle.sheet.specs.Packed.{setsIn, actionOf}
 
 -- what `decode` gave of an accepted sheet
 pub filled : (d : Decoded) (ors oneofs goal moves s : List ℕ) → (judgementIn d ors oneofs goal moves ≡ sheetOf s) × (d .sheet .plan .count ≤ 64) → d .answer ≡ Accepted
@@ -66,7 +66,7 @@ module _ (x : Sheet) (ors oneofs goal moves : List ℕ) (h : Filled x ors oneofs
   unfolding problemIn
   are = ap (λ (k : ℕ). itemsAt 35 actionFrom k moves) count-is
 
-  goal-is : setsRow goal ≡ p .goal
+  goal-is : setsIn goal ≡ p .goal
   unfolding problemIn
   goal-is = refl
 
@@ -77,11 +77,11 @@ module _ (x : Sheet) (ors oneofs goal moves : List ℕ) (h : Filled x ors oneofs
   module _ (r : Stepped) (ts fs : List ℕ)
       (e : tabled (tableOf []) r ts fs ≡ orGiven (tableOf []) (growAll 128 (map orOf (clausesAt (x .ors) ors) ++ map oneOf (clausesAt (x .oneofs) oneofs)) (x .known ∷ []))) where
     start-is : tabled (tableOf []) r ts fs ≡ orGiven (tableOf []) (startTable 128 p)
-    unfolding startTable clausesOf problemIn
+    unfolding startTable startClauses problemIn
     start-is = e
 
     module _ (k : ℕ) (q : r ≡ stepped.To k) where
-      abbrev first : Tabled
+      abbrev first : TableAnswer
       first = record { answer = Accepted; table = lent k ts fs }
 
       first-is : first ≡ orGiven (tableOf []) (startTable 128 p)
@@ -102,13 +102,13 @@ module _ (x : Sheet) (ors oneofs goal moves : List ℕ) (h : Filled x ors oneofs
       pub can-run : Runnable (x .plan) moves goal (lent k ts fs)
       can-run = runnable p proper moves goal (h .moves-long) are (h .goal-long) goal-is (lent k ts fs) ready (x .plan) (h .plan-most) numbers
 
-      pub run-is : courseFrom (setsRow goal) [] 0 (map (actionOf moves) (planIn (x .plan))) (entries (lent k ts fs)) ≡ plannedCourse p (planIn (x .plan)) (startTable 128 p)
+      pub run-is : courseFrom (setsIn goal) [] 0 (map (actionOf moves) (planIn (x .plan))) (entries (lent k ts fs)) ≡ plannedCourse p (planIn (x .plan)) (startTable 128 p)
       run-is =
           coursed p proper moves goal (h .moves-long) are (h .goal-long) goal-is (lent k ts fs) (planIn (x .plan)) numbers
           ∙ start-run p proper first first-is refl (planIn (x .plan))
 
     module _ (k : ℕ) (q : r ≡ stepped.Refused k) where
-      abbrev none : Tabled
+      abbrev none : TableAnswer
       none = record { answer = Refused k 0; table = tableOf [] }
 
       none-is : none ≡ orGiven (tableOf []) (startTable 128 p)

@@ -27,7 +27,7 @@ use Rattle.table.proofs.Stepping.{code-is, table-refused}
 use Rattle.table.proofs.Primes.{primeList-same}
 use Rattle.table.proofs.Pictures.{picture-list, picture-ascending, picture-worlds}
 use Rattle.table.proofs.Started.{at-proper}
-use Rattle.plan.specs.Run.{actionsOf, inGoal, Verdict, reached, short, stopped, full, ended, endedBy, runFrom, lastTable, movesTaken}
+use Rattle.plan.specs.Run.{actionsOf, inGoal, Verdict, reached, short, stopped, full, endedIn, haltedBy, runFrom, lastTable, movesTaken}
 use Rattle.plan.specs.Calls.{verdictOf}
 use Rattle.plan.specs.Places.{tableAt, Refuses}
 use Rattle.plan.specs.Meaning.{Ends, Every, Comes, Means}
@@ -48,11 +48,11 @@ pub taken-by : {A : Type 0} (cap : ℕ) (goal : List Literals) (plan : List Acti
 unfolding takenBy verdictOf
 taken-by cap goal plan t q same = go (story cap plan t)
   where
-    all : (b : Bool) → takenBy (verdictOf (ended b)) q ≡ q
+    all : (b : Bool) → takenBy (verdictOf (endedIn b)) q ≡ q
     all true = refl
     all false = refl
 
-    some-of : (b : Bool) (k N : ℕ) → takenBy (verdictOf (endedBy b (suc k) N)) q ≡ take k q
+    some-of : (b : Bool) (k N : ℕ) → takenBy (verdictOf (haltedBy b (suc k) N)) q ≡ take k q
     some-of true k N = let i : suc k - 1 ≡ k = omega arith in ap (λ (j : ℕ). take j q) i
     some-of false k N = let i : suc k - 1 ≡ k = omega arith in ap (λ (j : ℕ). take j q) i
 
@@ -112,16 +112,16 @@ module _ (p : Problem) (hp : ProperProblem p) (t : List Literals) (starts : star
   unfolding Told
   told = go (story 128 plan t)
     where
-      ends : (u : List Literals) → tableAt 128 (length plan) plan t ≡ some u → (b : Bool) → allOf (inGoal (p .goal)) u ≡ b → Told (ended b)
+      ends : (u : List Literals) → tableAt 128 (length plan) plan t ≡ some u → (b : Bool) → allOf (inGoal (p .goal)) u ≡ b → Told (endedIn b)
       ends u h true e = (u, h, λ w l i. goal-each (p .n) (p .goal) u (true-T (allOf (inGoal (p .goal)) u) e) w i)
       ends u h false e =
           let x = goal-lacks (p .n) (p .goal) u goals (place-arrives (length plan) u h .described .proper) (false-T (allOf (inGoal (p .goal)) u) e) in
           (u, h, (x .0, x .1 .1 .0, x .1 .0, x .1 .1 .1))
 
-      by : (k N : ℕ) → Refuses 128 plan t k N → stepping.Kind (refused N) → Told (endedBy (eqb N 21) (suc k) N)
-      by k N r (inl f) = let e = code-is f in subst (λ (c : ℕ). Told (endedBy (eqb c 21) (suc k) c)) (sym e) (k, refl, subst (Refuses 128 plan t k) e r, inl refl)
-      by k N r (inr (inl f)) = let e = code-is f in subst (λ (c : ℕ). Told (endedBy (eqb c 21) (suc k) c)) (sym e) (k, refl, subst (Refuses 128 plan t k) e r, inr refl)
-      by k N r (inr (inr (inl f))) = let e = code-is f in subst (λ (c : ℕ). Told (endedBy (eqb c 21) (suc k) c)) (sym e) (k, refl, subst (Refuses 128 plan t k) e r)
+      by : (k N : ℕ) → Refuses 128 plan t k N → stepping.Kind (refused N) → Told (haltedBy (eqb N 21) (suc k) N)
+      by k N r (inl f) = let e = code-is f in subst (λ (c : ℕ). Told (haltedBy (eqb c 21) (suc k) c)) (sym e) (k, refl, subst (Refuses 128 plan t k) e r, inl refl)
+      by k N r (inr (inl f)) = let e = code-is f in subst (λ (c : ℕ). Told (haltedBy (eqb c 21) (suc k) c)) (sym e) (k, refl, subst (Refuses 128 plan t k) e r, inr refl)
+      by k N r (inr (inr (inl f))) = let e = code-is f in subst (λ (c : ℕ). Told (haltedBy (eqb c 21) (suc k) c)) (sym e) (k, refl, subst (Refuses 128 plan t k) e r)
       by k N r (inr (inr (inr x))) = table-refused (x .0) N (sym (x .1))
 
       go : Story 128 plan t → Told verdict
@@ -130,7 +130,7 @@ module _ (p : Problem) (hp : ProperProblem p) (t : List Literals) (starts : star
           let r = x .2 in
           let e : 0 + x .0 ≡ x .0 = omega arith in
           let a = place-arrives (x .0) (r .last) (r .arrives) in
-          subst Told (sym (run-refused 128 (p .goal) 0 plan t (x .0) (x .1) r ∙ ap (λ (i : ℕ). endedBy (eqb (x .1) 21) (suc i) (x .1)) e))
+          subst Told (sym (run-refused 128 (p .goal) 0 plan t (x .0) (x .1) r ∙ ap (λ (i : ℕ). haltedBy (eqb (x .1) 21) (suc i) (x .1)) e))
           (by (x .0) (x .1) r (subst stepping.Kind (r .gives)
           (stepping.step-kind (p .n) (hp .n-most) (r .move) (all-next (ProperAction (p .n)) (x .0) plan (r .move) (r .later) (r .next) moves) (r .last) (a .described .proper) 128)))
 
@@ -144,9 +144,9 @@ module _ (p : Problem) (hp : ProperProblem p) (t : List Literals) (starts : star
           at : suc (0 + x .0) ≡ k
           at = omega (arith, x .1)
 
-          by : (c : ℕ) → N ≡ c → runFrom 128 (p .goal) 0 plan t ≡ endedBy (eqb c 21) k c
+          by : (c : ℕ) → N ≡ c → runFrom 128 (p .goal) 0 plan t ≡ haltedBy (eqb c 21) k c
           by c e =
-              run-refused 128 (p .goal) 0 plan t (x .0) c (subst (Refuses 128 plan t (x .0)) e (x .2)) ∙ ap (λ (i : ℕ). endedBy (eqb c 21) i c) at
+              run-refused 128 (p .goal) 0 plan t (x .0) c (subst (Refuses 128 plan t (x .0)) e (x .2)) ∙ ap (λ (i : ℕ). haltedBy (eqb c 21) i c) at
 
           go : (N ≡ 24) ⊎ (N ≡ 25) → runFrom 128 (p .goal) 0 plan t ≡ stopped k N
           go (inl e) = by 24 e ∙ ap (stopped k) (sym e)
@@ -162,7 +162,7 @@ module _ (p : Problem) (hp : ProperProblem p) (t : List Literals) (starts : star
     λ e. subst Told e told,
     λ x.
         run-ended 128 (p .goal) 0 plan t (x .0) (x .1)
-        ∙ ap ended (T-true (allOf (inGoal (p .goal)) (x .0)) (goal-entries (p .n) (p .goal) (x .0) goals (place-arrives (length plan) (x .0) (x .1) .described .proper) .1 (x .2))),
+        ∙ ap endedIn (T-true (allOf (inGoal (p .goal)) (x .0)) (goal-entries (p .n) (p .goal) (x .0) goals (place-arrives (length plan) (x .0) (x .1) .described .proper) .1 (x .2))),
   )
 
   pub by-short : (verdict ≡ short) ↔ Short
@@ -171,7 +171,7 @@ module _ (p : Problem) (hp : ProperProblem p) (t : List Literals) (starts : star
     λ e. subst Told e told,
     λ x.
         run-ended 128 (p .goal) 0 plan t (x .0) (x .1)
-        ∙ ap ended (T-false (allOf (inGoal (p .goal)) (x .0)) (not-in (allOf (inGoal (p .goal)) (x .0)) (λ g. x .2 .3 (goal-each (p .n) (p .goal) (x .0) g (x .2 .0) (x .2 .2))))),
+        ∙ ap endedIn (T-false (allOf (inGoal (p .goal)) (x .0)) (not-in (allOf (inGoal (p .goal)) (x .0)) (λ g. x .2 .3 (goal-each (p .n) (p .goal) (x .0) g (x .2 .0) (x .2 .2))))),
   )
 
   -- ---- (d) by the starting worlds

@@ -8,13 +8,13 @@ use Rattle.sheet.specs.Printed.{printed}
 use Rattle.sheet.specs.Format.{sheetOf}
 use Rattle.table.specs.Minimal.{put}
 use Rattle.table.specs.Step.{missing, split, image, stepTable}
-use Rattle.table.specs.Picture.{units, unions, fold, primes, before, insert, sortOnto, sort, picture}
+use Rattle.table.specs.Picture.{units, unions, fold, primes, precedes, insert, sortOnto, sort, picture}
 use Rattle.table.specs.Calls.{actionAt}
 use Rattle.table.specs.Counts.{sizeOf}
 use Rattle.table.specs.Slots.{tableOf}
 use Rattle.table.proofs.Examples.{paper, bench}
 use Rattle.plan.specs.declared.Row.{Row}
-use Rattle.plan.specs.declared.Ran.{Ran}
+use Rattle.plan.specs.declared.RunAnswer.{RunAnswer}
 use Rattle.plan.specs.declared.Verdict.{Verdict}
 use Rattle.plan.specs.declared.Verdict.the-variants.{Reached, Short, Stopped, Full, Refused}
 use Rattle.plan.specs.Text.{ascii, decimal, clausesText, rowText, rowsText, numberAt, lastLine, textOf, outputOf}
@@ -27,7 +27,7 @@ use Rattle.plan.proofs.PaperRuns.{first, given}
 abbrev row : ℕ → ℕ → ℕ → Row
 row place entries clauses = record { place = place; entries = entries; clauses = clauses }
 
-abbrev ends : Verdict → Ran
+abbrev ends : Verdict → RunAnswer
 ends verdict = record { verdict = verdict; table = tableOf [] }
 
 -- the whole output of the shown sheet
@@ -64,7 +64,7 @@ paperRows = row 0 3 4 ∷ row 1 2 3 ∷ row 2 1 3 ∷ []
 
 -- its rows
 paper-rows : rowsFrom 128 0 (actionsOf (paper .problem) (paper .plan)) first ≡ paperRows
-unfolding rowOf actionsOf actionAt stepTable split missing image put within join clash consistent flip literal single sign replace noLiteral members membersFrom contains mem has units unions fold primes before insert sortOnto sort picture sizeOf
+unfolding rowOf actionsOf actionAt stepTable split missing image put within join clash consistent flip literal single sign replace noLiteral members membersFrom contains mem has units unions fold primes precedes insert sortOnto sort picture sizeOf
 paper-rows = refl
 
 -- its whole output

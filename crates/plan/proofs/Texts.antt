@@ -13,7 +13,7 @@ use borrow.Author.Tests.{ltb-true, ltb-false, lt-ltb, le-ltb}
 use Rattle.plan.specs.declared.Row.{Row}
 use Rattle.plan.specs.declared.Counts.{Counts}
 use Rattle.plan.specs.Rows.{rowAt, rowsBelow}
-use Rattle.plan.specs.declared.Ran.{Ran}
+use Rattle.plan.specs.declared.RunAnswer.{RunAnswer}
 use Rattle.plan.specs.Demand3.{refusedVerdict, runRefused}
 use Rattle.plan.specs.Text.{ascii, digitsOf, decimal, rowText, rowsText, lastLine, textOf, Wrote}
 
@@ -137,13 +137,13 @@ wrote-row c i f h g = rw (add-one i, rows-snoc (rowsBelow c i) (rowAt c i)) (wro
 
 -- ---- the whole text
 -- of a refused run
-pub refused-text : (ran : Ran) (rows : List Row) {b : List ℕ} {r : ℕ} {e : List ℕ} → refusedVerdict (ran .verdict) ≡ true → Wrote b 0 (lastLine (ran .verdict)) r e
+pub refused-text : (ran : RunAnswer) (rows : List Row) {b : List ℕ} {r : ℕ} {e : List ℕ} → refusedVerdict (ran .verdict) ≡ true → Wrote b 0 (lastLine (ran .verdict)) r e
     → Wrote b 0 (textOf ran rows) r e
 unfolding textOf runRefused
 refused-text ran rows h f = rw h f
 
 -- of any other run
-pub whole-text : (ran : Ran) (rows : List Row) {b : List ℕ} {q : ℕ} {m : List ℕ} {r : ℕ} {e : List ℕ} → refusedVerdict (ran .verdict) ≡ false
+pub whole-text : (ran : RunAnswer) (rows : List Row) {b : List ℕ} {q : ℕ} {m : List ℕ} {r : ℕ} {e : List ℕ} → refusedVerdict (ran .verdict) ≡ false
     → Wrote b 0 (ascii "place entries clauses\n" ++ rowsText rows) q m → q ≤ length b → Wrote m q (lastLine (ran .verdict)) r e → Wrote b 0 (textOf ran rows) r e
 unfolding textOf runRefused
 whole-text ran rows h f i g = rw h (wrote-then f i g)

@@ -16,12 +16,12 @@ use Rattle.sheet.specs.Lists.{All, allOf}
 use Rattle.sheet.specs.Problem.{Action}
 use Rattle.sheet.specs.Encoding.{ProperAction}
 use Rattle.sheet.proofs.Bools.{test, true-T, false-T}
-use Rattle.table.specs.Worlds.{after, stepWorld, andThen, runWorld, InGoal}
+use Rattle.table.specs.Worlds.{worldAfter, stepWorld, andThen, runWorld, InGoal}
 use Rattle.table.specs.Minimal.{In, Described, refused, table}
 use Rattle.table.specs.Step.{stepTable}
 use Rattle.table.proofs.Stepping as stepping
 use Rattle.table.proofs.Stepping.{code-is, table-refused, step-taken, step-below}
-use Rattle.plan.specs.Run.{inGoal, Verdict, reached, short, stopped, full, ended, endedBy, runFrom}
+use Rattle.plan.specs.Run.{inGoal, Verdict, reached, short, stopped, full, endedIn, haltedBy, runFrom}
 use Rattle.plan.specs.Places.{tableAt, Refuses}
 use Rattle.plan.specs.Meaning.{Ends, Undefined, At, Inside, Outside, Lacking, Every, Some, Comes, StopsAt, Means}
 use Rattle.plan.specs.Demand3.{Class, isReached, isShort, isStopped}
@@ -111,20 +111,20 @@ module _ (cap n : ℕ) (hn : n ≤ 32) where
       onto : (m : List Literals) → stepTable cap a t ≡ table m → Arrives cap n (In n m) plan k u → Arrives cap n (In n t) (a ∷ plan) (suc k) u
       onto m e r = record { described = r .described; defined = ends; worlds = λ v l. (fore v l, back v l) }
         where
-          steps : (w : ℕ) → w < 2 ^ n → In n t w → stepWorld n a w ≡ some (after n a w)
+          steps : (w : ℕ) → w < 2 ^ n → In n t w → stepWorld n a w ≡ some (worldAfter n a w)
           steps = step-taken n hn a (hp .0) t (ht .proper) cap m e
 
-          low : (w : ℕ) → w < 2 ^ n → In n t w → after n a w < 2 ^ n
-          low w l i = step-below n a (hp .0) w (after n a w) l (steps w l i)
+          low : (w : ℕ) → w < 2 ^ n → In n t w → worldAfter n a w < 2 ^ n
+          low w l i = step-below n a (hp .0) w (worldAfter n a w) l (steps w l i)
 
-          goes : (w : ℕ) (l : w < 2 ^ n) (i : In n t w) → In n m (after n a w)
-          goes w l i = stepping.step-worlds n hn a (hp .0) t (ht .proper) cap m e (after n a w) (low w l i) .1 (w, (i, (l, steps w l i)))
+          goes : (w : ℕ) (l : w < 2 ^ n) (i : In n t w) → In n m (worldAfter n a w)
+          goes w l i = stepping.step-worlds n hn a (hp .0) t (ht .proper) cap m e (worldAfter n a w) (low w l i) .1 (w, (i, (l, steps w l i)))
 
-          run-is : (w : ℕ) → w < 2 ^ n → In n t w → runWorld n (a ∷ take k plan) w ≡ runWorld n (take k plan) (after n a w)
+          run-is : (w : ℕ) → w < 2 ^ n → In n t w → runWorld n (a ∷ take k plan) w ≡ runWorld n (take k plan) (worldAfter n a w)
           run-is w l i = ap (λ (o : Option ℕ). andThen o (runWorld n (take k plan))) (steps w l i)
 
           ends : Every n (In n t) Ends (a ∷ take k plan)
-          ends w l i = let y = r .defined (after n a w) (low w l i) (goes w l i) in (y .0, run-is w l i ∙ y .1)
+          ends w l i = let y = r .defined (worldAfter n a w) (low w l i) (goes w l i) in (y .0, run-is w l i ∙ y .1)
 
           fore : (v : ℕ) → v < 2 ^ n → In n u v → Comes n (In n t) (a ∷ take k plan) v
           fore v l i =
@@ -133,7 +133,7 @@ module _ (cap n : ℕ) (hn : n ≤ 32) where
               (z .0, z .1 .1 .0, z .1 .0, ap (λ (o : Option ℕ). andThen o (runWorld n (take k plan))) (z .1 .1 .1) ∙ y .3)
 
           back : (v : ℕ) → v < 2 ^ n → Comes n (In n t) (a ∷ take k plan) v → In n u v
-          back v l y = r .worlds v l .1 (after n a (y .0), low (y .0) (y .1) (y .2), goes (y .0) (y .1) (y .2), sym (run-is (y .0) (y .1) (y .2)) ∙ y .3)
+          back v l y = r .worlds v l .1 (worldAfter n a (y .0), low (y .0) (y .1) (y .2), goes (y .0) (y .1) (y .2), sym (run-is (y .0) (y .1) (y .2)) ∙ y .3)
 
   -- ---- from a table t that stands for the worlds of S
   module _ (plan : List Action) (hp : All (ProperAction n) plan) (t : List Literals) (ht : Described cap n t) (S : ℕ → Type 0)
@@ -151,7 +151,7 @@ module _ (cap n : ℕ) (hn : n ≤ 32) where
         }
 
     module _ (goal : List Literals) (hg : All (Proper n) goal) where
-      ended-means : (u : List Literals) → tableAt cap (length plan) plan t ≡ some u → (b : Bool) → allOf (inGoal goal) u ≡ b → Means n goal S plan (ended b)
+      ended-means : (u : List Literals) → tableAt cap (length plan) plan t ≡ some u → (b : Bool) → allOf (inGoal goal) u ≡ b → Means n goal S plan (endedIn b)
       ended-means u h = go
         where
           r : Arrives cap n S plan (length plan) u
@@ -160,7 +160,7 @@ module _ (cap n : ℕ) (hn : n ≤ 32) where
           whole : Every n S Ends plan × ((v : ℕ) → v < 2 ^ n → In n u v ↔ Comes n S plan v)
           whole = subst (λ (p : List Action). Every n S Ends p × ((v : ℕ) → v < 2 ^ n → In n u v ↔ Comes n S p v)) (take-length plan) (r .defined, r .worlds)
 
-          go : (b : Bool) → allOf (inGoal goal) u ≡ b → Means n goal S plan (ended b)
+          go : (b : Bool) → allOf (inGoal goal) u ≡ b → Means n goal S plan (endedIn b)
           go true e = λ w l s.
               let y = whole .0 w l s in
               (y .0, y .1, goal-each n goal u (true-T (allOf (inGoal goal) u) e) (y .0) (whole .1 (y .0) (run-below n plan hp w (y .0) l (y .1)) .1 (w, l, s, y .1)))
@@ -169,7 +169,7 @@ module _ (cap n : ℕ) (hn : n ≤ 32) where
               let y = whole .1 (x .0) (x .1 .1 .0) .0 (x .1 .0) in
               (whole .0, (y .0, y .1, y .2, (x .0, y .3, x .1 .1 .1)))
 
-      refused-means : (k N : ℕ) → Refuses cap plan t k N → Means n goal S plan (endedBy (eqb N 21) (suc k) N)
+      refused-means : (k N : ℕ) → Refuses cap plan t k N → Means n goal S plan (haltedBy (eqb N 21) (suc k) N)
       refused-means k N r = go (stepping.step-kind n hn (r .move) ha (r .last) hl cap)
         where
           arr : Arrives cap n S plan k (r .last)
@@ -207,10 +207,10 @@ module _ (cap n : ℕ) (hn : n ≤ 32) where
           stops c x y =
               record { before = k; place = refl; move = r .move; later = r .later; next = r .next; taken = arr .defined; lost = x; number = y }
 
-          by : (c : ℕ) → stepTable cap (r .move) (r .last) ≡ refused c → Means n goal S plan (endedBy (eqb c 21) (suc k) c) → Means n goal S plan (endedBy (eqb N 21) (suc k) N)
-          by c f m = subst (λ (x : ℕ). Means n goal S plan (endedBy (eqb x 21) (suc k) x)) (code-is (sym f ∙ r .gives)) m
+          by : (c : ℕ) → stepTable cap (r .move) (r .last) ≡ refused c → Means n goal S plan (haltedBy (eqb c 21) (suc k) c) → Means n goal S plan (haltedBy (eqb N 21) (suc k) N)
+          by c f m = subst (λ (x : ℕ). Means n goal S plan (haltedBy (eqb x 21) (suc k) x)) (code-is (sym f ∙ r .gives)) m
 
-          go : stepping.Kind (stepTable cap (r .move) (r .last)) → Means n goal S plan (endedBy (eqb N 21) (suc k) N)
+          go : stepping.Kind (stepTable cap (r .move) (r .last)) → Means n goal S plan (haltedBy (eqb N 21) (suc k) N)
           go (inl f) = by 24 f (stops 24 (lost (inl f)) (inl (refl, unsure f)))
           go (inr (inl f)) = by 25 f (stops 25 (lost (inr f)) (inr (refl, sure f)))
           go (inr (inr (inl f))) = by 21 f tt
@@ -224,7 +224,7 @@ module _ (cap n : ℕ) (hn : n ≤ 32) where
           go (inl x) = subst (Means n goal S plan) (sym (run-ended cap goal 0 plan t (x .0) (x .1))) (ended-means (x .0) (x .1) (allOf (inGoal goal) (x .0)) refl)
           go (inr x) =
               let q : 0 + x .0 ≡ x .0 = omega arith in
-              subst (Means n goal S plan) (sym (run-refused cap goal 0 plan t (x .0) (x .1) (x .2) ∙ ap (λ (i : ℕ). endedBy (eqb (x .1) 21) (suc i) (x .1)) q)) (refused-means (x .0) (x .1) (x .2))
+              subst (Means n goal S plan) (sym (run-refused cap goal 0 plan t (x .0) (x .1) (x .2) ∙ ap (λ (i : ℕ). haltedBy (eqb (x .1) 21) (suc i) (x .1)) q)) (refused-means (x .0) (x .1) (x .2))
 
 -- ---- the three kinds of end exclude each other, also of two plans that every world ends alike
 abbrev pub ClassMeans : ℕ → List Literals → (ℕ → Type 0) → List Action → Class → Type 0

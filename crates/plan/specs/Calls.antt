@@ -12,9 +12,9 @@ use Rattle.table.specs.Minimal.{Outcome}
 use Rattle.table.specs.Start.{startTable}
 use Rattle.table.specs.Slots.{tableOf}
 use Rattle.plan.specs.declared.Row.{Row}
-use Rattle.plan.specs.declared.Ran.{Ran}
+use Rattle.plan.specs.declared.RunAnswer.{RunAnswer}
 use Rattle.plan.specs.declared.Verdict as case
-use Rattle.plan.specs.declared.Searched.{Searched}
+use Rattle.plan.specs.declared.SearchAnswer.{SearchAnswer}
 use Rattle.plan.specs.Run.{Verdict, runFrom, lastTable, rowsFrom, actionsOf}
 use Rattle.plan.specs.Search.{Answer, found, fullAt, nothing, firstOf, plansUpTo}
 use Rattle.plan.specs.Cases.{RunEnd, verdictCase, SearchEnd, kindCase}
@@ -25,11 +25,11 @@ use Rattle.plan.specs.Cases.{RunEnd, verdictCase, SearchEnd, kindCase}
 unfoldable pub verdictOf : Verdict → case.Verdict
 verdictOf v = verdictCase (RunEnd.ended v)
 
-unfoldable pub refusedRun : ℕ → ℕ → Ran
+unfoldable pub refusedRun : ℕ → ℕ → RunAnswer
 refusedRun number position = record { verdict = verdictCase (RunEnd.refused number position); table = tableOf [] }
 
 -- the run of any plan of a problem
-unfoldable pub planned : Problem → List ℕ → Outcome → Ran
+unfoldable pub planned : Problem → List ℕ → Outcome → RunAnswer
 planned p plan (Outcome.refused number) = refusedRun number 0
 planned p plan (Outcome.table t) =
     record {
@@ -37,7 +37,7 @@ planned p plan (Outcome.table t) =
       table = tableOf (lastTable 128 (actionsOf p plan) t);
     }
 
-unfoldable pub runOf : Judgement → ℕ → Ran
+unfoldable pub runOf : Judgement → ℕ → RunAnswer
 runOf (refused k p) rows = refusedRun k p
 runOf (accepted x) rows = cond (ltb rows 65) (refusedRun 23 0) (planned (x .problem) (x .plan) (startTable 128 (x .problem)))
 
@@ -55,7 +55,7 @@ unfoldable pub rowsAfter : Judgement → List Row → List Row
 rowsAfter sheet rows = rowsOf sheet (length rows) ++ drop (length (rowsOf sheet (length rows))) rows
 
 -- ---- search: a fault of the sheet; 8 for a limit above 8; 20 or 21 of the start; then the plans in order
-unfoldable pub refusedSearch : ℕ → ℕ → Searched
+unfoldable pub refusedSearch : ℕ → ℕ → SearchAnswer
 refusedSearch number position = record { kind = kindCase (SearchEnd.refused number position); plan = pad 8 0 []; length = 0 }
 
 -- the plan of an answer, with no move for none
@@ -65,17 +65,17 @@ planFrom (fullAt plan place) = plan
 planFrom nothing = []
 
 -- eight bytes with the length; bytes past it are zero, and for none the length is 0
-unfoldable pub answered : Answer → Searched
+unfoldable pub answered : Answer → SearchAnswer
 answered a = record { kind = kindCase (SearchEnd.answered a); plan = pad 8 0 (planFrom a); length = length (planFrom a) }
 
 -- the first plan of at most `limit` moves that is reached or full
 unfoldable pub searchedFrom : Problem → ℕ → List Literals → Answer
 searchedFrom p limit t = firstOf (λ plan. runFrom 128 (p .goal) 0 (actionsOf p plan) t) (plansUpTo (length (p .actions)) limit)
 
-unfoldable pub searched : Problem → ℕ → Outcome → Searched
+unfoldable pub searched : Problem → ℕ → Outcome → SearchAnswer
 searched p limit (Outcome.refused number) = refusedSearch number 0
 searched p limit (Outcome.table t) = answered (searchedFrom p limit t)
 
-unfoldable pub searchOf : Judgement → ℕ → Searched
+unfoldable pub searchOf : Judgement → ℕ → SearchAnswer
 searchOf (refused k p) limit = refusedSearch k p
 searchOf (accepted x) limit = cond (ltb 8 limit) (refusedSearch 8 0) (searched (x .problem) limit (startTable 128 (x .problem)))

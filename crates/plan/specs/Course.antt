@@ -16,7 +16,7 @@ use Rattle.table.specs.Moves as M
 use Rattle.plan.specs.declared.Row.{Row}
 use Rattle.plan.specs.declared.Counts.{Counts}
 use Rattle.plan.specs.declared.Course.{Course}
-use Rattle.plan.specs.declared.Went.{Went}
+use Rattle.plan.specs.declared.RunRecord.{RunRecord}
 use Rattle.plan.specs.Run.{runFrom, lastTable, rowsFrom}
 use Rattle.plan.specs.Calls.{verdictOf, refusedRun, planned, plannedRows, runOf, rowsOf}
 
@@ -34,7 +34,7 @@ abbrev pub countsIn : ℕ → List ℕ → List ℕ → Counts
 countsIn k es cs = record { count = k; entries = es; clauses = cs }
 
 -- a run, with the masks of its last table and the numbers of its rows
-abbrev pub courseIn : Went → List ℕ → List ℕ → List ℕ → List ℕ → Course
+abbrev pub courseIn : RunRecord → List ℕ → List ℕ → List ℕ → List ℕ → Course
 courseIn w ts fs es cs = record { ran = record { verdict = w .verdict; table = M.lent (w .size) ts fs }; counts = countsIn (w .rows) es cs }
 
 -- ---- its parts

@@ -13,7 +13,7 @@ use Rattle.sheet.specs.Format.{accepted, sheetOf}
 use Rattle.table.specs.Worlds.{andThen}
 use Rattle.table.specs.Picture.{picture, pictureBytes}
 use Rattle.table.specs.Slots.{entries}
-use Rattle.plan.specs.declared.Ran.{Ran}
+use Rattle.plan.specs.declared.RunAnswer.{RunAnswer}
 use Rattle.plan.specs.declared.Verdict as case
 use Rattle.plan.specs.declared.Verdict.the-variants.{Reached, Short, Stopped, Full, Refused}
 
@@ -53,18 +53,18 @@ takenBy (Full place) plan = take (place - 1) plan
 takenBy (Refused number position) plan = []
 
 -- ---- of a run
-unfoldable pub runFull : Ran → Bool
+unfoldable pub runFull : RunAnswer → Bool
 runFull r = fullVerdict (r .verdict)
 
-unfoldable pub runRefused : Ran → Bool
+unfoldable pub runRefused : RunAnswer → Bool
 runRefused r = refusedVerdict (r .verdict)
 
 -- the clauses of the returned table's picture: none if it is full (21), or the run is refused
-unfoldable pub finalClauses : Ran → Option (List Literals)
+unfoldable pub finalClauses : RunAnswer → Option (List Literals)
 finalClauses r = cond (runRefused r) none (picture (entries (r .table)))
 
 -- their bytes; that the picture call writes just these for the returned table is the law `final-is`
-unfoldable pub finalPicture : Ran → Option (List ℕ)
+unfoldable pub finalPicture : RunAnswer → Option (List ℕ)
 finalPicture r = andThen (finalClauses r) (λ s. some (pictureBytes s))
 
 -- ---- two plans on one sheet: two accepted sheets alike in sections 1 to 6
@@ -74,7 +74,7 @@ pub record SamePlanSheet (s₁ s₂ : List ℕ) (x y : Statement) : Type 0 where
   pub alike : x .problem ≡ y .problem
 
 -- ---- two runs end alike: their verdicts are in one class, and unless that is stopped, final pictures that are not full have equal bytes
-pub record SameEnd (r₁ r₂ : Ran) : Type 0 where
+pub record SameEnd (r₁ r₂ : RunAnswer) : Type 0 where
   pub class : Class
   pub first : classOf (r₁ .verdict) ≡ some class
   pub second : classOf (r₂ .verdict) ≡ some class

@@ -20,8 +20,8 @@ use Rattle.table.specs.declared.Table.{Table}
 use Rattle.table.specs.Worlds.{andThen, Starting}
 use Rattle.table.specs.Calls.{startOf, stepOf}
 use Rattle.table.specs.PictureCalls.{pictureOf, bufferOf}
-use Rattle.plan.specs.declared.Ran.{Ran}
-use Rattle.plan.specs.declared.Searched.{Searched}
+use Rattle.plan.specs.declared.RunAnswer.{RunAnswer}
+use Rattle.plan.specs.declared.SearchAnswer.{SearchAnswer}
 use Rattle.plan.specs.declared.Verdict as case
 use Rattle.plan.specs.declared.Verdict.the-variants as ran
 use Rattle.plan.specs.Run.{actionsOf}
@@ -87,7 +87,7 @@ finalOf s rows =
 
 -- ---- searches
 -- the call run on the sheet that carries the plan q
-abbrev pub runWith : Problem → List ℕ → Ran
+abbrev pub runWith : Problem → List ℕ → RunAnswer
 runWith p q = runOf (sheetOf (encode (record { problem = p; plan = q }))) 65
 
 -- short or stopped
@@ -105,7 +105,7 @@ pub record FirstRun (p : Problem) (limit : ℕ) (q : List ℕ) (v : case.Verdict
   pub earlier : (r : List ℕ) → PlanOf (length (p .actions)) limit r → Earlier r q → Misses (runWith p r .verdict)
 
 -- the plan in the answer: as many of its eight bytes as its length says
-abbrev pub planFound : Searched → List ℕ
+abbrev pub planFound : SearchAnswer → List ℕ
 planFound r = take (r .length) (r .plan)
 
 -- ---- moves that touch (document 02, W2)

@@ -32,7 +32,7 @@ use Rattle.sheet.specs.Printed.{printed}
 use Rattle.table.specs.declared.Table.{Table}
 use Rattle.table.specs.Worlds.{results, stepWorld, andThen, Starting, InGoal}
 use Rattle.table.specs.Minimal.{In, Least, table}
-use Rattle.table.specs.Start.{clausesOf, growAll}
+use Rattle.table.specs.Start.{startClauses, growAll}
 use Rattle.table.specs.Picture.{Ascending, picture, pictureBytes}
 use Rattle.table.specs.Prime.{Exactly}
 use Rattle.table.specs.Slots.{entries, tableOf}
@@ -115,7 +115,7 @@ pub record StartDemand (s : List ℕ) (x : Statement) : Type 0 where
   pub on-21 : (startOf (sheetOf s) .answer ≡ Refused 21 0) ↔ StartStops (x .problem) none
   -- accepted under neither, with the table as built
   pub accepted : (startOf (sheetOf s) .answer ≡ Accepted)
-      ↔ ((t : List Literals) × (growAll 128 (clausesOf (x .problem)) (x .problem .known ∷ []) ≡ table t) × (startOf (sheetOf s) .table ≡ tableOf t))
+      ↔ ((t : List Literals) × (growAll 128 (startClauses (x .problem)) (x .problem .known ∷ []) ≡ table t) × (startOf (sheetOf s) .table ≡ tableOf t))
   -- no other answer than these three
   pub numbers : (startOf (sheetOf s) .answer ≡ Accepted) ⊎ ((startOf (sheetOf s) .answer ≡ Refused 20 0) ⊎ (startOf (sheetOf s) .answer ≡ Refused 21 0))
   -- "20 no starting world"

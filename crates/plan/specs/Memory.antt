@@ -5,9 +5,9 @@ use mathlib.Core.List.{List}
 use Prim.Native.Nat.{ℕ, _+_, _*_, _≤_, _<_}
 use lib.ListN.{length, getD, take, drop}
 use Rattle.sheet.specs.declared.Literals.{Literals}
-use Rattle.sheet.specs.Rows.{rowOf, setsRow, actionOf}
+use Rattle.sheet.specs.Packed.{itemAt, setsIn, actionOf}
 use Rattle.table.specs.Slots.{entriesOf}
-use Rattle.plan.specs.Walks.{Quiet}
+use Rattle.plan.specs.Walks.{NoShorterPlan}
 
 -- ---- a slot: its mark, how many entries, their masks
 abbrev pub markIn : List ℕ → ℕ
@@ -18,16 +18,16 @@ tableIn slot = entriesOf (getD slot 1 0) (take 128 (drop 2 slot)) (take 128 (dro
 
 -- no plan of fewer than `mark` moves from the table es is reached or full
 abbrev pub Known : List ℕ → ℕ → List ℕ → List Literals → ℕ → Type 0
-Known moves count goal es mark = Quiet (setsRow goal) (actionOf moves) count 0 es mark
+Known moves count goal es mark = NoShorterPlan (setsIn goal) (actionOf moves) count 0 es mark
 
 -- so it is of every slot
 abbrev pub Remembers : List ℕ → ℕ → List ℕ → List ℕ → Type 0
 Remembers moves count goal memory =
-    (j : ℕ) → j * 258 + 258 ≤ length memory → Known moves count goal (tableIn (rowOf 258 memory j)) (markIn (rowOf 258 memory j))
+    (j : ℕ) → j * 258 + 258 ≤ length memory → Known moves count goal (tableIn (itemAt 258 memory j)) (markIn (itemAt 258 memory j))
 
 -- some slot has the table es, with a mark above `left`
 pub record Recalls (memory : List ℕ) (es : List Literals) (left : ℕ) : Type 0 where
   pub slot : ℕ
   pub room : slot * 258 + 258 ≤ length memory
-  pub above : left < markIn (rowOf 258 memory slot)
-  pub alike : tableIn (rowOf 258 memory slot) ≡ es
+  pub above : left < markIn (itemAt 258 memory slot)
+  pub alike : tableIn (itemAt 258 memory slot) ≡ es

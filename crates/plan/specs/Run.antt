@@ -29,22 +29,22 @@ pub data Verdict : Type 0 where
   stopped : ℕ → ℕ → Verdict
   full : ℕ → Verdict
 
-abbrev pub ended : Bool → Verdict
-ended true = reached
-ended false = short
+abbrev pub endedIn : Bool → Verdict
+endedIn true = reached
+endedIn false = short
 
 -- what a refused step means for a run: 21 is full, 24 and 25 stop it
-abbrev pub endedBy : Bool → ℕ → ℕ → Verdict
-endedBy true place number = full place
-endedBy false place number = stopped place number
+abbrev pub haltedBy : Bool → ℕ → ℕ → Verdict
+haltedBy true place number = full place
+haltedBy false place number = stopped place number
 
 abbrev pub onward : Outcome → ℕ → (List Literals → Verdict) → Verdict
-onward (refused number) place next = endedBy (eqb number 21) place number
+onward (refused number) place next = haltedBy (eqb number 21) place number
 onward (table t) place next = next t
 
 -- the verdict of the rest of a plan from the table t, `place` moves already taken
 abbrev pub runFrom : ℕ → List Literals → ℕ → List Action → List Literals → Verdict
-runFrom cap goal place [] t = ended (allOf (inGoal goal) t)
+runFrom cap goal place [] t = endedIn (allOf (inGoal goal) t)
 runFrom cap goal place (a ∷ plan) t = onward (stepTable cap a t) (suc place) (λ u. runFrom cap goal (suc place) plan u)
 
 -- ---- the last table it had

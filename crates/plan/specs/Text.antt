@@ -9,7 +9,7 @@ use lib.Dec.{ltb, eqb}
 use lib.ListN.{length, take, drop}
 use Rattle.sheet.specs.Format.{Judgement}
 use Rattle.plan.specs.declared.Row.{Row}
-use Rattle.plan.specs.declared.Ran.{Ran}
+use Rattle.plan.specs.declared.RunAnswer.{RunAnswer}
 use Rattle.plan.specs.declared.Verdict.{Verdict}
 use Rattle.plan.specs.declared.Verdict.the-variants.{Reached, Short, Stopped, Full, Refused}
 use Rattle.plan.specs.Calls.{runOf, rowsOf}
@@ -55,7 +55,7 @@ lastLine (Full place) = ascii "full at " ++ (decimal place ++ ascii "\n")
 lastLine (Refused number position) = numberAt (ascii "refused ") number position
 
 -- the whole output: the header and the rows, then the last line; "A refused sheet or start prints only `refused N at P`"
-unfoldable pub textOf : Ran → List Row → List ℕ
+unfoldable pub textOf : RunAnswer → List Row → List ℕ
 textOf r rows = cond (runRefused r) [] (ascii "place entries clauses\n" ++ rowsText rows) ++ lastLine (r .verdict)
 
 -- the whole output for a sheet, by a run with 65 rows

@@ -9,10 +9,10 @@ use Rattle.sheet.specs.Problem.{Action}
 use Rattle.sheet.specs.Encoding.{ProperAction}
 use Rattle.sheet.specs.declared.Plan.{Plan}
 use Rattle.sheet.specs.Decoded.{planIn}
-use Rattle.sheet.specs.Rows.{setsRow, SetsFit}
+use Rattle.sheet.specs.Packed.{setsIn, SetsFit}
 use Rattle.table.specs.declared.Table.{Table}
 use Rattle.table.specs.Slots.{entries}
-use Rattle.plan.specs.declared.Searched.{Searched}
+use Rattle.plan.specs.declared.SearchAnswer.{SearchAnswer}
 use Rattle.plan.specs.declared.Kind.{Kind}
 use Rattle.plan.specs.declared.Kind.the-variants as kind
 use Rattle.plan.specs.Run.{Verdict, runFrom}
@@ -20,7 +20,7 @@ use Rattle.plan.specs.Search.{plansOf, plansUpTo, Answer, found, fullAt,
 use Rattle.plan.specs.Order.{Fails}
 use Rattle.plan.specs.Calls.{answered}
 use Rattle.plan.specs.Course.{Ready}
-use Rattle.sheet.specs.Rows.{countOf, actionOf}
+use Rattle.sheet.specs.Packed.{countOf, actionOf}
 
 -- ---- the first answer from the table t, `place` moves already taken, by the numbers of the moves f
 -- the verdict of a plan
@@ -36,21 +36,21 @@ abbrev pub firstBy : List Literals → (ℕ → Action) → ℕ → ℕ → List
 firstBy goal f k place t n m = firstOf (ranFrom goal f place t) (map (λ p. m ∷ p) (plansOf k n))
 
 -- no plan of fewer than n of the k moves is reached or full
-abbrev pub Quiet : List Literals → (ℕ → Action) → ℕ → ℕ → List Literals → ℕ → Type 0
-Quiet goal f k place t n = (q : List ℕ) → All (λ i. i < k) q → length q < n → Fails (ranFrom goal f place t q)
+abbrev pub NoShorterPlan : List Literals → (ℕ → Action) → ℕ → ℕ → List Literals → ℕ → Type 0
+NoShorterPlan goal f k place t n = (q : List ℕ) → All (λ i. i < k) q → length q < n → Fails (ranFrom goal f place t q)
 
 -- ---- the answer of an inner call: its plan from byte `at` on, zeros before it for the moves taken
-unfoldable pub answeredAt : ℕ → Answer → Searched
+unfoldable pub answeredAt : ℕ → Answer → SearchAnswer
 answeredAt at (found p) = record { kind = kind.Reached; plan = pad 8 0 (replicate at 0 ++ p); length = at + length p }
 answeredAt at (fullAt p k) = record { kind = kind.Full k; plan = pad 8 0 (replicate at 0 ++ p); length = at + length p }
 answeredAt at nothing = answered nothing
 
 -- it is an end: not nothing
-abbrev pub endedBy : Kind → Bool
-endedBy kind.Reached = true
-endedBy (kind.Full k) = true
-endedBy kind.Nothing = false
-endedBy (kind.Refused number position) = true
+abbrev pub isEnd : Kind → Bool
+isEnd kind.Reached = true
+isEnd (kind.Full k) = true
+isEnd kind.Nothing = false
+isEnd (kind.Refused number position) = true
 
 -- ---- moves laid out, goal and table over the same n propositions, within their slots
 pub record Searchable (moves : List ℕ) (count : ℕ) (goal : List ℕ) (t : Table) : Type 0 where
@@ -74,14 +74,14 @@ pub record Runnable (plan : Plan) (moves : List ℕ) (goal : List ℕ) (t : Tabl
 
 -- no shorter plan from here has an answer
 abbrev pub Unmet : List ℕ → ℕ → List ℕ → Table → ℕ → ℕ → Type 0
-Unmet moves count goal t at left = Quiet (setsRow goal) (actionOf moves) count at (entries t) left
+Unmet moves count goal t at left = NoShorterPlan (setsIn goal) (actionOf moves) count at (entries t) left
 
 -- ---- what the inner calls answer
-abbrev pub walked : List ℕ → ℕ → List ℕ → Table → ℕ → ℕ → Searched
-walked moves count goal t at left = answeredAt at (firstFrom (setsRow goal) (actionOf moves) count at (entries t) left)
+abbrev pub plansTried : List ℕ → ℕ → List ℕ → Table → ℕ → ℕ → SearchAnswer
+plansTried moves count goal t at left = answeredAt at (firstFrom (setsIn goal) (actionOf moves) count at (entries t) left)
 
-abbrev pub begun : List ℕ → ℕ → List ℕ → Table → ℕ → ℕ → ℕ → Searched
-begun moves count goal t at left m = answeredAt at (firstBy (setsRow goal) (actionOf moves) count at (entries t) left m)
+abbrev pub moveTried : List ℕ → ℕ → List ℕ → Table → ℕ → ℕ → ℕ → SearchAnswer
+moveTried moves count goal t at left m = answeredAt at (firstBy (setsIn goal) (actionOf moves) count at (entries t) left m)
 
-abbrev pub searchedBy : List ℕ → ℕ → List ℕ → Table → ℕ → Searched
-searchedBy moves count goal t limit = answered (firstOf (ranFrom (setsRow goal) (actionOf moves) 0 (entries t)) (plansUpTo count limit))
+abbrev pub searchedBy : List ℕ → ℕ → List ℕ → Table → ℕ → SearchAnswer
+searchedBy moves count goal t limit = answered (firstOf (ranFrom (setsIn goal) (actionOf moves) 0 (entries t)) (plansUpTo count limit))

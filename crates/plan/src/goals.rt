@@ -1,15 +1,15 @@
 // The goal test: each clause of the goal shares a literal with an entry, and so with every entry of a belief state.
 use sheet::Literals;
 use sheet::masks;
-use sheet::rows::count_of;
-use sheet::rows::set_at;
+use sheet::packed::count_of;
+use sheet::packed::set_at;
 use table::tables::entry_at;
 ghost use mathlib.Core.Path.{_≡_};
 ghost use Prim.Native.Nat.{_≤_};
 ghost use lib.ListN.{length};
 ghost use Rattle.sheet.specs.Literals as L;
 ghost use Rattle.sheet.specs.Lists.{allOf};
-ghost use Rattle.sheet.specs.Rows.{setsRow, SetsFit};
+ghost use Rattle.sheet.specs.Packed.{setsIn, SetsFit};
 ghost use Rattle.table.specs.Slots.{entriesOf};
 ghost use Rattle.plan.specs.Run.{inGoal};
 
@@ -23,7 +23,7 @@ pub(crate) fn shares(c: Literals, d: Literals) -> bool
 // Each clause of the goal shares a literal with the entry d.
 pub(crate) fn in_goal(goal: &[u32], d: Literals) -> bool
     requires { ⌜ SetsFit (now goal) ⌝ }
-    ensures { λ r. ⌜ r ≡ inGoal (setsRow (now (goal .entry))) d ⌝ }
+    ensures { λ r. ⌜ r ≡ inGoal (setsIn (now (goal .entry))) d ⌝ }
 {
     let count = count_of(goal);
     let mut i: usize = 0;
@@ -46,7 +46,7 @@ pub(crate) fn all_in_goal<'a, 'b>(
 ) -> bool
     requires { ⌜ SetsFit (now goal) ⌝ }
     requires { ⌜ (count ≤ length (now trues)) × (count ≤ length (now falses)) ⌝ }
-    ensures { λ r. ⌜ r ≡ allOf (inGoal (setsRow (now (goal .entry)))) (entriesOf count (now (trues .entry)) (now (falses .entry))) ⌝ }
+    ensures { λ r. ⌜ r ≡ allOf (inGoal (setsIn (now (goal .entry)))) (entriesOf count (now (trues .entry)) (now (falses .entry))) ⌝ }
 {
     let mut i: usize = 0;
     while i < count {

@@ -32,7 +32,7 @@ pub enum Verdict {
 }
 
 // The verdict, and the last table that the run had.
-pub struct Ran {
+pub struct RunAnswer {
     pub verdict: Verdict,
     pub table: Table,
 }
@@ -46,7 +46,7 @@ pub enum Kind {
 }
 
 // The answer, and the plan: its moves in the first bytes, zeros after its length.
-pub struct Searched {
+pub struct SearchAnswer {
     pub kind: Kind,
     pub plan: [u8; 8],
     pub length: usize,
@@ -60,7 +60,7 @@ pub struct Counts {
 }
 
 // How a run over lent arrays went: its verdict, how many entries the last table has, and how many rows there are.
-pub struct Went {
+pub struct RunRecord {
     pub verdict: Verdict,
     pub size: usize,
     pub rows: usize,
@@ -68,18 +68,18 @@ pub struct Went {
 
 // A run with the numbers of its rows.
 pub struct Course {
-    pub ran: Ran,
+    pub ran: RunAnswer,
     pub counts: Counts,
 }
 
 // A run with rows of its own, by value.
 pub struct RanRows {
-    pub ran: Ran,
+    pub ran: RunAnswer,
     pub rows: [Row; 65],
 }
 
 // The run of a sheet's plan, its rows written into the lent ones.
-pub fn run(bytes: &[u8], rows: &mut [Row]) -> Ran
+pub fn run(bytes: &[u8], rows: &mut [Row]) -> RunAnswer
     ensures { λ r. ⌜ r ≡ runOf (sheetOf (now (bytes .entry))) (length (now (rows .entry))) ⌝ }
     ensures { λ r. ⌜ now (rows .exit) ≡ rowsAfter (sheetOf (now (bytes .entry))) (now (rows .entry)) ⌝ }
 {
@@ -117,7 +117,7 @@ pub fn report(bytes: &[u8], out: &mut [u8]) -> usize
 }
 
 // The first plan of at most `limit` moves that is reached or full. It has eight slots of memory of its own.
-pub fn search(bytes: &[u8], limit: usize) -> Searched
+pub fn search(bytes: &[u8], limit: usize) -> SearchAnswer
     ensures { λ r. ⌜ r ≡ searchOf (sheetOf (now (bytes .entry))) limit ⌝ }
 {
     let mut memory = [0u32; 2064];
@@ -126,7 +126,7 @@ pub fn search(bytes: &[u8], limit: usize) -> Searched
 
 // The same with a memory that the caller lends, and the quicker the more slots of 258 numbers it has. It is scratch: what it holds at entry
 // does not matter, nor how long it is, and afterwards it holds anything.
-pub fn search_with<'a, 'b>(bytes: &'a [u8], limit: usize, memory: &'b mut [u32]) -> Searched
+pub fn search_with<'a, 'b>(bytes: &'a [u8], limit: usize, memory: &'b mut [u32]) -> SearchAnswer
     ensures { λ r. ⌜ r ≡ searchOf (sheetOf (now (bytes .entry))) limit ⌝ }
 {
     let mut ors = [0u32; 136];
@@ -136,10 +136,10 @@ pub fn search_with<'a, 'b>(bytes: &'a [u8], limit: usize, memory: &'b mut [u32])
     let decoded = sheet::decode(bytes, &mut ors, &mut oneofs, &mut goal, &mut moves);
     let answer = decoded.answer;
     match answer {
-        Answer::Refused(number, position) => searches::refused(number, position),
+        Answer::Refused(number, position) => searches::refuse_search(number, position),
         Answer::Accepted => {
             if 8 < limit {
-                return searches::refused(8, 0);
+                return searches::refuse_search(8, 0);
             }
             let sheet = decoded.sheet;
             // References to whole arrays: their types have the lengths.

@@ -1,7 +1,7 @@
 // What the search remembers, in slots of 258 numbers that are lent: a mark, how many entries, 128 masks of true and 128 of false ones. A slot
 // with mark m says that no plan of fewer than m moves from its table has an answer; mark 0 says nothing. Two slots are looked at for a table.
 use crate::searches::same;
-use sheet::rows::wide;
+use sheet::packed::wide;
 ghost use mathlib.Core.Path.{_≡_};
 ghost use mathlib.Core.Bool.{true};
 ghost use Prim.Native.Nat.{ℕ, _+_, _*_, _≤_, _<_};

@@ -1,16 +1,16 @@
 // The run of a sheet's plan: from place to place, a row of numbers for each, and the goal test at the end.
 use crate::Counts;
 use crate::Course;
-use crate::Ran;
+use crate::RunAnswer;
+use crate::RunRecord;
 use crate::Verdict;
-use crate::Went;
 use crate::goals::all_in_goal;
 use sheet::Answer;
 use sheet::Plan;
 use sheet::Sheet;
 use table::Table;
-use table::clauses::clause_count;
-use table::first::first_into;
+use table::picture_clauses::clause_count;
+use table::starts::first_into;
 use table::steps::Stepped;
 use table::steps::step_at;
 ghost use mathlib.Core.Path.{_≡_};
@@ -20,7 +20,7 @@ ghost use lib.Dec.{eqb};
 ghost use lib.ListN.{length, replicate, drop};
 ghost use Rattle.sheet.specs.Lists.{allOf};
 ghost use Rattle.sheet.specs.Decoded.{planIn, problemIn};
-ghost use Rattle.sheet.specs.Rows.{setsRow, SetsFit, actionOf, countOf};
+ghost use Rattle.sheet.specs.Packed.{setsIn, SetsFit, actionOf, countOf};
 ghost use Rattle.sheet.specs.Format.{sheetOf};
 ghost use Rattle.table.specs.Slots.{entriesOf};
 ghost use Rattle.table.specs.Start.{startTable};
@@ -51,7 +51,7 @@ pub(crate) fn note<'a, 'b, 'c>(
 
 // What a refused step means for a run: 21 is full, the other numbers stop it.
 pub(crate) fn halt(place: usize, number: u8) -> Verdict
-    ensures { λ r. ⌜ r ≡ verdictOf (R.endedBy (eqb number 21) place number) ⌝ }
+    ensures { λ r. ⌜ r ≡ verdictOf (R.haltedBy (eqb number 21) place number) ⌝ }
 {
     if number == 21 {
         return Verdict::Full(place);
@@ -63,7 +63,7 @@ pub(crate) fn halt(place: usize, number: u8) -> Verdict
 pub(crate) fn end<'a, 'b>(goal: &'a [u32], trues: &'b [u32], falses: &'b [u32], n: usize) -> Verdict
     requires { ⌜ SetsFit (now goal) ⌝ }
     requires { ⌜ (n ≤ length (now trues)) × (n ≤ length (now falses)) ⌝ }
-    ensures { λ r. ⌜ r ≡ verdictOf (R.ended (allOf (R.inGoal (setsRow (now (goal .entry)))) (entriesOf n (now (trues .entry)) (now (falses .entry))))) ⌝ }
+    ensures { λ r. ⌜ r ≡ verdictOf (R.endedIn (allOf (R.inGoal (setsIn (now (goal .entry)))) (entriesOf n (now (trues .entry)) (now (falses .entry))))) ⌝ }
 {
     if all_in_goal(goal, trues, falses, n) {
         return Verdict::Reached;
@@ -106,10 +106,10 @@ pub(crate) fn run_from<'a, 'b, 'c, 'd, 'e>(
     n: usize,
     sizes: &'d mut [usize; 65],
     clauses: &'e mut [usize; 65],
-) -> Went
+) -> RunRecord
     requires { ⌜ W.Runnable plan (now moves) (now goal) (lent n (now trues) (now falses)) ⌝ }
     requires { ⌜ (now sizes ≡ replicate 65 0) × (now clauses ≡ replicate 65 0) ⌝ }
-    ensures { λ r. ⌜ C.courseIn r (now (trues .exit)) (now (falses .exit)) (now (sizes .exit)) (now (clauses .exit)) ≡ C.courseFrom (setsRow (now (goal .entry))) [] place (map (actionOf (now (moves .entry))) (drop place (planIn plan))) (entriesOf n (now (trues .entry)) (now (falses .entry))) ⌝ }
+    ensures { λ r. ⌜ C.courseIn r (now (trues .exit)) (now (falses .exit)) (now (sizes .exit)) (now (clauses .exit)) ≡ C.courseFrom (setsIn (now (goal .entry))) [] place (map (actionOf (now (moves .entry))) (drop place (planIn plan))) (entriesOf n (now (trues .entry)) (now (falses .entry))) ⌝ }
 {
     let count = plan.count;
     let mut size = n;
@@ -124,7 +124,7 @@ pub(crate) fn run_from<'a, 'b, 'c, 'd, 'e>(
                 size = k;
             }
             Stepped::Refused(fault) => {
-                return Went {
+                return RunRecord {
                     verdict: halt(i + 1, fault),
                     size,
                     rows,
@@ -134,7 +134,7 @@ pub(crate) fn run_from<'a, 'b, 'c, 'd, 'e>(
         i += 1;
     }
     note(sizes, clauses, rows, trues, falses, size);
-    Went {
+    RunRecord {
         verdict: end(goal, trues, falses, size),
         size,
         rows: rows + 1,
@@ -142,10 +142,10 @@ pub(crate) fn run_from<'a, 'b, 'c, 'd, 'e>(
 }
 
 // A refusal: no table, and no row.
-pub(crate) fn refused(number: u8, position: usize) -> Went
+pub(crate) fn refuse_run(number: u8, position: usize) -> RunRecord
     ensures { λ r. ⌜ C.courseIn r (replicate 128 0) (replicate 128 0) (replicate 65 0) (replicate 65 0) ≡ C.refusedCourse number position ⌝ }
 {
-    Went {
+    RunRecord {
         verdict: Verdict::Refused(number, position),
         size: 0,
         rows: 0,
@@ -163,7 +163,7 @@ pub(crate) fn run_sheet<'a, 'b, 'c, 'd, 'e>(
     falses: &'c mut [u32; 128],
     sizes: &'d mut [usize; 65],
     clauses: &'e mut [usize; 65],
-) -> Went
+) -> RunRecord
     requires { ⌜ Filled sheet (now ors) (now oneofs) (now goal) (now moves) ⌝ }
     requires { ⌜ (now trues ≡ replicate 128 0) × (now falses ≡ replicate 128 0) ⌝ }
     requires { ⌜ (now sizes ≡ replicate 65 0) × (now clauses ≡ replicate 65 0) ⌝ }
@@ -176,7 +176,7 @@ pub(crate) fn run_sheet<'a, 'b, 'c, 'd, 'e>(
         Stepped::Refused(number) => {
             *trues = [0u32; 128];
             *falses = [0u32; 128];
-            refused(number, 0)
+            refuse_run(number, 0)
         }
     }
 }
@@ -189,7 +189,7 @@ pub fn course_into<'a, 'b, 'c, 'd, 'e>(
     falses: &'c mut [u32; 128],
     sizes: &'d mut [usize; 65],
     clauses: &'e mut [usize; 65],
-) -> Went
+) -> RunRecord
     requires { ⌜ (now trues ≡ replicate 128 0) × (now falses ≡ replicate 128 0) ⌝ }
     requires { ⌜ (now sizes ≡ replicate 65 0) × (now clauses ≡ replicate 65 0) ⌝ }
     ensures { λ r. ⌜ C.courseIn r (now (trues .exit)) (now (falses .exit)) (now (sizes .exit)) (now (clauses .exit)) ≡ C.courseOf (sheetOf (now (bytes .entry))) lent ⌝ }
@@ -201,10 +201,10 @@ pub fn course_into<'a, 'b, 'c, 'd, 'e>(
     let decoded = sheet::decode(bytes, &mut ors, &mut oneofs, &mut goal, &mut moves);
     let answer = decoded.answer;
     match answer {
-        Answer::Refused(number, position) => refused(number, position),
+        Answer::Refused(number, position) => refuse_run(number, position),
         Answer::Accepted => {
             if lent < 65 {
-                return refused(23, 0);
+                return refuse_run(23, 0);
             }
             let sheet = decoded.sheet;
             // References to whole arrays: their types have the lengths.
@@ -245,7 +245,7 @@ pub fn course(bytes: &[u8], lent: usize) -> Course
     );
     let verdict = went.verdict;
     Course {
-        ran: Ran {
+        ran: RunAnswer {
             verdict,
             table: Table {
                 count: went.size,

@@ -1,12 +1,12 @@
 // The search for a plan: shorter plans first, then in ascending order of moves, depth first, each beginning run once.
 use crate::Kind;
-use crate::Searched;
+use crate::SearchAnswer;
 use crate::goals::all_in_goal;
 use crate::memory::forget;
 use crate::memory::remember;
 use crate::memory::remembered;
 use sheet::Sheet;
-use table::first::first_into;
+use table::starts::first_into;
 use table::steps::Stepped;
 use table::steps::step_at;
 ghost use mathlib.Core.Path.{_≡_};
@@ -25,10 +25,10 @@ ghost use Rattle.plan.specs.Walks as W;
 ghost use Rattle.plan.specs.Memory.{Remembers};
 
 // No plan.
-pub(crate) fn none() -> Searched
+pub(crate) fn none() -> SearchAnswer
     ensures { λ r. ⌜ r ≡ answered nothing ⌝ }
 {
-    Searched {
+    SearchAnswer {
         kind: Kind::Nothing,
         plan: [0u8; 8],
         length: 0,
@@ -36,10 +36,10 @@ pub(crate) fn none() -> Searched
 }
 
 // A refusal.
-pub(crate) fn refused(number: u8, position: usize) -> Searched
+pub(crate) fn refuse_search(number: u8, position: usize) -> SearchAnswer
     ensures { λ r. ⌜ r ≡ refusedSearch number position ⌝ }
 {
-    Searched {
+    SearchAnswer {
         kind: Kind::Refused(number, position),
         plan: [0u8; 8],
         length: 0,
@@ -47,14 +47,14 @@ pub(crate) fn refused(number: u8, position: usize) -> Searched
 }
 
 // Full at move m: the first of the plans with `left` moves more has move 0 for each.
-pub(crate) fn full(at: usize, left: usize, m: usize) -> Searched
+pub(crate) fn full(at: usize, left: usize, m: usize) -> SearchAnswer
     requires { ⌜ (at + left < 8) × (m < 32) ⌝ }
     ensures { λ r. ⌜ r ≡ W.answeredAt at (fullAt (m ∷ replicate left 0) (at + 1)) ⌝ }
 {
     let next = at + 1;
     let mut plan = [0u8; 8];
     plan[at] = m as u8;
-    Searched {
+    SearchAnswer {
         kind: Kind::Full(next),
         plan,
         length: next + left,
@@ -62,8 +62,8 @@ pub(crate) fn full(at: usize, left: usize, m: usize) -> Searched
 }
 
 // Some plan ends the search.
-pub(crate) fn ended(a: Searched) -> bool
-    ensures { λ r. ⌜ r ≡ W.endedBy (a .kind) ⌝ }
+pub(crate) fn is_end(a: SearchAnswer) -> bool
+    ensures { λ r. ⌜ r ≡ W.isEnd (a .kind) ⌝ }
 {
     let kind = a.kind;
     match kind {
@@ -105,7 +105,7 @@ pub(crate) fn same<'a, 'b>(
 
 // The plans with the moves taken so far, move m next and `left` moves more. No shorter plan has an answer, so a move that leaves the
 // table as it was is not followed.
-fn begin<'a, 'b, 'c>(
+fn try_move<'a, 'b, 'c>(
     moves: &'a [u32],
     count: usize,
     goal: &'a [u32],
@@ -116,12 +116,12 @@ fn begin<'a, 'b, 'c>(
     left: usize,
     m: usize,
     memory: &'c mut [u32],
-) -> Searched
+) -> SearchAnswer
     requires { ⌜ W.Searchable (now moves) count (now goal) (M.lent n (now ts) (now fs)) ⌝ }
     requires { ⌜ (at + left < 8) × (m < count) ⌝ }
     requires { ⌜ W.Unmet (now moves) count (now goal) (M.lent n (now ts) (now fs)) at (left + 1) ⌝ }
     requires { ⌜ Remembers (now moves) count (now goal) (now memory) ⌝ }
-    ensures answers { λ r. ⌜ r ≡ W.begun (now (moves .entry)) count (now (goal .entry)) (M.lent n (now (ts .entry)) (now (fs .entry))) at left m ⌝ }
+    ensures answers { λ r. ⌜ r ≡ W.moveTried (now (moves .entry)) count (now (goal .entry)) (M.lent n (now (ts .entry)) (now (fs .entry))) at left m ⌝ }
     ensures keeps { λ r. ⌜ Remembers (now (moves .entry)) count (now (goal .entry)) (now (memory .exit)) ⌝ }
 {
     let mut us = [0u32; 128];
@@ -133,8 +133,8 @@ fn begin<'a, 'b, 'c>(
             if same(&us, &gs, k, ts, fs, n) {
                 return none();
             }
-            let mut r = walk(moves, count, goal, &us, &gs, k, next, left, memory);
-            if ended(r) {
+            let mut r = try_plans(moves, count, goal, &us, &gs, k, next, left, memory);
+            if is_end(r) {
                 r.plan[at] = m as u8;
             }
             r
@@ -149,7 +149,7 @@ fn begin<'a, 'b, 'c>(
 }
 
 // The plans with the moves taken so far, which led to the table, and `left` moves more, in ascending order.
-fn walk<'a, 'b, 'c>(
+fn try_plans<'a, 'b, 'c>(
     moves: &'a [u32],
     count: usize,
     goal: &'a [u32],
@@ -159,17 +159,17 @@ fn walk<'a, 'b, 'c>(
     at: usize,
     left: usize,
     memory: &'c mut [u32],
-) -> Searched
+) -> SearchAnswer
     requires { ⌜ W.Searchable (now moves) count (now goal) (M.lent n (now ts) (now fs)) ⌝ }
     requires { ⌜ at + left ≤ 8 ⌝ }
     requires { ⌜ W.Unmet (now moves) count (now goal) (M.lent n (now ts) (now fs)) at left ⌝ }
     requires { ⌜ Remembers (now moves) count (now goal) (now memory) ⌝ }
-    ensures answers { λ r. ⌜ r ≡ W.walked (now (moves .entry)) count (now (goal .entry)) (M.lent n (now (ts .entry)) (now (fs .entry))) at left ⌝ }
+    ensures answers { λ r. ⌜ r ≡ W.plansTried (now (moves .entry)) count (now (goal .entry)) (M.lent n (now (ts .entry)) (now (fs .entry))) at left ⌝ }
     ensures keeps { λ r. ⌜ Remembers (now (moves .entry)) count (now (goal .entry)) (now (memory .exit)) ⌝ }
 {
     if left == 0 {
         if all_in_goal(goal, ts, fs, n) {
-            return Searched {
+            return SearchAnswer {
                 kind: Kind::Reached,
                 plan: [0u8; 8],
                 length: at,
@@ -184,8 +184,8 @@ fn walk<'a, 'b, 'c>(
     let fewer = left - 1;
     let mut m: usize = 0;
     while m < count {
-        let r = begin(moves, count, goal, ts, fs, n, at, fewer, m, memory);
-        if ended(r) {
+        let r = try_move(moves, count, goal, ts, fs, n, at, fewer, m, memory);
+        if is_end(r) {
             return r;
         }
         m += 1;
@@ -204,7 +204,7 @@ pub(crate) fn lengths<'a, 'b, 'c>(
     n: usize,
     limit: usize,
     memory: &'c mut [u32],
-) -> Searched
+) -> SearchAnswer
     requires { ⌜ W.Searchable (now moves) count (now goal) (M.lent n (now ts) (now fs)) ⌝ }
     requires { ⌜ limit ≤ 8 ⌝ }
     ensures { λ r. ⌜ r ≡ W.searchedBy (now (moves .entry)) count (now (goal .entry)) (M.lent n (now (ts .entry)) (now (fs .entry))) limit ⌝ }
@@ -212,8 +212,8 @@ pub(crate) fn lengths<'a, 'b, 'c>(
     forget(memory);
     let mut length: usize = 0;
     while length <= limit {
-        let r = walk(moves, count, goal, ts, fs, n, 0, length, memory);
-        if ended(r) {
+        let r = try_plans(moves, count, goal, ts, fs, n, 0, length, memory);
+        if is_end(r) {
             return r;
         }
         length += 1;
@@ -230,7 +230,7 @@ pub(crate) fn search_sheet<'a, 'b>(
     moves: &'a [u32],
     limit: usize,
     memory: &'b mut [u32],
-) -> Searched
+) -> SearchAnswer
     requires { ⌜ Filled sheet (now ors) (now oneofs) (now goal) (now moves) ⌝ }
     requires { ⌜ limit ≤ 8 ⌝ }
     ensures { λ r. ⌜ r ≡ searched (problemIn sheet (now (ors .entry)) (now (oneofs .entry)) (now (goal .entry)) (now (moves .entry))) limit (startTable 128 (problemIn sheet (now (ors .entry)) (now (oneofs .entry)) (now (goal .entry)) (now (moves .entry)))) ⌝ }
@@ -257,6 +257,6 @@ pub(crate) fn search_sheet<'a, 'b>(
             limit,
             memory,
         ),
-        Stepped::Refused(number) => refused(number, 0),
+        Stepped::Refused(number) => refuse_search(number, 0),
     }
 }

@@ -51,7 +51,7 @@ pub(crate) fn write_clauses(out: &mut [u8], at: usize, clauses: usize) -> usize
 }
 
 // A row as a line.
-pub(crate) fn write_row(out: &mut [u8], at: usize, row: Row) -> usize
+pub(crate) fn write_row_line(out: &mut [u8], at: usize, row: Row) -> usize
     requires { ⌜ at + 63 ≤ length (now out) ⌝ }
     ensures { λ r. ⌜ Wrote (now (out .entry)) at (rowText row) r (now (out .exit)) ⌝ }
     ensures { λ r. ⌜ r ≤ at + 63 ⌝ }
@@ -65,7 +65,7 @@ pub(crate) fn write_row(out: &mut [u8], at: usize, row: Row) -> usize
 }
 
 // The rows of the places arrived at.
-pub(crate) fn write_rows(out: &mut [u8], at: usize, counts: Counts) -> usize
+pub(crate) fn write_row_lines(out: &mut [u8], at: usize, counts: Counts) -> usize
     requires { ⌜ counts .count ≤ 65 ⌝ }
     requires { ⌜ at + 63 * counts .count ≤ length (now out) ⌝ }
     ensures { λ r. ⌜ Wrote (now (out .entry)) at (rowsText (rowsIn counts)) r (now (out .exit)) ⌝ }
@@ -80,7 +80,7 @@ pub(crate) fn write_rows(out: &mut [u8], at: usize, counts: Counts) -> usize
             entries: counts.entries[i],
             clauses: counts.clauses[i],
         };
-        next = write_row(out, next, row);
+        next = write_row_line(out, next, row);
         i += 1;
     }
     next
@@ -117,7 +117,7 @@ pub(crate) fn write_verdict(out: &mut [u8], at: usize, verdict: Verdict) -> usiz
 }
 
 // The run was refused.
-pub(crate) fn refused(verdict: Verdict) -> bool
+pub(crate) fn is_refused(verdict: Verdict) -> bool
     ensures { λ r. ⌜ r ≡ refusedVerdict verdict ⌝ }
 {
     match verdict {
@@ -137,11 +137,11 @@ pub(crate) fn write_text(out: &mut [u8], course: Course) -> usize
 {
     let ran = course.ran;
     let verdict = ran.verdict;
-    if refused(verdict) {
+    if is_refused(verdict) {
         return write_verdict(out, 0, verdict);
     }
     let counts = course.counts;
     let a = write_bytes(out, 0, b"place entries clauses\n");
-    let b = write_rows(out, a, counts);
+    let b = write_row_lines(out, a, counts);
     write_verdict(out, b, verdict)
 }

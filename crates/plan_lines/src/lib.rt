@@ -4,9 +4,9 @@ use libc::STDIN_FILENO;
 use libc::STDOUT_FILENO;
 use plan::Counts;
 use plan::Kind;
-use plan::Ran;
 use plan::RanRows;
-use plan::Searched;
+use plan::RunAnswer;
+use plan::SearchAnswer;
 use plan::Verdict;
 ghost use mathlib.Core.Path.{_≡_};
 ghost use Prim.Native.Nat.{_≤_, _<_};
@@ -41,7 +41,7 @@ fn write_verdict(verdict: Verdict) {
 }
 
 // The verdict, and a digest of the table that came back.
-fn write_ran(ran: Ran) {
+fn write_ran(ran: RunAnswer) {
     let verdict = ran.verdict;
     write_verdict(verdict);
     let t = ran.table;
@@ -119,7 +119,7 @@ fn write_kind(kind: Kind) {
 }
 
 // A digest of the eight bytes of a plan.
-fn digest_plan(s: Searched) -> u64 {
+fn digest_plan(s: SearchAnswer) -> u64 {
     let mut value: u64 = 0;
     let mut i: usize = 0;
     while i < 8 {

@@ -13,7 +13,7 @@ use Rattle.sheet.specs.Form.{Form, done, byte, due, faultOf}
 use Rattle.sheet.specs.Format.{countFault, literalFault, numberFault, sheet, Judgement, accepted, refused, sheetOf}
 use Rattle.sheet.specs.Calls.{answerOf, judgeOf}
 use Rattle.sheet.specs.Faults.{FirstFault, ByteDue}
-use Rattle.sheet.proofs.Roles.{Told, fine, of-count, of-literal, of-number, not-one, not-six, at-most-seven, Roles, roles-due, roles-sheet}
+use Rattle.sheet.proofs.Roles.{TellsRole, fine, of-count, of-literal, of-number, not-one, not-six, at-most-seven, Roles, roles-due, roles-sheet}
 use Rattle.sheet.proofs.Rules.{count-2, literal-3, literal-4, literal-5, number-7}
 use Rattle.sheet.proofs.Judging as judging
 
@@ -131,7 +131,7 @@ module _ (s : List ℕ) where
     value : ℕ
     at : ByteDue s p rule value
     gives : rule value ≡ k
-    tells : Told rule k
+    tells : TellsRole rule k
 
   broken : (k p : ℕ) → (k ≡ 1 → ⊥) → (k ≡ 6 → ⊥) → judgeOf s ≡ Refused k p → Broken k p
   broken k p h i e = go (r .form) (drop p s) refl (r .before) (roles-at k p r) (r .number)
@@ -144,7 +144,7 @@ module _ (s : List ℕ) where
       go (done x) (c ∷ cs) d b n q = absurd (i (sym q))
       go (byte rule next) [] d b n q = absurd (h (sym q))
       go (byte rule next) (c ∷ cs) d b n q =
-          record { rule = rule; value = c; at = record { next = next; before = b; later = cs; here = d }; gives = q; tells = subst (Told rule) q (n .0 c) }
+          record { rule = rule; value = c; at = record { next = next; before = b; later = cs; here = d }; gives = q; tells = subst (TellsRole rule) q (n .0 c) }
 
   breaks : (k p : ℕ) (rule : ℕ → ℕ) (b : ℕ) → (k ≡ 0 → ⊥) → ByteDue s p rule b → rule b ≡ k → judgeOf s ≡ Refused k p
   breaks k p rule b h d e =
@@ -169,7 +169,7 @@ module _ (s : List ℕ) where
     λ h. breaks 2 p (countFault (h .0) (h .1)) (h .2) (λ z. omega arith) (h .3) (count-2 (h .0) (h .1) (h .2) .1 (h .4)),
   )
     where
-      go : (r : Broken 2 p) → Told (r .rule) 2 → (low : ℕ) × (high : ℕ) × (b : ℕ) × ByteDue s p (countFault low high) b × ((b < low) ⊎ (high < b))
+      go : (r : Broken 2 p) → TellsRole (r .rule) 2 → (low : ℕ) × (high : ℕ) × (b : ℕ) × ByteDue s p (countFault low high) b × ((b < low) ⊎ (high < b))
       go r (fine e) = absurd (omega arith)
       go r (of-count low high f e) = let d = due-by 2 p r (countFault low high) f in (low, high, d .0, d .1, count-2 low high (d .0) .0 (d .2))
       go r (of-literal n last f l h) = absurd (omega arith)
@@ -181,7 +181,7 @@ module _ (s : List ℕ) where
     λ h. breaks 7 p (numberFault (h .0)) (h .1) (λ z. omega arith) (h .2) (number-7 (h .0) (h .1) .1 (h .3)),
   )
     where
-      go : (r : Broken 7 p) → Told (r .rule) 7 → (m : ℕ) × (b : ℕ) × ByteDue s p (numberFault m) b × (m ≤ b)
+      go : (r : Broken 7 p) → TellsRole (r .rule) 7 → (m : ℕ) × (b : ℕ) × ByteDue s p (numberFault m) b × (m ≤ b)
       go r (fine e) = absurd (omega arith)
       go r (of-count low high f e) = absurd (omega arith)
       go r (of-literal n last f l h) = absurd (omega arith)
@@ -197,7 +197,7 @@ module _ (s : List ℕ) where
       r : Broken k p
       r = broken k p (λ z. omega arith) (λ z. omega arith) e
 
-      go : Told (r .rule) k → Literal k p
+      go : TellsRole (r .rule) k → Literal k p
       go (fine z) = absurd (omega arith)
       go (of-count a b f z) = absurd (omega arith)
       go (of-literal n last f l h) = (n, last, due-by k p r (literalFault n last) f)

@@ -13,7 +13,7 @@ use lib.Dec.{ltb}
 use lib.ListN.{length, getD, drop, length-append}
 use lib.Seq.{drop-append-seam}
 use borrow.Author.Tests.{ltb-false, lt-ltb, le-ltb}
-use Rattle.sheet.specs.Form.{Form, done, byte, _>>=_, judged, times, Read, item, fault, after, admit, byteAt, read, passed, due, faultOf}
+use Rattle.sheet.specs.Form.{Form, done, byte, _>>=_, judged, times, Read, item, fault, thenRead, admit, byteAt, read, passed, due, faultOf}
 use Rattle.sheet.specs.Format.{countFault, literalFault, listOf, ascending, literals, setOf}
 
 -- ---- what is due after some bytes
@@ -151,13 +151,13 @@ stop (byte rule next) (b ∷ s) = go (rule b) refl (stop (next b) s)
 -- ---- reading from a position
 
 pub read-then : {A B : Type 0} (s : List ℕ) (x : Form A) (f : A → Form B) (at : ℕ)
-    → read s (x >>= f) at ≡ after (read s x at) (λ a next. read s (f a) next)
+    → read s (x >>= f) at ≡ thenRead (read s x at) (λ a next. read s (f a) next)
 unfolding read _>>=_
 read-then s (done a) f at = refl
 read-then s (byte rule next) f at = go (byteAt s rule at) (λ b rest. read-then s (next b) f rest)
   where
-    go : (r : Read ℕ) → ((b rest : ℕ) → read s (next b >>= f) rest ≡ after (read s (next b) rest) (λ a n. read s (f a) n))
-        → after r (λ b rest. read s (next b >>= f) rest) ≡ after (after r (λ b rest. read s (next b) rest)) (λ a n. read s (f a) n)
+    go : (r : Read ℕ) → ((b rest : ℕ) → read s (next b >>= f) rest ≡ thenRead (read s (next b) rest) (λ a n. read s (f a) n))
+        → thenRead r (λ b rest. read s (next b >>= f) rest) ≡ thenRead (thenRead r (λ b rest. read s (next b) rest)) (λ a n. read s (f a) n)
     go (item b rest) ih = ih b rest
     go (fault k p) ih = refl
 
@@ -165,7 +165,7 @@ pub read-judged : (s : List ℕ) (rule : ℕ → ℕ) (at : ℕ) → read s (jud
 unfolding read judged
 read-judged s rule at = go (byteAt s rule at)
   where
-    go : (r : Read ℕ) → after r (λ b rest. read s (done b) rest) ≡ r
+    go : (r : Read ℕ) → thenRead r (λ b rest. read s (done b) rest) ≡ r
     go (item b rest) = refl
     go (fault k p) = refl
 

@@ -14,7 +14,7 @@ use lib.Seq.{length-take-le, take-all, drop-cons, split-at, take-suc, append-sno
 use borrow.Author.Tests.{lt-ltb, le-ltb}
 use Rattle.sheet.specs.Problem.{Statement}
 use Rattle.sheet.specs.Form.{Form, done, byte, read, due, faultOf}
-use Rattle.sheet.specs.Format.{sheet, accepted, refused, ended, sheetOf, clause, effect, action, clauses, actions, goal, plan, facts}
+use Rattle.sheet.specs.Format.{sheet, accepted, refused, atEnd, sheetOf, clause, effect, action, clauses, actions, goal, plan, facts}
 use Rattle.sheet.specs.Faults.{FirstFault}
 use Rattle.sheet.proofs.Forms.{due-append, due-prefix, due-fine, Stop, stop, read-due, read-stop, Bounded, bounded-done, bounded-judged, bounded-then, bounded-list, bounded-literals}
 use Rattle.sheet.proofs.Roles.{not-one, Roles, roles-due, roles-sheet}
@@ -23,22 +23,22 @@ use Rattle.sheet.proofs.Roles.{not-one, Roles, roles-due, roles-sheet}
 
 -- after bytes without fault, what is due decides
 judged-at : (bs rest : List ℕ) {g : Form Statement} → due sheet bs ≡ some g
-    → sheetOf (bs ++ rest) ≡ ended (bs ++ rest) (read (bs ++ rest) g (length bs))
+    → sheetOf (bs ++ rest) ≡ atEnd (bs ++ rest) (read (bs ++ rest) g (length bs))
 unfolding sheetOf
-judged-at bs rest e = ap (ended (bs ++ rest)) (simp zero-add at (read-due [] sheet bs rest e))
+judged-at bs rest e = ap (atEnd (bs ++ rest)) (simp zero-add at (read-due [] sheet bs rest e))
 
 refused-at : (bs rest : List ℕ) (g : Form Statement) (k : ℕ) → due sheet bs ≡ some g → faultOf g rest ≡ k → (k ≡ 0 → ⊥)
     → sheetOf (bs ++ rest) ≡ refused k (length bs)
-unfolding ended read
+unfolding atEnd read
 refused-at bs rest g zero e q h = absurd (h refl)
 refused-at bs [] (done x) (suc k) e q h = cc
 refused-at bs (c ∷ cs) (done x) (suc k) e q h =
     let l : length bs < length (bs ++ (c ∷ cs)) = simp length-append (omega arith) in
     judged-at bs (c ∷ cs) e ∙ rw (lt-ltb _ _ l, q)
-refused-at bs rest (byte rule next) (suc k) e q h = judged-at bs rest e ∙ ap (ended (bs ++ rest)) (read-stop bs rest rule next k q)
+refused-at bs rest (byte rule next) (suc k) e q h = judged-at bs rest e ∙ ap (atEnd (bs ++ rest)) (read-stop bs rest rule next k q)
 
 accepted-at : (s : List ℕ) {x : Statement} → due sheet s ≡ some (done x) → sheetOf s ≡ accepted x
-unfolding ended read
+unfolding atEnd read
 accepted-at s {x} e =
     let l : length (s ++ []) ≤ length s = simp append-nil (omega arith) in
     let r : sheetOf (s ++ []) ≡ accepted x = judged-at s [] e ∙ rw (le-ltb (length s) (length (s ++ [])) l) in

@@ -16,7 +16,7 @@ pub mod Encoded
 pub mod Judging
 pub mod Reading
 pub mod Parts
-pub mod RowLaws
+pub mod PackedLaws
 pub mod SlotLaws
 pub mod Sections
 pub mod Rules

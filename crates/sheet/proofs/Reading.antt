@@ -12,8 +12,8 @@ use borrow.Author.Tests.{lt-ltb, le-ltb}
 use Rattle.sheet.specs.declared.reader.Mark.{Mark}
 use Rattle.sheet.specs.declared.reader.Mark.the-variants.{At, Fault}
 use Rattle.sheet.specs.Lists.{pad}
-use Rattle.sheet.specs.Form.{Form, done, _>>=_, judged, times, Read, item, fault, after, admit, byteAt, read}
-use Rattle.sheet.specs.Marks.{markOf, Gave, same}
+use Rattle.sheet.specs.Form.{Form, done, _>>=_, judged, times, Read, item, fault, thenRead, admit, byteAt, read}
+use Rattle.sheet.specs.Marks.{markOf, ReadsAs, same}
 use Rattle.sheet.proofs.Forms.{read-then, read-judged}
 
 -- ---- marks
@@ -22,14 +22,14 @@ clash : {A : Type 0} {a : A} {next k p : ℕ} → _≡_ {A = Read A} (item a nex
 clash e = let z : _≡_ {A = ℕ} 0 1 = cc in omega arith
 
 -- a fault, whatever stands in the slots
-pub gave-fault : {A B : Type 0} (shape : A → B) (x : Read A) {m : Mark} {v : B} {k p : ℕ} → x ≡ fault k p → m ≡ Fault k p → Gave shape x m v
+pub gave-fault : {A B : Type 0} (shape : A → B) (x : Read A) {m : Mark} {v : B} {k p : ℕ} → x ≡ fault k p → m ≡ Fault k p → ReadsAs shape x m v
 unfolding markOf
 gave-fault shape x {m} {v} {k} {p} e f =
     record { mark = rw e f; value = λ a next g. absurd (clash (sym g ∙ e)) }
 
 -- an item, in the slots that shape gives it
 pub gave-item : {A B : Type 0} (shape : A → B) (x : Read A) {m : Mark} {v : B} {a : A} {next : ℕ}
-    → x ≡ item a next → m ≡ At next → v ≡ shape a → Gave shape x m v
+    → x ≡ item a next → m ≡ At next → v ≡ shape a → ReadsAs shape x m v
 unfolding markOf
 gave-item {A} shape x {m} {v} {a} {next} e f h =
     record { mark = rw e f; value = λ b rest g. h ∙ ap shape (same-item (sym e ∙ g)) }
@@ -37,7 +37,7 @@ gave-item {A} shape x {m} {v} {a} {next} e f h =
     same-item : {b : A} {rest : ℕ} → _≡_ {A = Read A} (item a next) (item b rest) → a ≡ b
     same-item q = cc
 
-module _ {A B : Type 0} (shape : A → B) (x : Read A) (m : Mark) (v : B) (g : Gave shape x m v) where
+module _ {A B : Type 0} (shape : A → B) (x : Read A) (m : Mark) (v : B) (g : ReadsAs shape x m v) where
   -- what was read where the mark stands at the next position
   pub got-item : {next : ℕ} → m ≡ At next → (a : A) × (x ≡ item a next) × (v ≡ shape a)
   unfolding markOf
@@ -113,7 +113,7 @@ pad-set (suc n) d (y ∷ xs) x (suc i) e h = ap (λ (r : List _). y ∷ r) (pad-
 -- ---- a loop over k items
 -- the items that are left, read after those done
 abbrev pub onto : {A : Type 0} → List A → Read (List A) → Read (List A)
-onto xs r = after r (λ ys next. item (xs ++ ys) next)
+onto xs r = thenRead r (λ ys next. item (xs ++ ys) next)
 
 map-append : {A B : Type 0} (f : A → B) (xs : List A) (x : A) → map f (xs ++ (x ∷ [])) ≡ map f xs ++ (f x ∷ [])
 map-append f [] x = refl
@@ -128,11 +128,11 @@ module _ {A : Type 0} (s : List ℕ) (one : Form A) where
   unfolding read times
   times-none at = refl
 
-  pub times-more : (k at : ℕ) → read s (times (suc k) one) at ≡ after (read s one at) (λ x e. onto (x ∷ []) (read s (times k one) e))
+  pub times-more : (k at : ℕ) → read s (times (suc k) one) at ≡ thenRead (read s one at) (λ x e. onto (x ∷ []) (read s (times k one) e))
   unfolding read times
   times-more k at = read-then s one _ at ∙ go (read s one at)
     where
-      go : (r : Read A) → after r (λ x e. read s (times k one >>= (λ xs. done (x ∷ xs))) e) ≡ after r (λ x e. onto (x ∷ []) (read s (times k one) e))
+      go : (r : Read A) → thenRead r (λ x e. read s (times k one >>= (λ xs. done (x ∷ xs))) e) ≡ thenRead r (λ x e. onto (x ∷ []) (read s (times k one) e))
       go (item x e) = read-then s (times k one) (λ xs. done (x ∷ xs)) e
       go (fault f p) = refl
 
@@ -154,7 +154,7 @@ module _ {A : Type 0} (s : List ℕ) (one : Form A) where
   turns-none k first = record { count = refl; within = omega arith; rest = rw sub-zero (nothing-yet (read s (times k one) first)) }
 
   module _ (k first : ℕ) (xs : List A) (i next : ℕ) (t : Turns k first xs i next) where
-    one-more : i < k → read s (times k one) first ≡ onto xs (after (read s one next) (λ x e. onto (x ∷ []) (read s (times (k - (i + 1)) one) e)))
+    one-more : i < k → read s (times k one) first ≡ onto xs (thenRead (read s one next) (λ x e. onto (x ∷ []) (read s (times (k - (i + 1)) one) e)))
     one-more h =
         let e : k - i ≡ suc (k - (i + 1)) = omega arith in
         t .rest ∙ ap (λ (j : ℕ). onto xs (read s (times j one) next)) e ∙ ap (onto xs) (times-more (k - (i + 1)) next)
@@ -175,17 +175,17 @@ module _ {A : Type 0} (s : List ℕ) (one : Form A) where
         t .rest ∙ ap (λ (j : ℕ). onto xs (read s (times j one) next)) e ∙ ap (onto xs) (times-none next) ∙ ap (λ (l : List A). item l next) (append-nil xs)
 
     -- a loop that lays items in a row: one more, a fault, and all of them
-    module _ {m : Mark} {v : A} (g : Gave same (read s one next) m v) where
+    module _ {m : Mark} {v : A} (g : ReadsAs same (read s one next) m v) where
       pub turns-laid : {rest : ℕ} {more : List A} → i < k → m ≡ At rest → more ≡ xs ++ (v ∷ []) → Turns k first more (i + 1) rest
       turns-laid {rest} h q e =
           let r = got-item same (read s one next) m v g q in
           subst (λ (l : List A). Turns k first l (i + 1) rest) (sym (e ∙ ap (λ (a : A). xs ++ (a ∷ [])) (r .2))) (turns-more h (r .1))
 
-      pub turns-stop : {w : List A} {f p : ℕ} → i < k → m ≡ Fault f p → Gave same (read s (times k one) first) m w
+      pub turns-stop : {w : List A} {f p : ℕ} → i < k → m ≡ Fault f p → ReadsAs same (read s (times k one) first) m w
       turns-stop h q = gave-fault same _ (turns-fault h (got-fault same (read s one next) m v g q)) q
 
   -- `parts n` are the first n items of the row
-  pub turns-end : (k first : ℕ) (parts : ℕ → List A) (i next : ℕ) → Turns k first (parts i) i next → k ≤ i → Gave same (read s (times k one) first) (At next) (parts k)
+  pub turns-end : (k first : ℕ) (parts : ℕ → List A) (i next : ℕ) → Turns k first (parts i) i next → k ≤ i → ReadsAs same (read s (times k one) first) (At next) (parts k)
   turns-end k first parts i next t h =
       let e : k ≡ i = omega (arith, t .within) in
       gave-item same _ (turns-all k first (parts i) i next t h) refl (ap parts e)
@@ -202,7 +202,7 @@ module _ {A B : Type 0} (s : List ℕ) (one : Form A) (shape : A → B) (size : 
 
   module _ (i next : ℕ) (t : Taken s one shape size d k first slots i next) where
     -- one item more, its value in slot i
-    pub taken-more : {m : Mark} {v : B} {rest : ℕ} → i < k → k ≤ size → Gave shape (read s one next) m v → m ≡ At rest
+    pub taken-more : {m : Mark} {v : B} {rest : ℕ} → i < k → k ≤ size → ReadsAs shape (read s one next) m v → m ≡ At rest
         → Taken s one shape size d k first (set slots i v) (i + 1) rest
     taken-more {m} {v} {rest} h l g q =
         let r = got-item shape (read s one next) m v g q in record {
@@ -214,8 +214,8 @@ module _ {A B : Type 0} (s : List ℕ) (one : Form A) (shape : A → B) (size : 
               ∙ ap (pad size d) (sym (map-append shape (t .done) (r .0))));
         }
 
-    pub taken-fault : {C : Type 0} (whole : List A → C) {m : Mark} {v : B} {w : C} {f p : ℕ} → i < k → Gave shape (read s one next) m v → m ≡ Fault f p
-        → Gave whole (read s (times k one) first) m w
+    pub taken-fault : {C : Type 0} (whole : List A → C) {m : Mark} {v : B} {w : C} {f p : ℕ} → i < k → ReadsAs shape (read s one next) m v → m ≡ Fault f p
+        → ReadsAs whole (read s (times k one) first) m w
     taken-fault whole {m} {v} {w} h g q =
         gave-fault whole (read s (times k one) first)
         (turns-fault s one k first (t .done) i next (t .turns) h (got-fault shape (read s one next) m v g q)) q
@@ -223,7 +223,7 @@ module _ {A B : Type 0} (s : List ℕ) (one : Form A) (shape : A → B) (size : 
     -- all k items: their list in the slots
     pub taken-all : {C : Type 0} (whole : List A → C) {w : C} → k ≤ i
         → ((xs : List A) → length xs ≡ k → slots ≡ pad size d (map shape xs) → w ≡ whole xs)
-        → Gave whole (read s (times k one) first) (At next) w
+        → ReadsAs whole (read s (times k one) first) (At next) w
     taken-all whole {w} h fill =
         gave-item whole (read s (times k one) first) (turns-all s one k first (t .done) i next (t .turns) h) refl
         (fill (t .done) (omega (arith, t .turns .count, t .turns .within)) (t .held))
@@ -231,31 +231,31 @@ module _ {A B : Type 0} (s : List ℕ) (one : Form A) (shape : A → B) (size : 
 -- ---- one form after the other
 module _ {A B C : Type 0} (s : List ℕ) (x : Form A) (f : A → Form B) (at : ℕ) (whole : B → C) where
   -- a fault of the first is the fault of both
-  pub gave-stop : {D : Type 0} (shape : A → D) {m : Mark} {v : D} {w : C} {k p : ℕ} → Gave shape (read s x at) m v → m ≡ Fault k p
-      → Gave whole (read s (x >>= f) at) m w
+  pub gave-stop : {D : Type 0} (shape : A → D) {m : Mark} {v : D} {w : C} {k p : ℕ} → ReadsAs shape (read s x at) m v → m ≡ Fault k p
+      → ReadsAs whole (read s (x >>= f) at) m w
   gave-stop shape {m} {v} {w} g q =
-      gave-fault whole _ (read-then s x f at ∙ ap (λ (r : Read A). after r (λ a next. read s (f a) next)) (got-fault shape (read s x at) m v g q)) q
+      gave-fault whole _ (read-then s x f at ∙ ap (λ (r : Read A). thenRead r (λ a next. read s (f a) next)) (got-fault shape (read s x at) m v g q)) q
 
   -- what the second gives after an item of the first
-  pub gave-on : {m : Mark} {w : C} {a : A} {next : ℕ} → read s x at ≡ item a next → Gave whole (read s (f a) next) m w
-      → Gave whole (read s (x >>= f) at) m w
+  pub gave-on : {m : Mark} {w : C} {a : A} {next : ℕ} → read s x at ≡ item a next → ReadsAs whole (read s (f a) next) m w
+      → ReadsAs whole (read s (x >>= f) at) m w
   gave-on {m} {w} {a} {next} e g =
-      subst (λ (r : Read B). Gave whole r m w)
-      (sym (read-then s x f at ∙ ap (λ (r : Read A). after r (λ a next. read s (f a) next)) e)) g
+      subst (λ (r : Read B). ReadsAs whole r m w)
+      (sym (read-then s x f at ∙ ap (λ (r : Read A). thenRead r (λ a next. read s (f a) next)) e)) g
 
 -- a value made of what was read
 pub gave-as : {A B C : Type 0} (s : List ℕ) (x : Form A) (make : A → B) (at : ℕ) (shape : A → C) (whole : B → C) {m : Mark} {w : C}
-    → ((a : A) → shape a ≡ whole (make a)) → Gave shape (read s x at) m w → Gave whole (read s (x >>= (λ a. done (make a))) at) m w
+    → ((a : A) → shape a ≡ whole (make a)) → ReadsAs shape (read s x at) m w → ReadsAs whole (read s (x >>= (λ a. done (make a))) at) m w
 unfolding read markOf
-gave-as {A} {B} s x make at shape whole {m} {w} h g = subst (λ (r : Read B). Gave whole r m w) (sym (read-then s x (λ a. done (make a)) at)) (go (read s x at) g)
+gave-as {A} {B} s x make at shape whole {m} {w} h g = subst (λ (r : Read B). ReadsAs whole r m w) (sym (read-then s x (λ a. done (make a)) at)) (go (read s x at) g)
   where
-    go : (r : Read A) → Gave shape r m w → Gave whole (after r (λ a next. item (make a) next)) m w
+    go : (r : Read A) → ReadsAs shape r m w → ReadsAs whole (thenRead r (λ a next. item (make a) next)) m w
     go (item a e) k = record { mark = k .mark; value = λ b next q. k .value a e refl ∙ h a ∙ ap whole (let z : make a ≡ b = cc in z) }
     go (fault f p) k = gave-fault whole _ refl (k .mark)
 
-pub gave-made : {A B : Type 0} {x : Read A} (make : A → B) {m : Mark} {v : A} → Gave same x m v → Gave make x m (make v)
+pub gave-made : {A B : Type 0} {x : Read A} (make : A → B) {m : Mark} {v : A} → ReadsAs same x m v → ReadsAs make x m (make v)
 gave-made make g = record { mark = g .mark; value = λ a next e. ap make (g .value a next e) }
 
 -- what was read where it is its own value
-pub got-same : {A : Type 0} (x : Read A) (m : Mark) (v : A) → Gave same x m v → {next : ℕ} → m ≡ At next → x ≡ item v next
+pub got-same : {A : Type 0} (x : Read A) (m : Mark) (v : A) → ReadsAs same x m v → {next : ℕ} → m ≡ At next → x ≡ item v next
 got-same x m v g {next} q = let r = got-item same x m v g q in r .1 ∙ ap (λ (a : _). item a next) (sym (r .2))

@@ -12,64 +12,64 @@ use Rattle.sheet.specs.Format.{countFault, literalFault, numberFault, li
 use Rattle.sheet.proofs.Forms.{passed-some}
 
 -- a rule of the format gives k for some byte: 0, or the number of a fault, which tells the role
-pub data Told (rule : ℕ → ℕ) (k : ℕ) : Type 0 where
-  fine : k ≡ 0 → Told rule k
-  of-count : (low high : ℕ) → rule ≡ countFault low high → k ≡ 2 → Told rule k
-  of-literal : (n : ℕ) (last : Option ℕ) → rule ≡ literalFault n last → 3 ≤ k → k ≤ 5 → Told rule k
-  of-number : (m : ℕ) → rule ≡ numberFault m → k ≡ 7 → Told rule k
+pub data TellsRole (rule : ℕ → ℕ) (k : ℕ) : Type 0 where
+  fine : k ≡ 0 → TellsRole rule k
+  of-count : (low high : ℕ) → rule ≡ countFault low high → k ≡ 2 → TellsRole rule k
+  of-literal : (n : ℕ) (last : Option ℕ) → rule ≡ literalFault n last → 3 ≤ k → k ≤ 5 → TellsRole rule k
+  of-number : (m : ℕ) → rule ≡ numberFault m → k ≡ 7 → TellsRole rule k
 
-pub not-one : {rule : ℕ → ℕ} {k : ℕ} → Told rule k → k ≡ 1 → ⊥
+pub not-one : {rule : ℕ → ℕ} {k : ℕ} → TellsRole rule k → k ≡ 1 → ⊥
 not-one (fine e) f = omega arith
 not-one (of-count low high r e) f = omega arith
 not-one (of-literal n last r l h) f = omega arith
 not-one (of-number m r e) f = omega arith
 
-pub not-six : {rule : ℕ → ℕ} {k : ℕ} → Told rule k → k ≡ 6 → ⊥
+pub not-six : {rule : ℕ → ℕ} {k : ℕ} → TellsRole rule k → k ≡ 6 → ⊥
 not-six (fine e) f = omega arith
 not-six (of-count low high r e) f = omega arith
 not-six (of-literal n last r l h) f = omega arith
 not-six (of-number m r e) f = omega arith
 
-pub at-most-seven : {rule : ℕ → ℕ} {k : ℕ} → Told rule k → k ≤ 7
+pub at-most-seven : {rule : ℕ → ℕ} {k : ℕ} → TellsRole rule k → k ≤ 7
 at-most-seven (fine e) = omega arith
 at-most-seven (of-count low high r e) = omega arith
 at-most-seven (of-literal n last r l h) = omega arith
 at-most-seven (of-number m r e) = omega arith
 
 -- ---- each rule
-told-count : (low high b : ℕ) → Told (countFault low high) (countFault low high b)
+told-count : (low high b : ℕ) → TellsRole (countFault low high) (countFault low high b)
 told-count low high b = unfold countFault in go (ltb b low) (ltb high b)
   where
-    go : (c d : Bool) → Told (countFault low high) (cond c 2 (cond d 2 0))
+    go : (c d : Bool) → TellsRole (countFault low high) (cond c 2 (cond d 2 0))
     go true d = of-count low high refl refl
     go false true = of-count low high refl refl
     go false false = fine refl
 
-told-literal : (n : ℕ) (last : Option ℕ) (b : ℕ) → Told (literalFault n last) (literalFault n last b)
+told-literal : (n : ℕ) (last : Option ℕ) (b : ℕ) → TellsRole (literalFault n last) (literalFault n last b)
 told-literal n none b = unfold literalFault in go (leb (2 * n) b)
   where
-    go : (c : Bool) → Told (literalFault n none) (cond c 3 0)
+    go : (c : Bool) → TellsRole (literalFault n none) (cond c 3 0)
     go true = of-literal n none refl (omega arith) (omega arith)
     go false = fine refl
 told-literal n (some l) b = unfold literalFault in go (leb (2 * n) b) (leb b l) (eqb (b / 2) (l / 2))
   where
-    go : (c d e : Bool) → Told (literalFault n (some l)) (cond c 3 (cond d 4 (cond e 5 0)))
+    go : (c d e : Bool) → TellsRole (literalFault n (some l)) (cond c 3 (cond d 4 (cond e 5 0)))
     go true d e = of-literal n (some l) refl (omega arith) (omega arith)
     go false true e = of-literal n (some l) refl (omega arith) (omega arith)
     go false false true = of-literal n (some l) refl (omega arith) (omega arith)
     go false false false = fine refl
 
-told-number : (m b : ℕ) → Told (numberFault m) (numberFault m b)
+told-number : (m b : ℕ) → TellsRole (numberFault m) (numberFault m b)
 told-number m b = unfold numberFault in go (leb m b)
   where
-    go : (c : Bool) → Told (numberFault m) (cond c 7 0)
+    go : (c : Bool) → TellsRole (numberFault m) (cond c 7 0)
     go true = of-number m refl refl
     go false = fine refl
 
 -- ---- every rule of a form has a role
 abbrev pub Roles : {A : Type 0} → Form A → Type 0
 Roles (done a) = Unit {0}
-Roles (byte rule next) = ((b : ℕ) → Told rule (rule b)) × ((b : ℕ) → Roles (next b))
+Roles (byte rule next) = ((b : ℕ) → TellsRole rule (rule b)) × ((b : ℕ) → Roles (next b))
 
 pub roles-due : {A : Type 0} (f : Form A) (bs : List ℕ) {g : Form A} → Roles f → due f bs ≡ some g → Roles g
 unfolding due
@@ -77,7 +77,7 @@ roles-due f [] {g} h e = let q : f ≡ g = cc in rw q at h
 roles-due (done a) (b ∷ bs) h e = let z : _≡_ {A = ℕ} 0 1 = cc in absurd (omega arith)
 roles-due (byte rule next) (b ∷ bs) h e = roles-due (next b) bs (h .1 b) (passed-some (rule b) e .1)
 
-roles-judged : (rule : ℕ → ℕ) → ((b : ℕ) → Told rule (rule b)) → Roles (judged rule)
+roles-judged : (rule : ℕ → ℕ) → ((b : ℕ) → TellsRole rule (rule b)) → Roles (judged rule)
 unfolding judged
 roles-judged rule h = (h, λ b. tt)
 

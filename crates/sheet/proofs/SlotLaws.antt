@@ -16,14 +16,14 @@ use Rattle.sheet.specs.Lists.{All, pad}
 use Rattle.sheet.specs.Problem.{Statement}
 use Rattle.sheet.specs.Format.{accepted, refused, sheetOf}
 use Rattle.sheet.specs.Decoded.{planOf, planIn, problemIn, statementIn, judgedBy, judgementIn}
-use Rattle.sheet.specs.Rows.{setsRow, clausesAt, actionFrom, actionsAt}
+use Rattle.sheet.specs.Packed.{setsIn, clausesAt, actionFrom, actionsAt}
 use Rattle.sheet.specs.Marks.{refusedBy}
 use Rattle.sheet.specs.Calls.{answerOf, judgeOf}
 use Rattle.sheet.specs.Encoding.{Counted, ProperClause, ProperAction, ProperStatement}
 use Rattle.sheet.proofs.ListFacts.{all-map}
 use Rattle.sheet.proofs.Encoded.{encoded-iff}
 use Rattle.sheet.proofs.Judging.{accepted-iff}
-use Rattle.sheet.proofs.RowLaws.{items-length}
+use Rattle.sheet.proofs.PackedLaws.{items-length}
 
 -- the first slots of a padded list are the list
 pub take-pad : {A : Type 0} (n : ℕ) (d : A) (xs : List A) → length xs ≤ n → take (length xs) (pad n d xs) ≡ xs
@@ -79,7 +79,7 @@ Few k rows = (k ≤ 8) × All (λ (c : List Literals). length c ≤ 8) (clausesA
 
 few : (n k : ℕ) (rows : List ℕ) → Counted 0 8 (ProperClause n) (clausesAt k rows) → Few k rows
 few n k rows h =
-    (rw (items-length 17 setsRow k rows) at (h .most), all-map (ProperClause n) (λ c. length c ≤ 8) (λ c g. g .most) (clausesAt k rows) (h .each))
+    (rw (items-length 17 setsIn k rows) at (h .most), all-map (ProperClause n) (λ c. length c ≤ 8) (λ c g. g .most) (clausesAt k rows) (h .each))
 
 module _ (x : Sheet) (ors oneofs goal moves : List ℕ) (h : ProperStatement (statementIn x ors oneofs goal moves)) where
   pub n-few : (1 ≤ x .n) × (x .n ≤ 32)

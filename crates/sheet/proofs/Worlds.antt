@@ -7,7 +7,7 @@ use Prim.Native.Nat.{ℕ, _-_, _^_, _<_}
 use lib.Dec.{ltb}
 use borrow.Author.Tests.{lt-ltb, ltb-true, not-true, not-false}
 use Rattle.sheet.specs.declared.Literals.{Literals}
-use Rattle.sheet.specs.Literals.{has, mem, within, clash, consistent, join, flip, replace, single, state, after, below}
+use Rattle.sheet.specs.Literals.{has, mem, within, clash, consistent, join, flip, replace, single, state, overridden, below}
 use Rattle.sheet.proofs.LiteralSets.{mem-state, within-of, of-within, not-within, of-apart, clash-at, clash-here, clash-sym, clash-single, consistent-of, of-consistent, consistent-join, not-not, below-of, of-below, below-trues, below-join, below-single, within-join, within-join-l, within-join-r, within-trans, within-single, within-antisym, consistent-single, consistent-within, consistent-flip, below-within, below-flip}
 use Rattle.sheet.proofs.Results.{consistent-replace, below-replace, within-replace, replace-cases, replace-kept}
 
@@ -169,12 +169,12 @@ module _ (n w : ℕ) (h : w < 2 ^ n) (r : Literals) (e : consistent r ≡ true) 
           replace-kept (state n w) r (not s) p (keep m (mem (state n w) s p) refl)
           (ap (λ (t : Bool). mem r t p) (not-not s) ∙ there (mem r s p) refl)
 
-  pub after-lt : after w r < 2 ^ n
-  unfolding after replace state
+  pub after-lt : overridden w r < 2 ^ n
+  unfolding overridden replace state
   after-lt = below-trues n _ (below-replace n (state n w) r (state-below n w h) b)
 
-  pub replace-state : replace (state n w) r ≡ state n (after w r)
-  unfolding after replace state
+  pub replace-state : replace (state n w) r ≡ state n (overridden w r)
+  unfolding overridden replace state
   replace-state =
       full-state n _ full-after (consistent-replace (state n w) r (state-consistent n w h) e) (below-replace n (state n w) r (state-below n w h) b)
 
@@ -190,12 +190,12 @@ before-world n d r e b v h i = (
 )
   where
     w : ℕ
-    w = after v d
+    w = overridden v d
 
-    hw : after v d < 2 ^ n
+    hw : overridden v d < 2 ^ n
     hw = after-lt n v h d e b
 
-    is : replace (state n v) d ≡ state n (after v d)
+    is : replace (state n v) d ≡ state n (overridden v d)
     is = replace-state n v h d e b
 
     ir : within r (state n v) ≡ true

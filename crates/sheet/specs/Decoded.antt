@@ -10,7 +10,7 @@ use Rattle.sheet.specs.declared.Decoded.{Decoded}
 use Rattle.sheet.specs.Lists.{pad}
 use Rattle.sheet.specs.Problem.{Problem, Statement}
 use Rattle.sheet.specs.Format.{Judgement, accepted, refused}
-use Rattle.sheet.specs.Rows.{setsRow, clausesAt, actionsAt}
+use Rattle.sheet.specs.Packed.{setsIn, clausesAt, actionsAt}
 
 -- a plan in its slots, those after it 0, and out of them
 unfoldable pub planOf : List ℕ → Plan
@@ -28,7 +28,7 @@ problemIn x ors oneofs goal moves =
       ors = clausesAt (x .ors) ors;
       oneofs = clausesAt (x .oneofs) oneofs;
       actions = actionsAt (x .moves) moves;
-      goal = setsRow goal;
+      goal = setsIn goal;
     }
 
 unfoldable pub statementIn : Sheet → List ℕ → List ℕ → List ℕ → List ℕ → Statement

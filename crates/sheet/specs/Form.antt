@@ -37,9 +37,9 @@ pub data Read (A : Type 0) : Type 0 where
   fault : ℕ → ℕ → Read A
 
 -- the fault; else what f reads after the item
-abbrev pub after : {A B : Type 0} → Read A → (A → ℕ → Read B) → Read B
-after (item a next) f = f a next
-after (fault k p) f = fault k p
+abbrev pub thenRead : {A B : Type 0} → Read A → (A → ℕ → Read B) → Read B
+thenRead (item a next) f = f a next
+thenRead (fault k p) f = fault k p
 
 -- the byte b at a position, by the number of its fault
 abbrev pub admit : ℕ → ℕ → ℕ → Read ℕ
@@ -52,7 +52,7 @@ byteAt s rule at = cond (ltb at (length s)) (admit (rule (getD s at 0)) (getD s 
 
 unfoldable pub read : {A : Type 0} → List ℕ → Form A → ℕ → Read A
 read s (done a) at = item a at
-read s (byte rule next) at = after (byteAt s rule at) (λ b rest. read s (next b) rest)
+read s (byte rule next) at = thenRead (byteAt s rule at) (λ b rest. read s (next b) rest)
 
 -- ---- the role of the next byte
 abbrev pub passed : {B : Type 0} → ℕ → Option B → Option B

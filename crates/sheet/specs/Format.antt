@@ -116,10 +116,10 @@ pub data Judgement : Type 0 where
   refused : ℕ → ℕ → Judgement
 
 -- 6: bytes after the plan, at the first of them
-unfoldable pub ended : List ℕ → Read Statement → Judgement
-ended s (item x end) = cond (ltb end (length s)) (refused 6 end) (accepted x)
-ended s (fault k p) = refused k p
+unfoldable pub atEnd : List ℕ → Read Statement → Judgement
+atEnd s (item x end) = cond (ltb end (length s)) (refused 6 end) (accepted x)
+atEnd s (fault k p) = refused k p
 
 -- what the bytes s say
 unfoldable pub sheetOf : List ℕ → Judgement
-sheetOf s = ended s (read s sheet 0)
+sheetOf s = atEnd s (read s sheet 0)

@@ -5,7 +5,7 @@ pub mod Problem
 pub mod Form
 pub mod Format
 pub mod Encoding
-pub mod Rows
+pub mod Packed
 pub mod Decoded
 pub mod Calls
 pub mod Faults

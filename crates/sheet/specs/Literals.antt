@@ -79,8 +79,8 @@ unfoldable pub state : ℕ → ℕ → Literals
 state n w = record { trues = w; falses = (2 ^ n - 1) - w }
 
 -- the world that w becomes by the results r
-unfoldable pub after : ℕ → Literals → ℕ
-after w r = bitOr (w - bitAnd w (r .falses)) (r .trues)
+unfoldable pub overridden : ℕ → Literals → ℕ
+overridden w r = bitOr (w - bitAnd w (r .falses)) (r .trues)
 
 -- some literal of the clause c lies in d
 unfoldable pub meets : Literals → Literals → Bool

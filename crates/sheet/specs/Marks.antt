@@ -9,7 +9,7 @@ use Rattle.sheet.specs.Form.{Read, item, fault}
 use Rattle.sheet.specs.declared.reader.Facts as slots
 use Rattle.sheet.specs.Problem.{Facts}
 use Rattle.sheet.specs.Format.{Judgement, refused}
-use Rattle.sheet.specs.Rows.{clausesAt}
+use Rattle.sheet.specs.Packed.{clausesAt}
 
 -- where reading stands after it
 unfoldable pub markOf : {A : Type 0} → Read A → Mark
@@ -17,7 +17,7 @@ markOf (item a next) = At next
 markOf (fault k p) = Fault k p
 
 -- the mark m and the value v are those of what x has read, the value in the slots that shape gives it
-pub record Gave {A B : Type 0} (shape : A → B) (x : Read A) (m : Mark) (v : B) : Type 0 where
+pub record ReadsAs {A B : Type 0} (shape : A → B) (x : Read A) (m : Mark) (v : B) : Type 0 where
   pub mark : m ≡ markOf x
   pub value : (a : A) (next : ℕ) → x ≡ item a next → v ≡ shape a
 
@@ -25,9 +25,9 @@ abbrev pub same : {A : Type 0} → A → A
 same a = a
 
 -- the literal before, by one more than it; 0 for the first
-abbrev pub before : ℕ → Option ℕ
-before zero = none
-before (suc l) = some l
+abbrev pub literalBefore : ℕ → Option ℕ
+literalBefore zero = none
+literalBefore (suc l) = some l
 
 -- sections 1 to 4, with the rows of the clauses
 unfoldable pub factsIn : slots.Facts → List ℕ → List ℕ → Facts

@@ -6,8 +6,8 @@ ghost use Rattle.sheet.specs.Decoded.{judgementIn};
 ghost use Rattle.sheet.specs.Calls.{judgeOf};
 
 pub mod masks;
+pub mod packed;
 mod reader;
-pub mod rows;
 
 // A set of literals: bit p of trues for "p is true", of falses for "p is false".
 pub struct Literals {

@@ -6,7 +6,7 @@ use crate::Literals;
 use crate::Plan;
 use crate::Sheet;
 use crate::masks;
-use crate::rows::write_effect;
+use crate::packed::write_effect;
 ghost use mathlib.Core.Path.{_≡_};
 ghost use mathlib.Core.List.{[]};
 ghost use mathlib.Core.Option.{none};
@@ -14,9 +14,9 @@ ghost use Prim.Native.Nat.{_≤_};
 ghost use lib.ListN.{length};
 ghost use Rattle.sheet.specs.Form.{judged, times, read};
 ghost use Rattle.sheet.specs.Format as F;
-ghost use Rattle.sheet.specs.Rows as R;
+ghost use Rattle.sheet.specs.Packed as R;
 ghost use Rattle.sheet.specs.Decoded.{planOf, judgementIn};
-ghost use Rattle.sheet.specs.Marks.{Gave, same, before, factsIn, refusedBy};
+ghost use Rattle.sheet.specs.Marks.{ReadsAs, same, literalBefore, factsIn, refusedBy};
 ghost use Rattle.sheet.specs.Calls.{answerOf};
 ghost use Rattle.sheet.specs.declared.Answer.the-variants.{Refused};
 
@@ -96,7 +96,7 @@ fn early(s: &[u8]) -> ByteRead
 
 // A count byte from low to high.
 fn count_at(s: &[u8], low: usize, high: usize, at: usize) -> ByteRead
-    ensures { λ r. ⌜ Gave same (read (now (s .entry)) (F.count low high) at) (r .mark) (r .value) ⌝ }
+    ensures { λ r. ⌜ ReadsAs same (read (now (s .entry)) (F.count low high) at) (r .mark) (r .value) ⌝ }
 {
     if s.len() <= at {
         return early(s);
@@ -124,7 +124,7 @@ fn count_at(s: &[u8], low: usize, high: usize, at: usize) -> ByteRead
 // The number of a literal's fault, 0 for none. floor is one more than the literal before, 0 for the first.
 fn literal_fault(n: usize, floor: usize, b: usize) -> u8
     requires { ⌜ n ≤ 32 ⌝ }
-    ensures { λ r. ⌜ r ≡ F.literalFault n (before floor) b ⌝ }
+    ensures { λ r. ⌜ r ≡ F.literalFault n (literalBefore floor) b ⌝ }
 {
     if 2 * n <= b {
         return 3;
@@ -143,7 +143,7 @@ fn literal_fault(n: usize, floor: usize, b: usize) -> u8
 // A literal byte after those of a list that were read before it.
 fn literal_at(s: &[u8], n: usize, floor: usize, at: usize) -> ByteRead
     requires { ⌜ n ≤ 32 ⌝ }
-    ensures { λ r. ⌜ Gave same (read (now (s .entry)) (judged (F.literalFault n (before floor))) at) (r .mark) (r .value) ⌝ }
+    ensures { λ r. ⌜ ReadsAs same (read (now (s .entry)) (judged (F.literalFault n (literalBefore floor))) at) (r .mark) (r .value) ⌝ }
 {
     if s.len() <= at {
         return early(s);
@@ -166,7 +166,7 @@ fn literal_at(s: &[u8], n: usize, floor: usize, at: usize) -> ByteRead
 // k literals from first.
 fn literals_from(s: &[u8], n: usize, k: usize, first: usize) -> LiteralsRead
     requires { ⌜ n ≤ 32 ⌝ }
-    ensures { λ r. ⌜ Gave F.setOf (read (now (s .entry)) (F.ascending n none k) first) (r .mark) (r .value) ⌝ }
+    ensures { λ r. ⌜ ReadsAs F.setOf (read (now (s .entry)) (F.ascending n none k) first) (r .mark) (r .value) ⌝ }
 {
     let mut l = NONE;
     let mut floor: usize = 0;
@@ -196,7 +196,7 @@ fn literals_from(s: &[u8], n: usize, k: usize, first: usize) -> LiteralsRead
 // A list of low to high literals, after its count.
 fn literals_at(s: &[u8], n: usize, low: usize, high: usize, at: usize) -> LiteralsRead
     requires { ⌜ n ≤ 32 ⌝ }
-    ensures { λ r. ⌜ Gave same (read (now (s .entry)) (F.literals n low high) at) (r .mark) (r .value) ⌝ }
+    ensures { λ r. ⌜ ReadsAs same (read (now (s .entry)) (F.literals n low high) at) (r .mark) (r .value) ⌝ }
 {
     let r = count_at(s, low, high, at);
     let mark = r.mark;
@@ -212,7 +212,7 @@ fn literals_at(s: &[u8], n: usize, low: usize, high: usize, at: usize) -> Litera
 // A condition and a result.
 fn effect_at(s: &[u8], n: usize, at: usize) -> EffectRead
     requires { ⌜ n ≤ 32 ⌝ }
-    ensures { λ r. ⌜ Gave same (read (now (s .entry)) (F.effect n) at) (r .mark) (r .value) ⌝ }
+    ensures { λ r. ⌜ ReadsAs same (read (now (s .entry)) (F.effect n) at) (r .mark) (r .value) ⌝ }
 {
     let c = literals_at(s, n, 0, 4, at);
     let mark = c.mark;
@@ -244,7 +244,7 @@ fn effect_at(s: &[u8], n: usize, at: usize) -> EffectRead
 // k effects from first, laid in the row.
 fn effects_from(s: &[u8], n: usize, k: usize, first: usize, effects: &mut [u32]) -> Mark
     requires { ⌜ (n ≤ 32) × (k ≤ 8) × (length (now effects) ≡ 32) ⌝ }
-    ensures { λ r. ⌜ Gave same (read (now (s .entry)) (times k (F.effect n)) first) r (R.effectsAt k (now (effects .exit))) ⌝ }
+    ensures { λ r. ⌜ ReadsAs same (read (now (s .entry)) (times k (F.effect n)) first) r (R.effectsAt k (now (effects .exit))) ⌝ }
 {
     let mut next = first;
     let mut i: usize = 0;
@@ -265,7 +265,7 @@ fn effects_from(s: &[u8], n: usize, k: usize, first: usize, effects: &mut [u32])
 // A precondition and the effects, laid in the 35 numbers of a move.
 fn move_at(s: &[u8], n: usize, at: usize, row: &mut [u32]) -> Mark
     requires { ⌜ (n ≤ 32) × (length (now row) ≡ 35) ⌝ }
-    ensures { λ r. ⌜ Gave same (read (now (s .entry)) (F.action n) at) r (R.actionFrom (now (row .exit))) ⌝ }
+    ensures { λ r. ⌜ ReadsAs same (read (now (s .entry)) (F.action n) at) r (R.actionFrom (now (row .exit))) ⌝ }
 {
     let p = literals_at(s, n, 0, 8, at);
     let mark = p.mark;
@@ -288,7 +288,7 @@ fn move_at(s: &[u8], n: usize, at: usize, row: &mut [u32]) -> Mark
 // k moves from first, laid in the rows.
 fn moves_from(s: &[u8], n: usize, k: usize, first: usize, rows: &mut [u32]) -> Mark
     requires { ⌜ (n ≤ 32) × (k ≤ 32) × (length (now rows) ≡ 1120) ⌝ }
-    ensures { λ r. ⌜ Gave same (read (now (s .entry)) (times k (F.action n)) first) r (R.actionsAt k (now (rows .exit))) ⌝ }
+    ensures { λ r. ⌜ ReadsAs same (read (now (s .entry)) (times k (F.action n)) first) r (R.actionsAt k (now (rows .exit))) ⌝ }
 {
     let mut next = first;
     let mut i: usize = 0;
@@ -307,7 +307,7 @@ fn moves_from(s: &[u8], n: usize, k: usize, first: usize, rows: &mut [u32]) -> M
 // Section 5, laid in the rows: how many moves.
 fn moves_at(s: &[u8], n: usize, at: usize, rows: &mut [u32]) -> ByteRead
     requires { ⌜ (n ≤ 32) × (length (now rows) ≡ 1120) ⌝ }
-    ensures { λ r. ⌜ Gave same (read (now (s .entry)) (F.actions n) at) (r .mark) (R.actionsAt (r .value) (now (rows .exit))) ⌝ }
+    ensures { λ r. ⌜ ReadsAs same (read (now (s .entry)) (F.actions n) at) (r .mark) (R.actionsAt (r .value) (now (rows .exit))) ⌝ }
 {
     let r = count_at(s, 1, 32, at);
     let mark = r.mark;
@@ -324,7 +324,7 @@ fn moves_at(s: &[u8], n: usize, at: usize, rows: &mut [u32]) -> ByteRead
 // k lists of 1 to widest literals from first, laid out, two masks to each.
 fn sets_from(s: &[u8], n: usize, widest: usize, k: usize, first: usize, sets: &mut [u32]) -> Mark
     requires { ⌜ (n ≤ 32) × (k ≤ 8) × (length (now sets) ≡ 16) ⌝ }
-    ensures { λ r. ⌜ Gave same (read (now (s .entry)) (times k (F.literals n 1 widest)) first) r (R.setsAt k (now (sets .exit))) ⌝ }
+    ensures { λ r. ⌜ ReadsAs same (read (now (s .entry)) (times k (F.literals n 1 widest)) first) r (R.setsAt k (now (sets .exit))) ⌝ }
 {
     let mut next = first;
     let mut i: usize = 0;
@@ -346,7 +346,7 @@ fn sets_from(s: &[u8], n: usize, widest: usize, k: usize, first: usize, sets: &m
 // least to 8 lists of 1 to widest literals, laid in 17 numbers: the alternatives of a clause, or section 6, the goal.
 fn sets_at(s: &[u8], n: usize, least: usize, widest: usize, at: usize, row: &mut [u32]) -> Mark
     requires { ⌜ (n ≤ 32) × (length (now row) ≡ 17) ⌝ }
-    ensures { λ r. ⌜ Gave same (read (now (s .entry)) (F.listOf least 8 (F.literals n 1 widest)) at) r (R.setsRow (now (row .exit))) ⌝ }
+    ensures { λ r. ⌜ ReadsAs same (read (now (s .entry)) (F.listOf least 8 (F.literals n 1 widest)) at) r (R.setsIn (now (row .exit))) ⌝ }
 {
     let r = count_at(s, least, 8, at);
     let mark = r.mark;
@@ -361,7 +361,7 @@ fn sets_at(s: &[u8], n: usize, least: usize, widest: usize, at: usize, row: &mut
 // k clauses from first, laid in the rows.
 fn clauses_from(s: &[u8], n: usize, k: usize, first: usize, rows: &mut [u32]) -> Mark
     requires { ⌜ (n ≤ 32) × (k ≤ 8) × (length (now rows) ≡ 136) ⌝ }
-    ensures { λ r. ⌜ Gave same (read (now (s .entry)) (times k (F.clause n)) first) r (R.clausesAt k (now (rows .exit))) ⌝ }
+    ensures { λ r. ⌜ ReadsAs same (read (now (s .entry)) (times k (F.clause n)) first) r (R.clausesAt k (now (rows .exit))) ⌝ }
 {
     let mut next = first;
     let mut i: usize = 0;
@@ -380,7 +380,7 @@ fn clauses_from(s: &[u8], n: usize, k: usize, first: usize, rows: &mut [u32]) ->
 // Section 3 or 4, laid in the rows: how many clauses.
 fn clauses_at(s: &[u8], n: usize, at: usize, rows: &mut [u32]) -> ByteRead
     requires { ⌜ (n ≤ 32) × (length (now rows) ≡ 136) ⌝ }
-    ensures { λ r. ⌜ Gave same (read (now (s .entry)) (F.clauses n) at) (r .mark) (R.clausesAt (r .value) (now (rows .exit))) ⌝ }
+    ensures { λ r. ⌜ ReadsAs same (read (now (s .entry)) (F.clauses n) at) (r .mark) (R.clausesAt (r .value) (now (rows .exit))) ⌝ }
 {
     let r = count_at(s, 0, 8, at);
     let mark = r.mark;
@@ -396,7 +396,7 @@ fn clauses_at(s: &[u8], n: usize, at: usize, rows: &mut [u32]) -> ByteRead
 
 // The number of one of the m moves.
 fn number_at(s: &[u8], m: usize, at: usize) -> ByteRead
-    ensures { λ r. ⌜ Gave same (read (now (s .entry)) (judged (F.numberFault m)) at) (r .mark) (r .value) ⌝ }
+    ensures { λ r. ⌜ ReadsAs same (read (now (s .entry)) (judged (F.numberFault m)) at) (r .mark) (r .value) ⌝ }
 {
     if s.len() <= at {
         return early(s);
@@ -418,7 +418,7 @@ fn number_at(s: &[u8], m: usize, at: usize) -> ByteRead
 // k move numbers from first.
 fn plan_from(s: &[u8], m: usize, k: usize, first: usize) -> PlanRead
     requires { ⌜ (m ≤ 32) × (k ≤ 64) ⌝ }
-    ensures { λ r. ⌜ Gave planOf (read (now (s .entry)) (times k (judged (F.numberFault m))) first) (r .mark) (r .value) ⌝ }
+    ensures { λ r. ⌜ ReadsAs planOf (read (now (s .entry)) (times k (judged (F.numberFault m))) first) (r .mark) (r .value) ⌝ }
 {
     let mut numbers = [0u8; 64];
     let mut next = first;
@@ -451,7 +451,7 @@ fn plan_from(s: &[u8], m: usize, k: usize, first: usize) -> PlanRead
 // Section 7.
 fn plan_at(s: &[u8], m: usize, at: usize) -> PlanRead
     requires { ⌜ m ≤ 32 ⌝ }
-    ensures { λ r. ⌜ Gave planOf (read (now (s .entry)) (F.plan m) at) (r .mark) (r .value) ⌝ }
+    ensures { λ r. ⌜ ReadsAs planOf (read (now (s .entry)) (F.plan m) at) (r .mark) (r .value) ⌝ }
 {
     let r = count_at(s, 0, 64, at);
     let mark = r.mark;
@@ -481,7 +481,7 @@ fn no_facts(mark: Mark) -> FactsRead
 // Sections 1 to 4, the clauses laid in the rows.
 fn facts_at(s: &[u8], ors: &mut [u32], oneofs: &mut [u32]) -> FactsRead
     requires { ⌜ (length (now ors) ≡ 136) × (length (now oneofs) ≡ 136) ⌝ }
-    ensures { λ r. ⌜ Gave same (read (now (s .entry)) F.facts 0) (r .mark) (factsIn (r .value) (now (ors .exit)) (now (oneofs .exit))) × (r .value .n ≤ 32) ⌝ }
+    ensures { λ r. ⌜ ReadsAs same (read (now (s .entry)) F.facts 0) (r .mark) (factsIn (r .value) (now (ors .exit)) (now (oneofs .exit))) × (r .value .n ≤ 32) ⌝ }
 {
     let first = count_at(s, 1, 32, 0);
     let mark = first.mark;
@@ -517,7 +517,7 @@ fn facts_at(s: &[u8], ors: &mut [u32], oneofs: &mut [u32]) -> FactsRead
 }
 
 // Refused, with nothing in any slot.
-fn refused(number: u8, position: usize) -> Decoded
+fn refuse(number: u8, position: usize) -> Decoded
     ensures { λ r. ⌜ (r .answer ≡ Refused number position) × (r .sheet .plan .count ≤ 64) ⌝ }
 {
     Decoded {
@@ -534,12 +534,12 @@ fn refused(number: u8, position: usize) -> Decoded
 }
 
 // Refused by the fault of a mark.
-fn refused_at(mark: Mark) -> Decoded
+fn refuse_at(mark: Mark) -> Decoded
     ensures { λ r. ⌜ (r .answer ≡ answerOf (refusedBy mark)) × (r .sheet .plan .count ≤ 64) ⌝ }
 {
     match mark {
-        Mark::Fault(number, position) => refused(number, position),
-        Mark::At(position) => refused(0, position),
+        Mark::Fault(number, position) => refuse(number, position),
+        Mark::At(position) => refuse(0, position),
     }
 }
 
@@ -557,25 +557,25 @@ pub(crate) fn sheet_in(
     let facts = facts_at(s, ors, oneofs);
     let mark = facts.mark;
     let Mark::At(a) = mark else {
-        return refused_at(mark);
+        return refuse_at(mark);
     };
     let f = facts.value;
     let count = moves_at(s, f.n, a, moves);
     let mark_moves = count.mark;
     let Mark::At(b) = mark_moves else {
-        return refused_at(mark_moves);
+        return refuse_at(mark_moves);
     };
     let mark_goal = sets_at(s, f.n, 0, 8, b, goal);
     let Mark::At(c) = mark_goal else {
-        return refused_at(mark_goal);
+        return refuse_at(mark_goal);
     };
     let plan = plan_at(s, count.value, c);
     let mark_plan = plan.mark;
     let Mark::At(end) = mark_plan else {
-        return refused_at(mark_plan);
+        return refuse_at(mark_plan);
     };
     if end < s.len() {
-        return refused(6, end);
+        return refuse(6, end);
     }
     let known = f.known;
     let numbers = plan.value;

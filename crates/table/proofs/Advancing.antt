@@ -22,7 +22,7 @@ use Rattle.sheet.proofs.LiteralSets.{proper-consistent}
 use Rattle.table.specs.declared.slots.Grown.{Grown}
 use Rattle.table.specs.declared.slots.Grown.the-variants as grown
 use Rattle.table.specs.declared.Table.{Table}
-use Rattle.table.specs.declared.Tabled.{Tabled}
+use Rattle.table.specs.declared.TableAnswer.{TableAnswer}
 use Rattle.table.specs.declared.Counted.{Counted}
 use Rattle.table.specs.Worlds.{results}
 use Rattle.table.specs.Minimal.{described, putAll, Outcome, refused}
@@ -32,11 +32,11 @@ use Rattle.table.specs.Slots.{pairs, entriesOf, entries, tableOf, Grew, 
 use Rattle.table.specs.Calls.{orGiven, actionAt, stepKnown, stepMove, stepOf}
 use Rattle.table.specs.declared.steps.Stepped.{Stepped}
 use Rattle.table.specs.declared.steps.Stepped.the-variants as moved
-use Rattle.sheet.specs.Rows.{setFrom, actionBy, rowOf, countIn, actionFrom, countOf, actionOf, actionsAt}
+use Rattle.sheet.specs.Packed.{setFrom, actionBy, itemAt, countIn, actionFrom, countOf, actionOf, actionsAt}
 use Rattle.table.specs.Moves.{lent, tabled, toldOf, kept, counted, Fits}
 use Rattle.table.specs.Carry.{Steady}
 use Rattle.table.proofs.Pads.{length-entriesOf, fresh}
-use Rattle.sheet.proofs.RowLaws.{items-length, item-at, item-of-all, effects-long}
+use Rattle.sheet.proofs.PackedLaws.{items-length, item-at, item-of-all, effects-long}
 use Rattle.table.proofs.PairLaws.{pairs-contradict}
 use Rattle.table.proofs.Describing.{described-iff}
 
@@ -117,7 +117,7 @@ module _ (a : Action) (n : ℕ) (ts fs : List ℕ) (h : Fits a (lent n ts fs)) w
   abbrev given : Table
   given = lent n ts fs
 
-  abbrev due : Tabled
+  abbrev due : TableAnswer
   due = orGiven given (stepTable 128 a (entriesOf n ts fs))
 
   -- no condition and no entry contradicts itself
@@ -133,9 +133,9 @@ module _ (a : Action) (n : ℕ) (ts fs : List ℕ) (h : Fits a (lent n ts fs)) w
   lent-unsure s = sym (ap (orGiven given) (unsure a given h s))
 
   module _ (s : allOf (λ d. within (a .precondition) d) (entriesOf n ts fs) ≡ true) where
-    pub lent-unclear : anyOf (λ d. contradicts (a .effects) d) (entriesOf n ts fs) ≡ true → tabled given (moved.Refused 25) [] [] ≡ due
+    pub lent-conflicting : anyOf (λ d. contradicts (a .effects) d) (entriesOf n ts fs) ≡ true → tabled given (moved.Refused 25) [] [] ≡ due
     unfolding entries orGiven
-    lent-unclear u = sym (ap (orGiven given) (unclear a given h s u))
+    lent-conflicting u = sym (ap (orGiven given) (unclear a given h s u))
 
     module _ (u : anyOf (λ d. contradicts (a .effects) d) (entriesOf n ts fs) ≡ false) (us gs : List ℕ) (e : us ≡ replicate 128 0) (f : gs ≡ replicate 128 0)
         (r : Grown) (vs hs : List ℕ) (w : Puts (map (image (a .effects)) (collect (pieces (a .effects)) (entriesOf n ts fs))) 0 us gs r vs hs) where
@@ -148,7 +148,7 @@ module _ (a : Action) (n : ℕ) (ts fs : List ℕ) (h : Fits a (lent n ts fs)) w
       lent-to k q = stepped a given h s u r vs hs (fresh-puts us gs e f _ r vs hs w) k q
 
 -- ---- the move of a number, laid out among others
-pub action-is : (moves : List ℕ) (m : ℕ) (row : List ℕ) (p : Literals) (size : ℕ) → row ≡ rowOf 35 moves m → p ≡ setFrom row 0 → size ≡ countIn row
+pub action-is : (moves : List ℕ) (m : ℕ) (row : List ℕ) (p : Literals) (size : ℕ) → row ≡ itemAt 35 moves m → p ≡ setFrom row 0 → size ≡ countIn row
     → actionBy p size (take 32 (drop 3 row)) ≡ actionOf moves m
 unfolding actionFrom
 action-is moves m row p size r a b = ap₂ (λ (q : Literals) (n : ℕ). actionBy q n (take 32 (drop 3 row))) a b ∙ ap actionFrom r
@@ -158,7 +158,7 @@ module _ (n : ℕ) (hn : n ≤ 32) (moves : List ℕ) (count : ℕ) (h : All (Pr
   abbrev it : Action
   it = actionOf moves i
 
-  abbrev whole : Tabled
+  abbrev whole : TableAnswer
   whole = stepMove (ltb i count) n it t
 
   pub off-sheet : count ≤ i → record { answer = Refused 7 0; table = t } ≡ whole
@@ -170,7 +170,7 @@ module _ (n : ℕ) (hn : n ≤ 32) (moves : List ℕ) (count : ℕ) (h : All (Pr
 
     pub its-count : countOf moves i ≤ 8
     unfolding actionFrom
-    its-count = subst (λ (k : ℕ). k ≤ 8) (effects-long (countOf moves i) (take 32 (drop 3 (rowOf 35 moves i)))) (its-action .effects .most)
+    its-count = subst (λ (k : ℕ). k ≤ 8) (effects-long (countOf moves i) (take 32 (drop 3 (itemAt 35 moves i)))) (its-action .effects .most)
 
     by-known : (b : Bool) → described 128 n (entries t) ≡ b → stepKnown b it t ≡ whole
     by-known b d =
@@ -219,9 +219,9 @@ unfolding stepOf
 call-fault s t i k p e = sym (ap (λ (j : Judgement). stepOf j t i) e)
 
 -- the call by value: the table given, or the fresh one
-pub step-kept : (t : Table) (c : Counted) (us gs : List ℕ) (d : Tabled) (k p : ℕ) → c .answer ≡ Refused k p → counted t c us gs ≡ d → record { answer = c .answer; table = t } ≡ d
+pub step-kept : (t : Table) (c : Counted) (us gs : List ℕ) (d : TableAnswer) (k p : ℕ) → c .answer ≡ Refused k p → counted t c us gs ≡ d → record { answer = c .answer; table = t } ≡ d
 step-kept t c us gs d k p e q = ap (λ (a : Answer). record { answer = c .answer; table = kept a t (lent (c .count) us gs) }) (sym e) ∙ q
 
-pub step-new : (t : Table) (c : Counted) (us gs : List ℕ) (d : Tabled) → c .answer ≡ Accepted → counted t c us gs ≡ d
+pub step-new : (t : Table) (c : Counted) (us gs : List ℕ) (d : TableAnswer) → c .answer ≡ Accepted → counted t c us gs ≡ d
     → record { answer = c .answer; table = record { count = c .count; trues = us; falses = gs } } ≡ d
 step-new t c us gs d e q = ap (λ (a : Answer). record { answer = c .answer; table = kept a t (lent (c .count) us gs) }) (sym e) ∙ q

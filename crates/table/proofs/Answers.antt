@@ -17,7 +17,7 @@ use Rattle.sheet.specs.Encoding.{ProperProblem}
 use Rattle.sheet.specs.Format.{Judgement, accepted, refused, sheetOf}
 use Rattle.sheet.proofs.Demands.{statement-proper}
 use Rattle.table.specs.declared.Table.{Table}
-use Rattle.table.specs.declared.Tabled.{Tabled}
+use Rattle.table.specs.declared.TableAnswer.{TableAnswer}
 use Rattle.table.specs.Minimal.{Described, described, Outcome}
 use Rattle.table.specs.Start.{startTable}
 use Rattle.table.specs.Step.{stepTable}
@@ -138,18 +138,18 @@ module _ (s : List ℕ) (x : Statement) (says : sheetOf s ≡ accepted x) (t : T
   not-7 (inr (inr e)) = (λ f. omega arith, λ f. omega arith)
 
   told-off : {a : Answer} → stepOf (sheetOf s) t m .answer ≡ a → length (x .problem .actions) ≤ m → Refused 7 0 ≡ a
-  told-off e h = ap (λ (r : Tabled). r .answer) (sym (by-off h)) ∙ e
+  told-off e h = ap (λ (r : TableAnswer). r .answer) (sym (by-off h)) ∙ e
 
   told-other : {a : Answer} → stepOf (sheetOf s) t m .answer ≡ a → m < length (x .problem .actions) → described 128 (x .problem .n) (entries t) ≡ false → Refused 22 0 ≡ a
-  told-other e h d = ap (λ (r : Tabled). r .answer) (sym (by-other h d)) ∙ e
+  told-other e h d = ap (λ (r : TableAnswer). r .answer) (sym (by-other h d)) ∙ e
 
   told-known : {a : Answer} → stepOf (sheetOf s) t m .answer ≡ a → m < length (x .problem .actions) → described 128 (x .problem .n) (entries t) ≡ true
       → orGiven t (stepTable 128 (actionAt (x .problem) m) (entries t)) .answer ≡ a
-  told-known e h d = ap (λ (r : Tabled). r .answer) (sym (by-known h d)) ∙ e
+  told-known e h d = ap (λ (r : TableAnswer). r .answer) (sym (by-known h d)) ∙ e
 
   -- 7: a move number that is not on the sheet
   pub step-7 : (stepOf (sheetOf s) t m .answer ≡ Refused 7 0) ↔ (length (x .problem .actions) ≤ m)
-  step-7 = (λ e. go e which, λ h. ap (λ (r : Tabled). r .answer) (by-off h))
+  step-7 = (λ e. go e which, λ h. ap (λ (r : TableAnswer). r .answer) (by-off h))
     where
       go : stepOf (sheetOf s) t m .answer ≡ Refused 7 0 → Case → length (x .problem .actions) ≤ m
       go e (off h) = h
@@ -167,7 +167,7 @@ module _ (s : List ℕ) (x : Statement) (says : sheetOf s ≡ accepted x) (t : T
 
       back : (m < length (x .problem .actions)) × (Described 128 (x .problem .n) (entries t) → ⊥) → Case → stepOf (sheetOf s) t m .answer ≡ Refused 22 0
       back h (off y) = absurd (omega (arith, h .0))
-      back h (other y d) = ap (λ (r : Tabled). r .answer) (by-other y d)
+      back h (other y d) = ap (λ (r : TableAnswer). r .answer) (by-other y d)
       back h (known y d) = absurd (h .1 (is-described d))
 
   -- 24, 25 and 21: by the step itself (TH3)
@@ -186,7 +186,7 @@ module _ (s : List ℕ) (x : Statement) (says : sheetOf s ≡ accepted x) (t : T
           → Case → stepOf (sheetOf s) t m .answer ≡ Refused k 0
       back h (off y) = absurd (omega (arith, h .0))
       back h (other y d) = absurd (true≢false (sym (described-iff 128 (x .problem .n) (entries t) .1 (h .1)) ∙ d))
-      back h (known y d) = ap (λ (r : Tabled). r .answer) (by-known y d) ∙ given-refused t _ k 0 .1 (refl, h .2)
+      back h (known y d) = ap (λ (r : TableAnswer). r .answer) (by-known y d) ∙ given-refused t _ k 0 .1 (refl, h .2)
 
   -- accepted exactly if none of these holds
   pub step-accepted : (stepOf (sheetOf s) t m .answer ≡ Accepted)
@@ -205,7 +205,7 @@ module _ (s : List ℕ) (x : Statement) (says : sheetOf s ≡ accepted x) (t : T
           × ((u : List Literals) × (stepTable 128 (actionAt (x .problem) m) (entries t) ≡ Outcome.table u)) → Case → stepOf (sheetOf s) t m .answer ≡ Accepted
       back h (off y) = absurd (omega (arith, h .0))
       back h (other y d) = absurd (true≢false (sym (described-iff 128 (x .problem .n) (entries t) .1 (h .1)) ∙ d))
-      back h (known y d) = ap (λ (r : Tabled). r .answer) (by-known y d) ∙ given-accepted t _ .1 (h .2)
+      back h (known y d) = ap (λ (r : TableAnswer). r .answer) (by-known y d) ∙ given-accepted t _ .1 (h .2)
 
 -- a refused step gives back the given table in every slot
 pub step-back : (s : List ℕ) (t : Table) (m k q : ℕ) → stepOf (sheetOf s) t m .answer ≡ Refused k q → stepOf (sheetOf s) t m .table ≡ t

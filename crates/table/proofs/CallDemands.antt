@@ -21,10 +21,10 @@ use Rattle.sheet.specs.Encoding.{ProperAction, ProperProblem}
 use Rattle.sheet.proofs.Bools.{test}
 use Rattle.sheet.proofs.Demands.{statement-proper}
 use Rattle.table.specs.declared.Table.{Table}
-use Rattle.table.specs.declared.Pictured.{Pictured}
+use Rattle.table.specs.declared.PictureAnswer.{PictureAnswer}
 use Rattle.table.specs.Worlds.{stepWorld}
 use Rattle.table.specs.Minimal.{In, described, Outcome}
-use Rattle.table.specs.Start.{clausesOf, growAll, startTable}
+use Rattle.table.specs.Start.{startClauses, growAll, startTable}
 use Rattle.table.specs.Step.{stepTable}
 use Rattle.table.specs.Picture.{Ascending, picture}
 use Rattle.table.specs.Prime.{Exactly}
@@ -58,7 +58,7 @@ module _ (s : List ℕ) (x : Statement) (says : Says s x) where
   )
 
   pub start-accepted : (startOf (sheetOf s) .answer ≡ Accepted)
-      ↔ ((t : List Literals) × (growAll 128 (clausesOf (x .problem)) (x .problem .known ∷ []) ≡ Outcome.table t) × (startOf (sheetOf s) .table ≡ tableOf t))
+      ↔ ((t : List Literals) × (growAll 128 (startClauses (x .problem)) (x .problem .known ∷ []) ≡ Outcome.table t) × (startOf (sheetOf s) .table ≡ tableOf t))
   unfolding startTable
   start-accepted = (called.started s x says, λ h. tables.start-accepted s x says .1 (h .0, h .1))
 
@@ -277,7 +277,7 @@ module _ (s : List ℕ) (x : Statement) (says : Says s x) (t : Table) where
     picture-23 = rw long at (tables.picture-23 s x says t blank)
 
     pub picture-numbers : (k q : ℕ) → pictureOf (sheetOf s) t len .answer ≡ Refused k q → (q ≡ 0) × ((k ≡ 22) ⊎ ((k ≡ 21) ⊎ (k ≡ 23)))
-    picture-numbers k q e = go (described 128 (x .problem .n) (entries t)) (picture (entries t)) (sym (ap (λ (r : Pictured). r .answer) by-sheet) ∙ e)
+    picture-numbers k q e = go (described 128 (x .problem .n) (entries t)) (picture (entries t)) (sym (ap (λ (r : PictureAnswer). r .answer) by-sheet) ∙ e)
       where
         by-sheet : pictureOf (sheetOf s) t len ≡ cond (described 128 (x .problem .n) (entries t)) (given (picture (entries t)) len) (refusal 22 0)
         by-sheet = unfold pictureOf in rw says

@@ -18,7 +18,7 @@ use Rattle.sheet.specs.Encoding.{ProperProblem}
 use Rattle.sheet.proofs.Members.{some-world}
 use Rattle.sheet.proofs.Demands.{statement-proper}
 use Rattle.table.specs.declared.Table.{Table}
-use Rattle.table.specs.declared.Tabled.{Tabled}
+use Rattle.table.specs.declared.TableAnswer.{TableAnswer}
 use Rattle.table.specs.Worlds.{stepWorld, Starting}
 use Rattle.table.specs.Minimal.{In, Described, Least, Outcome}
 use Rattle.table.specs.Start.{startTable}
@@ -56,7 +56,7 @@ module _ (s : List ℕ) (x : Statement) (says : Says s x) where
   pub started : startOf (sheetOf s) .answer ≡ Accepted → (t : List Literals) × (startTable 128 (x .problem) ≡ Outcome.table t) × (startOf (sheetOf s) .table ≡ tableOf t)
   started e =
       let k = tables.start-accepted s x says .0 e in
-      (k .0, k .1, unfold orGiven in ap (λ (r : Tabled). r .table) (start-call ∙ ap (orGiven (tableOf [])) (k .1)))
+      (k .0, k .1, unfold orGiven in ap (λ (r : TableAnswer). r .table) (start-call ∙ ap (orGiven (tableOf [])) (k .1)))
 
   start-described : (t : List Literals) → startTable 128 (x .problem) ≡ Outcome.table t → Described 128 (p .n) t
   start-described t e = tables.start-table p hp 128 t e .0 (omega arith)

@@ -19,9 +19,9 @@ use Rattle.sheet.proofs.Members.{flip-literal}
 use Rattle.table.specs.Worlds.{addResult, results}
 use Rattle.table.specs.Step.{pieces, image}
 use Rattle.table.specs.declared.slots.Grown.{Grown}
-use Rattle.table.specs.declared.steps.Settled.{Settled}
+use Rattle.table.specs.declared.steps.Undecided.{Undecided}
 use Rattle.table.specs.Slots.{Puts}
-use Rattle.table.specs.Carry.{Steady, Carried, Settles, lacks, partAt, carriedAt}
+use Rattle.table.specs.Carry.{Steady, Carried, Skips, minus, partAt, carriedAt}
 use Rattle.table.proofs.Growing.{puts-is}
 use Rattle.table.proofs.Lacking.{contains-lacks}
 use Rattle.table.proofs.Walks.{Turn, at-leaf, at-whole}
@@ -114,7 +114,7 @@ module _ (es hs : List Effect) (i : ℕ) (e : Effect) (at : drop i es ≡ e ∷ 
   past-without l h n = rw flip-literal (past-denied (sign l) (l / 2) h n)
 
   -- it becomes part t, where it lacks the literals m of the condition
-  pub past-part : (m : Literals) → m ≡ lacks (e .condition) d → clash (e .condition) d ≡ false → (t : ℕ) → t < 65 → Turn m t → (w more : Literals)
+  pub past-part : (m : Literals) → m ≡ minus (e .condition) d → clash (e .condition) d ≡ false → (t : ℕ) → t < 65 → Turn m t → (w more : Literals)
       → w ≡ partAt d (e .condition) t → more ≡ carriedAt sum (e .result) t → Carried es (i + 1) w more
   unfolding partAt carriedAt
   past-part m is k zero h f w more p r = past-joined k w more p r
@@ -125,10 +125,10 @@ module _ (es hs : List Effect) (i : ℕ) (e : Effect) (at : drop i es ≡ e ∷ 
       rw (p, r) (past-without l (both .0) (not-true _ (both .1)))
 
 -- ---- a walk from `at` on that left the piece whole
-pub settles-start : (es : List Effect) (at : ℕ) (d sum : Literals) → Carried es at d sum → Settles es at d (record { at = at; results = sum })
+pub settles-start : (es : List Effect) (at : ℕ) (d sum : Literals) → Carried es at d sum → Skips es at d (record { at = at; results = sum })
 settles-start es at d sum c = record { upto = omega arith; carried = c; whole = refl }
 
-module _ (es : List Effect) (at : ℕ) (d : Literals) (r : Settled) (g : Settles es at d r) where
+module _ (es : List Effect) (at : ℕ) (d : Literals) (r : Undecided) (g : Skips es at d r) where
   pub settles-puts : (k : ℕ) (ts fs : List ℕ) (o : Grown) (us gs : List ℕ) → Puts (map (image es) (pieces (drop (r .at) es) d)) k ts fs o us gs
       → Puts (map (image es) (pieces (drop at es) d)) k ts fs o us gs
   settles-puts k ts fs o us gs w = puts-is _ _ _ _ _ _ _ _ (ap (map (image es)) (g .whole)) w
@@ -149,7 +149,7 @@ module _ (es : List Effect) (at : ℕ) (d : Literals) (r : Settled) (g : Settles
 
   module _ (e : Effect) (q : drop (r .at) es ≡ e ∷ drop (r .at + 1) es) where
     on : (more : Literals) → (within (e .condition) d || clash (e .condition) d) ≡ true → Carried es (r .at + 1) d more
-        → Settles es at d (record { at = r .at + 1; results = more })
+        → Skips es at d (record { at = r .at + 1; results = more })
     on more t c =
         record {
           upto = omega (arith, g .upto);
@@ -158,10 +158,10 @@ module _ (es : List Effect) (at : ℕ) (d : Literals) (r : Settled) (g : Settles
         }
 
     pub on-within : (more : Literals) → within (e .condition) d ≡ true → more ≡ join (e .result) (r .results)
-        → Settles es at d (record { at = r .at + 1; results = more })
+        → Skips es at d (record { at = r .at + 1; results = more })
     on-within more h m = on more (rw h) (rw m (past-within es (drop (r .at + 1) es) (r .at) e q d (r .results) (g .carried) h))
 
-    pub on-clash : (more : Literals) → clash (e .condition) d ≡ true → more ≡ r .results → Settles es at d (record { at = r .at + 1; results = more })
+    pub on-clash : (more : Literals) → clash (e .condition) d ≡ true → more ≡ r .results → Skips es at d (record { at = r .at + 1; results = more })
     on-clash more h m =
         on more (or-right (within (e .condition) d) (clash (e .condition) d) h)
         (rw m (past-clash es (drop (r .at + 1) es) (r .at) e q d (r .results) (g .carried) h))

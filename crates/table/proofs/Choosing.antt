@@ -19,11 +19,11 @@ use Rattle.table.specs.Slots.{Puts}
 use Rattle.table.specs.Start.{falsify, Pick, picks, candidates, oneOf}
 use Rattle.table.specs.Reads.{others}
 use Rattle.table.specs.Step.{missing}
-use Rattle.table.specs.Carry.{lacks}
+use Rattle.table.specs.Carry.{minus}
 use Rattle.table.proofs.Lacking.{contains-lacks, members-lacks, members-first}
-use Rattle.sheet.specs.Rows.{setsAt}
+use Rattle.sheet.specs.Packed.{setsAt}
 use Rattle.table.proofs.Compact.{keep-append}
-use Rattle.sheet.proofs.RowLaws.{sets-more, sets-end}
+use Rattle.sheet.proofs.PackedLaws.{sets-more, sets-end}
 
 -- ---- one candidate
 
@@ -123,11 +123,11 @@ laying-end xs i j k row g e =
 abbrev pub Free : Literals → Literals → Type 0
 Free rest d = (j : ℕ) → contains rest j ≡ true → contains d j ≡ false
 
-pub free-start : (a d rest : Literals) → rest ≡ lacks a d → Free rest d
+pub free-start : (a d rest : Literals) → rest ≡ minus a d → Free rest d
 free-start a d rest q j e =
     not-true (contains d j) (and-eq-true-iff (contains a j) (not (contains d j)) .0 (sym (contains-lacks a d j) ∙ ap (λ (x : Literals). contains x j) (sym q) ∙ e) .1)
 
-pub free-on : (rest one d less : Literals) → Free rest d → less ≡ lacks rest one → Free less d
+pub free-on : (rest one d less : Literals) → Free rest d → less ≡ minus rest one → Free less d
 free-on rest one d less h q j e =
     h j (and-eq-true-iff (contains rest j) (not (contains one j)) .0 (sym (contains-lacks rest one j) ∙ ap (λ (x : Literals). contains x j) (sym q) ∙ e) .0)
 
@@ -160,7 +160,7 @@ unfoldable pub choicesOf : List Literals → Literals → Literals → List Lite
 choicesOf os rest d = collect (λ j. falsify os (join d (flip (literal j)))) (members rest 0)
 
 module _ (os : List Literals) (d : Literals) where
-  pub choices-start : (bs : List Literals) (a rest : Literals) → consistent d ≡ true → bs ≡ a ∷ os → rest ≡ lacks a d
+  pub choices-start : (bs : List Literals) (a rest : Literals) → consistent d ≡ true → bs ≡ a ∷ os → rest ≡ minus a d
       → keep consistent (falsify bs d) ≡ keep consistent (choicesOf os rest d)
   unfolding choicesOf missing
   choices-start bs a rest h q e =
@@ -168,7 +168,7 @@ module _ (os : List Literals) (d : Literals) where
       ∙ keep-less consistent (λ j. falsify os (join d (flip (literal j)))) (λ j. not (contains d j)) (λ j k. cut os (join d (flip (literal j))) (denied d j h ∙ k)) (members a 0)
       ∙ ap (λ (x : List ℕ). keep consistent (collect (λ j. falsify os (join d (flip (literal j)))) x)) (sym (ap (λ (x : Literals). members x 0) e ∙ members-lacks a d))
 
-  pub choices-step : (rest less one f w : Literals) (l : ℕ) → l ≡ next rest 0 → l < 64 → one ≡ literal l → f ≡ flip one → w ≡ join d f → less ≡ lacks rest one
+  pub choices-step : (rest less one f w : Literals) (l : ℕ) → l ≡ next rest 0 → l < 64 → one ≡ literal l → f ≡ flip one → w ≡ join d f → less ≡ minus rest one
       → keep consistent (choicesOf os rest d) ≡ keep consistent (falsify os w) ++ keep consistent (choicesOf os less d)
   unfolding choicesOf
   choices-step rest less one f w l e h p q r s = keep-split (choicesOf os rest d) (falsify os w) (choicesOf os less d) split-up
@@ -177,18 +177,18 @@ module _ (os : List Literals) (d : Literals) where
       split-up =
           ap (collect (λ j. falsify os (join d (flip (literal j))))) (members-first rest l e h)
           ∙ ap₂ (λ (x y : Literals). falsify os x ++ collect (λ j. falsify os (join d (flip (literal j)))) (members y 0))
-          (sym (r ∙ ap (join d) (q ∙ ap flip p))) (sym (s ∙ ap (lacks rest) p))
+          (sym (r ∙ ap (join d) (q ∙ ap flip p))) (sym (s ∙ ap (minus rest) p))
 
   pub choices-end : (rest : Literals) (l : ℕ) → l ≡ next rest 0 → 64 ≤ l → keep consistent (choicesOf os rest d) ≡ []
   unfolding choicesOf
   choices-end rest l e h = ap (λ (x : List ℕ). keep consistent (collect (λ j. falsify os (join d (flip (literal j)))) x)) (members-nil rest 0 (omega (arith, e, h)))
 
 -- there are fewer literals
-pub choices-less : (rest less one : Literals) (l : ℕ) → l ≡ next rest 0 → l < 64 → one ≡ literal l → less ≡ lacks rest one
+pub choices-less : (rest less one : Literals) (l : ℕ) → l ≡ next rest 0 → l < 64 → one ≡ literal l → less ≡ minus rest one
     → length (members less 0) < length (members rest 0)
 choices-less rest less one l e h p s =
     let a = ap length (members-first rest l e h) in
-    let b = ap (λ (x : Literals). length (members x 0)) (s ∙ ap (lacks rest) p) in
+    let b = ap (λ (x : Literals). length (members x 0)) (s ∙ ap (minus rest) p) in
     omega (arith, a, b)
 
 -- ---- the alternatives of a oneof-clause, from i on

@@ -20,7 +20,7 @@ use Rattle.table.specs.declared.slots.Found.the-variants.{At, Nothing}
 use Rattle.table.specs.declared.slots.Fate.the-variants.{Dropped}
 use Rattle.table.specs.Worlds.{results, stepWorld, Starting}
 use Rattle.table.specs.Minimal.{In, Antichain, Described, described, put, putAll, refused, table}
-use Rattle.table.specs.Start.{clausesOf, startTable, Stops}
+use Rattle.table.specs.Start.{startClauses, startTable, Stops}
 use Rattle.table.specs.Step.{pieces, image, stepTable}
 use Rattle.table.specs.Pairs.{contradicts}
 use Rattle.table.specs.Slots.{lastWithin, left, fateOf}
@@ -67,8 +67,8 @@ module _ (p : Problem) (hp : ProperProblem p) (cap : ℕ) where
 
 -- 20 exactly if some clause leaves its fresh table empty, 21 exactly if one overflows it; every clause before it gave a table
 pub start-first : (cap : ℕ) (p : Problem)
-    → ((startTable cap p ≡ refused 20) ↔ Stops cap (some []) (clausesOf p) (p .known ∷ []))
-    × ((startTable cap p ≡ refused 21) ↔ Stops cap none (clausesOf p) (p .known ∷ []))
+    → ((startTable cap p ≡ refused 20) ↔ Stops cap (some []) (startClauses p) (p .known ∷ []))
+    × ((startTable cap p ≡ refused 21) ↔ Stops cap none (startClauses p) (p .known ∷ []))
 start-first cap p = (starting.first-20 cap p, starting.first-21 cap p)
 
 pub start-kind : (cap : ℕ) (p : Problem) → (startTable cap p ≡ refused 20) ⊎ ((startTable cap p ≡ refused 21) ⊎ ((t : List Literals) × (startTable cap p ≡ table t)))

@@ -14,8 +14,8 @@ use Rattle.sheet.specs.Format.{Judgement, accepted, refused, sheetOf}
 use Rattle.sheet.specs.Problem.{Statement}
 use Rattle.sheet.proofs.Bools.{cond-true, cond-false}
 use Rattle.table.specs.declared.Table.{Table}
-use Rattle.table.specs.declared.Pictured.{Pictured}
-use Rattle.table.specs.declared.clauses.Clauses.{Clauses}
+use Rattle.table.specs.declared.PictureAnswer.{PictureAnswer}
+use Rattle.table.specs.declared.picture_clauses.Clauses.{Clauses}
 use Rattle.table.specs.Minimal.{described}
 use Rattle.table.specs.Picture.{picture, pictureBytes}
 use Rattle.table.specs.Slots.{entriesOf, entries, Holds}
@@ -34,24 +34,24 @@ described-count n count ts fs e =
 
 module _ (n : ℕ) (es : List Literals) (buffer : List ℕ) where
   -- the call gave r, and left the buffer as after
-  abbrev pub Drawn : Pictured → List ℕ → Type 0
+  abbrev pub Drawn : PictureAnswer → List ℕ → Type 0
   Drawn r after =
       (r ≡ cond (described 128 n es) (given (picture es) (length buffer)) (refusal 22 0))
       × (after ≡ cond (described 128 n es) (written (picture es) buffer) buffer)
 
-  pub not-described : described 128 n es ≡ false → (r : Pictured) → r ≡ refusal 22 0 → Drawn r buffer
+  pub not-described : described 128 n es ≡ false → (r : PictureAnswer) → r ≡ refusal 22 0 → Drawn r buffer
   not-described e r q =
       (q ∙ cond-false (given (picture es) (length buffer)) (refusal 22 0) e, cond-false (written (picture es) buffer) buffer e)
 
   module _ (well : described 128 n es ≡ true) where
-    by-picture : (o : Option (List Literals)) → picture es ≡ o → (r : Pictured) (after : List ℕ) → r ≡ given o (length buffer) → after ≡ written o buffer → Drawn r after
+    by-picture : (o : Option (List Literals)) → picture es ≡ o → (r : PictureAnswer) (after : List ℕ) → r ≡ given o (length buffer) → after ≡ written o buffer → Drawn r after
     by-picture o e r after p q = (
       p ∙ ap (λ (x : Option (List Literals)). given x (length buffer)) (sym e) ∙ cond-true (given (picture es) (length buffer)) (refusal 22 0) well,
       q ∙ ap (λ (x : Option (List Literals)). written x buffer) (sym e) ∙ cond-true (written (picture es) buffer) buffer well,
     )
 
     module _ (c : Clauses) (h : Handed (picture es) c) where
-      pub too-many : c .full ≡ true → (r : Pictured) → r ≡ refusal 21 0 → Drawn r buffer
+      pub too-many : c .full ≡ true → (r : PictureAnswer) → r ≡ refusal 21 0 → Drawn r buffer
       unfolding given written
       too-many f r q = by-picture none (full-none _ c (h .0) f) r buffer q refl
 
@@ -59,7 +59,7 @@ module _ (n : ℕ) (es : List Literals) (buffer : List ℕ) where
         clauses-are : (s : List Literals) × (picture es ≡ some s) × Holds 256 s (c .count) (c .trues) (c .falses)
         clauses-are = some-held _ c (h .0) (h .1) f
 
-        pub too-short : length buffer < 2 + 8 * c .count → (r : Pictured) → r ≡ refusal 23 0 → Drawn r buffer
+        pub too-short : length buffer < 2 + 8 * c .count → (r : PictureAnswer) → r ≡ refusal 23 0 → Drawn r buffer
         unfolding given written tooLong
         too-short lt r q =
             let s = clauses-are .0 in
@@ -83,15 +83,15 @@ module _ (n : ℕ) (es : List Literals) (buffer : List ℕ) where
 
 -- ---- the call
 
-abbrev Called : Judgement → Table → List ℕ → Pictured → List ℕ → Type 0
+abbrev Called : Judgement → Table → List ℕ → PictureAnswer → List ℕ → Type 0
 Called j t buffer r after = (r ≡ pictureOf j t (length buffer)) × (after ≡ bufferOf j t buffer)
 
-pub sheet-refused : (s : List ℕ) (t : Table) (buffer : List ℕ) (k p : ℕ) → sheetOf s ≡ refused k p → (r : Pictured) → r ≡ refusal k p → Called (sheetOf s) t buffer r buffer
+pub sheet-refused : (s : List ℕ) (t : Table) (buffer : List ℕ) (k p : ℕ) → sheetOf s ≡ refused k p → (r : PictureAnswer) → r ≡ refusal k p → Called (sheetOf s) t buffer r buffer
 unfolding pictureOf bufferOf
 sheet-refused s t buffer k p e r q =
     subst (λ (j : Judgement). Called j t buffer r buffer) (sym e) (q, refl)
 
 pub sheet-accepted : (s : List ℕ) (t : Table) (buffer : List ℕ) (x : Statement) → sheetOf s ≡ accepted x
-    → (r : Pictured) (after : List ℕ) → Drawn (x .problem .n) (entriesOf (t .count) (t .trues) (t .falses)) buffer r after → Called (sheetOf s) t buffer r after
+    → (r : PictureAnswer) (after : List ℕ) → Drawn (x .problem .n) (entriesOf (t .count) (t .trues) (t .falses)) buffer r after → Called (sheetOf s) t buffer r after
 unfolding pictureOf bufferOf entries
 sheet-accepted s t buffer x e r after w = subst (λ (j : Judgement). Called j t buffer r after) (sym e) w

@@ -10,12 +10,12 @@ use Rattle.sheet.specs.Literals.{has, noLiteral, mem, within, clash, consistent
 use Rattle.sheet.specs.Problem.{Action, Statement, problemOf}
 use Rattle.sheet.specs.Form.{_>>=_, judged, times, byteAt, read}
 use Rattle.sheet.specs.Printed.{printed}
-use Rattle.sheet.specs.Format.{accepted, countFault, literalFault, numberFault, listOf, ascending, setOf, literals, clause, effect, action, clauses, actions, goal, plan, facts, sheet, ended, sheetOf}
+use Rattle.sheet.specs.Format.{accepted, countFault, literalFault, numberFault, listOf, ascending, setOf, literals, clause, effect, action, clauses, actions, goal, plan, facts, sheet, atEnd, sheetOf}
 use Rattle.sheet.specs.Encoding.{ProperAction, ProperProblem, ProperStatement}
 use Rattle.sheet.proofs.Encoded.{encoded-iff}
 use Rattle.sheet.proofs.Judging.{accepted-iff}
 use Rattle.table.specs.Minimal.{Described, put, refused, table}
-use Rattle.table.specs.Start.{clausesOf, grow, startTable}
+use Rattle.table.specs.Start.{startClauses, grow, startTable}
 use Rattle.table.specs.Step.{missing, split, image, stepTable}
 use Rattle.table.specs.Calls.{actionAt}
 use Rattle.table.proofs.Starting.{start-described}
@@ -58,11 +58,11 @@ pub record Bench : Type 0 where
   pub M12 : stepTable 128 (always (when (set 0 0) (set 1 0) ∷ when (set 0 0) (set 0 1) ∷ [])) (set 0 0 ∷ []) ≡ refused 25
 
 says : sheetOf printed ≡ accepted paper
-unfolding sheetOf ended read byteAt sheet facts plan goal actions clauses action effect clause literals setOf ascending listOf numberFault literalFault countFault times judged _>>=_ problemOf noLiteral join literal single sign
+unfolding sheetOf atEnd read byteAt sheet facts plan goal actions clauses action effect clause literals setOf ascending listOf numberFault literalFault countFault times judged _>>=_ problemOf noLiteral join literal single sign
 says = refl
 
 pub bench : Bench
-unfolding startTable clausesOf grow stepTable actionAt split missing image put within join clash consistent flip literal single sign replace noLiteral members membersFrom contains mem has
+unfolding startTable startClauses grow stepTable actionAt split missing image put within join clash consistent flip literal single sign replace noLiteral members membersFrom contains mem has
 bench = record { says = says; M1 = refl; M2 = refl; M3 = refl; M6 = refl; M7 = refl; M8 = refl; M9 = refl; M10 = refl; M12 = refl }
 
 -- ---- what the theorems of the start and the step ask for is met by this sheet, its move and its start table

@@ -20,12 +20,12 @@ module _ (n : ℕ) (ts fs : List ℕ) (i : ℕ) where
   entry-next lt = entries-next n ts fs i (record { trues = getD ts i 0; falses = getD fs i 0 }) lt refl
 
   -- the clause c joined with the clause at i, and with those after it
-  pub spread-step : (c x : Literals) → i < n → x ≡ join c (record { trues = getD ts i 0; falses = getD fs i 0 })
+  pub put-joined-step : (c x : Literals) → i < n → x ≡ join c (record { trues = getD ts i 0; falses = getD fs i 0 })
       → keep consistent (map (join c) (drop i (entriesOf n ts fs))) ≡ keep consistent (x ∷ []) ++ keep consistent (map (join c) (drop (i + 1) (entriesOf n ts fs)))
-  spread-step c x lt is = or-step c _ x _ _ (entry-next lt) is
+  put-joined-step c x lt is = or-step c _ x _ _ (entry-next lt) is
 
-  pub spread-end : (c : Literals) → n ≤ i → keep consistent (map (join c) (drop i (entriesOf n ts fs))) ≡ []
-  spread-end c le = or-end c _ (entries-done n ts fs i le)
+  pub put-joined-end : (c : Literals) → n ≤ i → keep consistent (map (join c) (drop i (entriesOf n ts fs))) ≡ []
+  put-joined-end c le = or-end c _ (entries-done n ts fs i le)
 
   -- the clause at i joined with the clauses u, and those after it
   pub unions-step : (u : List Literals) → i < n

@@ -11,23 +11,23 @@ use Rattle.sheet.proofs.Bits.{has-minus}
 use Rattle.sheet.proofs.LiteralSets.{single-is, within-refl}
 use Rattle.sheet.proofs.Bytes.{byte-of, within-literal, down, members-end, members-here, members-step, members-cons}
 use Rattle.table.specs.Step.{missing}
-use Rattle.table.specs.Carry.{lacks}
+use Rattle.table.specs.Carry.{minus}
 
 module _ (c d : Literals) where
-  mem-lacks : (s : Bool) (p : ℕ) → mem (lacks c d) s p ≡ (mem c s p && not (mem d s p))
-  unfolding mem lacks
+  mem-lacks : (s : Bool) (p : ℕ) → mem (minus c d) s p ≡ (mem c s p && not (mem d s p))
+  unfolding mem minus
   mem-lacks true p = has-minus (c .trues) (d .trues) p
   mem-lacks false p = has-minus (c .falses) (d .falses) p
 
-  pub contains-lacks : (l : ℕ) → contains (lacks c d) l ≡ (contains c l && not (contains d l))
+  pub contains-lacks : (l : ℕ) → contains (minus c d) l ≡ (contains c l && not (contains d l))
   unfolding contains
   contains-lacks l = mem-lacks (sign l) (l / 2)
 
-  lacks-from : (k l : ℕ) → membersFrom k (lacks c d) l ≡ keep (λ j. not (contains d j)) (membersFrom k c l)
+  lacks-from : (k l : ℕ) → membersFrom k (minus c d) l ≡ keep (λ j. not (contains d j)) (membersFrom k c l)
   unfolding membersFrom
   lacks-from zero l = refl
   lacks-from (suc k) l =
-      ap (λ (x : Bool). cond x (l ∷ membersFrom k (lacks c d) (suc l)) (membersFrom k (lacks c d) (suc l))) (contains-lacks l)
+      ap (λ (x : Bool). cond x (l ∷ membersFrom k (minus c d) (suc l)) (membersFrom k (minus c d) (suc l))) (contains-lacks l)
       ∙ ap (λ (x : List ℕ). cond (contains c l && not (contains d l)) (l ∷ x) x) (lacks-from k (suc l))
       ∙ one (contains c l) (membersFrom k c (suc l))
     where
@@ -41,7 +41,7 @@ module _ (c d : Literals) where
       one true ys = add (not (contains d l)) (keep (λ j. not (contains d j)) ys)
       one false ys = refl
 
-  pub members-lacks : members (lacks c d) 0 ≡ missing c d
+  pub members-lacks : members (minus c d) 0 ≡ missing c d
   unfolding members missing
   members-lacks = lacks-from 64 0
 
@@ -73,7 +73,7 @@ module _ (a : Literals) (l : ℕ) where
           (ap (λ (b : Bool). addIf b m (keep (λ j. not (contains (literal l) j)) (members a (m + 1)))) (other m k) ∙ ap (λ (x : List ℕ). m ∷ x) r)
       pick m h r k false e = rw (members-step a m h e) r
 
-  pub members-first : l ≡ next a 0 → l < 64 → members a 0 ≡ l ∷ members (lacks a (literal l)) 0
+  pub members-first : l ≡ next a 0 → l < 64 → members a 0 ≡ l ∷ members (minus a (literal l)) 0
   unfolding missing
   members-first e h =
       let all : members a 0 ≡ l ∷ members a (l + 1) = members-cons a 0 (omega (arith, e, h)) ∙ ap (λ (x : ℕ). x ∷ members a (x + 1)) (sym e) in

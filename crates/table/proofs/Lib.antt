@@ -7,7 +7,7 @@ pub mod Growing
 pub mod Copying
 pub mod Lacking
 pub mod Choosing
-pub mod ClauseRows
+pub mod PackedClauses
 pub mod Started
 pub mod Turns
 pub mod PutLaws

@@ -15,7 +15,7 @@ use Rattle.sheet.specs.Encoding.{ProperAction}
 use Rattle.sheet.proofs.Bools.{test, true-T, and-l, and-r, and-in, or-l, or-r, or-out}
 use Rattle.sheet.proofs.Ascending.{mem-none}
 use Rattle.sheet.proofs.LiteralSets.{mem-join, mem-replace, set-ext}
-use Rattle.table.specs.Worlds.{addResult, results, takes, after, stepWorld}
+use Rattle.table.specs.Worlds.{addResult, results, takes, worldAfter, stepWorld}
 use Rattle.table.proofs.Stepping.{step-goes, step-stays, after-world}
 
 -- ---- equation (1)
@@ -68,17 +68,17 @@ module _ (n : ℕ) (a : Action) (ha : ProperAction n a) (w : ℕ) (l : w < 2 ^ n
   unfolding takes
   defined = (λ t. (and-l (within (a .precondition) before) (consistent e) t, and-r (within (a .precondition) before) (consistent e) t), λ d. and-in (within (a .precondition) before) (consistent e) (d .0) (d .1))
 
-  updated : T (takes n a w) → Update (after n a w)
+  updated : T (takes n a w) → Update (worldAfter n a w)
   updated t sign p = ap (λ (d : Literals). mem d sign p) (sym (after-world n a ha w l t .1)) ∙ mem-replace before e sign p
 
   trues-of : (v : ℕ) → state n v .trues ≡ v
   unfolding state
   trues-of v = refl
 
-  only : T (takes n a w) → (v : ℕ) → Update v → after n a w ≡ v
+  only : T (takes n a w) → (v : ℕ) → Update v → worldAfter n a w ≡ v
   only t v u =
-      sym (trues-of (after n a w))
-      ∙ ap (λ (d : Literals). d .trues) (set-ext (state n (after n a w)) (state n v) (λ sign p. updated t sign p ∙ sym (u sign p)))
+      sym (trues-of (worldAfter n a w))
+      ∙ ap (λ (d : Literals). d .trues) (set-ext (state n (worldAfter n a w)) (state n v) (λ sign p. updated t sign p ∙ sym (u sign p)))
       ∙ trues-of v
 
   pub step-some : (v : ℕ) → (stepWorld n a w ≡ some v) ↔ (T (within (a .precondition) before) × T (consistent e) × (v < 2 ^ n) × Update v)
@@ -87,11 +87,11 @@ module _ (n : ℕ) (a : Action) (ha : ProperAction n a) (w : ℕ) (l : w < 2 ^ n
       there : stepWorld n a w ≡ some v → T (takes n a w) ⊎ T (not (takes n a w)) → T (within (a .precondition) before) × T (consistent e) × (v < 2 ^ n) × Update v
       there h (inl t) =
           let d = defined .0 t in
-          rw (← Option·some-injective (after n a w) v (sym (step-goes n a w t) ∙ h)) (d .0, d .1, after-world n a ha w l t .0, updated t)
+          rw (← Option·some-injective (worldAfter n a w) v (sym (step-goes n a w t) ∙ h)) (d .0, d .1, after-world n a ha w l t .0, updated t)
       there h (inr t) = absurd (Option·none-ne-some v (sym (step-stays n a w t) ∙ h))
 
   pub step-none : (stepWorld n a w ≡ none) ↔ (Defined → ⊥)
-  step-none = (λ h d. Option·some-ne-none (after n a w) (sym (step-goes n a w (defined .1 d)) ∙ h), λ h. by h (test (takes n a w)))
+  step-none = (λ h d. Option·some-ne-none (worldAfter n a w) (sym (step-goes n a w (defined .1 d)) ∙ h), λ h. by h (test (takes n a w)))
     where
       by : (Defined → ⊥) → T (takes n a w) ⊎ T (not (takes n a w)) → stepWorld n a w ≡ none
       by h (inl t) = absurd (h (defined .0 t))

@@ -14,7 +14,7 @@ use Rattle.sheet.specs.declared.Answer.the-variants.{Accepted, Refused}
 use Rattle.sheet.specs.Problem.{Statement}
 use Rattle.sheet.specs.Format.{Judgement, accepted, refused, sheetOf}
 use Rattle.table.specs.declared.Table.{Table}
-use Rattle.table.specs.declared.Pictured.{Pictured}
+use Rattle.table.specs.declared.PictureAnswer.{PictureAnswer}
 use Rattle.table.specs.Minimal.{Described, described}
 use Rattle.table.specs.Picture.{picture, pictureBytes}
 use Rattle.table.specs.Slots.{entries}
@@ -91,10 +91,10 @@ module _ (s : List ℕ) (x : Statement) (says : sheetOf s ≡ accepted x) (t : T
 
   told : (w : Case) (k : ℕ) → pictureOf (sheetOf s) t (length buffer) .answer ≡ Refused k 0 → number w ≡ k
   unfolding number refusal
-  told (other d) k e = same-number (ap (λ (r : Pictured). r .answer) (sym (by-other d .0)) ∙ e)
-  told (full d o) k e = same-number (ap (λ (r : Pictured). r .answer) (sym (by-full d o .0)) ∙ e)
-  told (short d c o f) k e = same-number (ap (λ (r : Pictured). r .answer) (sym (by-short d c o f .0)) ∙ e)
-  told (fine d c o f) k e = absurd (not-both (ap (λ (r : Pictured). r .answer) (sym (by-fine d c o f .0)) ∙ e))
+  told (other d) k e = same-number (ap (λ (r : PictureAnswer). r .answer) (sym (by-other d .0)) ∙ e)
+  told (full d o) k e = same-number (ap (λ (r : PictureAnswer). r .answer) (sym (by-full d o .0)) ∙ e)
+  told (short d c o f) k e = same-number (ap (λ (r : PictureAnswer). r .answer) (sym (by-short d c o f .0)) ∙ e)
+  told (fine d c o f) k e = absurd (not-both (ap (λ (r : PictureAnswer). r .answer) (sym (by-fine d c o f .0)) ∙ e))
 
   -- 22: a table that is not as described
   pub picture-22 : (pictureOf (sheetOf s) t (length buffer) .answer ≡ Refused 22 0) ↔ (Described 128 (x .problem .n) (entries t) → ⊥)
@@ -108,7 +108,7 @@ module _ (s : List ℕ) (x : Statement) (says : sheetOf s ≡ accepted x) (t : T
       go (fine d c o f) n = absurd (omega arith)
 
       back : (Described 128 (x .problem .n) (entries t) → ⊥) → Case → pictureOf (sheetOf s) t (length buffer) .answer ≡ Refused 22 0
-      back h (other d) = ap (λ (r : Pictured). r .answer) (by-other d .0)
+      back h (other d) = ap (λ (r : PictureAnswer). r .answer) (by-other d .0)
       back h (full d o) = absurd (h (is-described d))
       back h (short d c o f) = absurd (h (is-described d))
       back h (fine d c o f) = absurd (h (is-described d))
@@ -126,7 +126,7 @@ module _ (s : List ℕ) (x : Statement) (says : sheetOf s ≡ accepted x) (t : T
 
       back : Described 128 (x .problem .n) (entries t) × (picture (entries t) ≡ none) → Case → pictureOf (sheetOf s) t (length buffer) .answer ≡ Refused 21 0
       back h (other d) = absurd (not-described d (h .0))
-      back h (full d o) = ap (λ (r : Pictured). r .answer) (by-full d o .0)
+      back h (full d o) = ap (λ (r : PictureAnswer). r .answer) (by-full d o .0)
       back h (short d c o f) = absurd (let z : _≡_ {A = ℕ} 0 1 = cc (h .1) in omega arith)
       back h (fine d c o f) = absurd (let z : _≡_ {A = ℕ} 0 1 = cc (h .1) in omega arith)
 
@@ -146,7 +146,7 @@ module _ (s : List ℕ) (x : Statement) (says : sheetOf s ≡ accepted x) (t : T
           → Case → pictureOf (sheetOf s) t (length buffer) .answer ≡ Refused 23 0
       back h (other d) = absurd (not-described d (h .0))
       back h (full d o) = absurd (let z : _≡_ {A = ℕ} 0 1 = cc (h .1 .1) in omega arith)
-      back h (short d c o f) = ap (λ (r : Pictured). r .answer) (by-short d c o f .0)
+      back h (short d c o f) = ap (λ (r : PictureAnswer). r .answer) (by-short d c o f .0)
       back h (fine d c o f) =
           let i : c ≡ h .1 .0 = cc (h .1 .1) in
           absurd (omega (arith, fits c .0 f, ap length i, h .1 .2))
@@ -163,11 +163,11 @@ module _ (s : List ℕ) (x : Statement) (says : sheetOf s ≡ accepted x) (t : T
           → Described 128 (x .problem .n) (entries t)
           × ((c : List Literals) × (picture (entries t) ≡ some c) × (2 + 8 * length c ≤ length buffer)
           × (pictureOf (sheetOf s) t (length buffer) .clauses ≡ length c) × (bufferOf (sheetOf s) t buffer ≡ pictureBytes c ++ drop (2 + 8 * length c) buffer))
-      go (other d) e = absurd (not-both (sym (ap (λ (r : Pictured). r .answer) (sym (by-other d .0)) ∙ e)))
-      go (full d o) e = absurd (not-both (sym (ap (λ (r : Pictured). r .answer) (sym (by-full d o .0)) ∙ e)))
-      go (short d c o f) e = absurd (not-both (sym (ap (λ (r : Pictured). r .answer) (sym (by-short d c o f .0)) ∙ e)))
+      go (other d) e = absurd (not-both (sym (ap (λ (r : PictureAnswer). r .answer) (sym (by-other d .0)) ∙ e)))
+      go (full d o) e = absurd (not-both (sym (ap (λ (r : PictureAnswer). r .answer) (sym (by-full d o .0)) ∙ e)))
+      go (short d c o f) e = absurd (not-both (sym (ap (λ (r : PictureAnswer). r .answer) (sym (by-short d c o f .0)) ∙ e)))
       go (fine d c o f) e =
-          (is-described d, (c, o, fits c .0 f, ap (λ (r : Pictured). r .clauses) (by-fine d c o f .0), by-fine d c o f .1))
+          (is-described d, (c, o, fits c .0 f, ap (λ (r : PictureAnswer). r .clauses) (by-fine d c o f .0), by-fine d c o f .1))
 
       back : Described 128 (x .problem .n) (entries t)
           × ((c : List Literals) × (picture (entries t) ≡ some c) × (2 + 8 * length c ≤ length buffer)
@@ -178,7 +178,7 @@ module _ (s : List ℕ) (x : Statement) (says : sheetOf s ≡ accepted x) (t : T
       back h (short d c o f) =
           let i : c ≡ h .1 .0 = cc (h .1 .1) in
           absurd (omega (arith, lacks c .0 f, ap length i, h .1 .2))
-      back h (fine d c o f) = ap (λ (r : Pictured). r .answer) (by-fine d c o f .0)
+      back h (fine d c o f) = ap (λ (r : PictureAnswer). r .answer) (by-fine d c o f .0)
 
 -- refused: 0 clauses, and every byte of the buffer as it was
 pub picture-back : (s : List ℕ) (t : Table) (buffer : List ℕ) (k q : ℕ) → pictureOf (sheetOf s) t (length buffer) .answer ≡ Refused k q
@@ -188,11 +188,11 @@ picture-back s t buffer k q e = go (sheetOf s) refl
   where
     by : (x : Statement) → sheetOf s ≡ accepted x → (says : sheetOf s ≡ accepted x) → Case s x says t buffer
         → (pictureOf (sheetOf s) t (length buffer) .clauses ≡ 0) × (bufferOf (sheetOf s) t buffer ≡ buffer)
-    by x i says (other d) = let r = by-other s x says t buffer d in (ap (λ (y : Pictured). y .clauses) (r .0), r .1)
-    by x i says (full d o) = let r = by-full s x says t buffer d o in (ap (λ (y : Pictured). y .clauses) (r .0), r .1)
-    by x i says (short d c o f) = let r = by-short s x says t buffer d c o f in (ap (λ (y : Pictured). y .clauses) (r .0), r .1)
-    by x i says (fine d c o f) = absurd (not-both (ap (λ (r : Pictured). r .answer) (sym (by-fine s x says t buffer d c o f .0)) ∙ e))
+    by x i says (other d) = let r = by-other s x says t buffer d in (ap (λ (y : PictureAnswer). y .clauses) (r .0), r .1)
+    by x i says (full d o) = let r = by-full s x says t buffer d o in (ap (λ (y : PictureAnswer). y .clauses) (r .0), r .1)
+    by x i says (short d c o f) = let r = by-short s x says t buffer d c o f in (ap (λ (y : PictureAnswer). y .clauses) (r .0), r .1)
+    by x i says (fine d c o f) = absurd (not-both (ap (λ (r : PictureAnswer). r .answer) (sym (by-fine s x says t buffer d c o f .0)) ∙ e))
 
     go : (j : Judgement) → sheetOf s ≡ j → (pictureOf (sheetOf s) t (length buffer) .clauses ≡ 0) × (bufferOf (sheetOf s) t buffer ≡ buffer)
-    go (refused i p) f = let r = picture-fault s t buffer i p f in (ap (λ (y : Pictured). y .clauses) (r .0), r .1)
+    go (refused i p) f = let r = picture-fault s t buffer i p f in (ap (λ (y : PictureAnswer). y .clauses) (r .0), r .1)
     go (accepted x) f = by x f f (which s x f t buffer)

@@ -7,7 +7,7 @@ use Rattle.sheet.specs.declared.Literals.{Literals}
 use Rattle.sheet.specs.Literals.{has, mem, within, consistent, join, single, sign, literal, contains, membersFrom, members}
 use Rattle.table.specs.Minimal.{put}
 use Rattle.table.proofs.Examples.{Bench, bench}
-use Rattle.table.specs.Picture.{units, unions, fold, primes, before, insert, sortOnto, sort, picture}
+use Rattle.table.specs.Picture.{units, unions, fold, primes, precedes, insert, sortOnto, sort, picture}
 
 -- a set by its masks of true and false propositions
 abbrev pub masks : ℕ → ℕ → Literals
@@ -25,7 +25,7 @@ pub record PictureMarks : Type 0 where
   pub m13 : picture (masks 1 0 ∷ masks 2 1 ∷ []) ≡ some (masks 3 0 ∷ [])
 
 pub picture-marks : PictureMarks
-unfolding has mem within consistent join single sign literal contains membersFrom members put units unions fold primes before insert sortOnto sort picture
+unfolding has mem within consistent join single sign literal contains membersFrom members put units unions fold primes precedes insert sortOnto sort picture
 picture-marks = record { m4 = refl; m5 = refl; m11 = refl; m13 = refl }
 
 -- the lists of m4 and m5 are those of m1 and m2: the start and the first step

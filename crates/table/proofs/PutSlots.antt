@@ -18,7 +18,7 @@ use Rattle.table.specs.declared.slots.Grown.{Grown}
 use Rattle.table.specs.declared.slots.Grown.the-variants as grown
 use Rattle.table.specs.Worlds.{andThen}
 use Rattle.table.specs.Minimal.{putLast, putNew, put, putAll}
-use Rattle.table.specs.Slots.{left, orElse, after, fateOf, entriesOf, Holds, Held, Grew, Puts}
+use Rattle.table.specs.Slots.{left, orElse, listAfter, fateOf, entriesOf, Holds, Held, Grew, Puts}
 use Rattle.table.proofs.Pads.{length-entriesOf, holds-push, holds-entries, held as held-of}
 use Rattle.table.proofs.Compact.{keep-length, keep-all}
 
@@ -74,8 +74,8 @@ module _ (cap : ℕ) (es : List Literals) (l : Literals) where
       at false true p q = absurd (true-T false (ap is-dropped (sym (fate-full p q) ∙ e)))
       at false false p q = absurd (true-T false (ap is-dropped (sym (fate-added p q) ∙ e)))
 
-  pub after-is : (r : List Literals) (o : Option (List Literals)) → put cap es l ≡ o → orElse es o ≡ r → after cap es l ≡ r
-  unfolding after
+  pub after-is : (r : List Literals) (o : Option (List Literals)) → put cap es l ≡ o → orElse es o ≡ r → listAfter cap es l ≡ r
+  unfolding listAfter
   after-is r o p q = ap (orElse es) p ∙ q
 
 -- ---- slices
@@ -86,7 +86,7 @@ at-length cap es xs n ts fs h e =
     subst (λ (y : List Literals). Holds cap y (length y) ts fs) (sym e) (subst (λ (k : ℕ). Holds cap es k ts fs) (h .count-is) h)
 
 abbrev pub Put : ℕ → List Literals → Literals → Fate → List ℕ → List ℕ → Type 0
-Put cap es l r ts fs = (r ≡ fateOf cap es l) × Holds cap (after cap es l) (length (after cap es l)) ts fs
+Put cap es l r ts fs = (r ≡ fateOf cap es l) × Holds cap (listAfter cap es l) (length (listAfter cap es l)) ts fs
 
 module _ (cap n : ℕ) (ts fs : List ℕ) (l : Literals) (held : Held cap n ts fs) where
   pub dropped : anyOf (λ e. within e l) (entriesOf n ts fs) ≡ true → Put cap (entriesOf n ts fs) l Dropped ts fs
@@ -147,7 +147,7 @@ module _ (cap n : ℕ) (ts fs : List ℕ) (c : Literals) where
   abbrev before : List Literals
   before = entriesOf n ts fs
 
-  grew-put : (ts′ fs′ : List ℕ) → Holds cap (after cap before c) (length (after cap before c)) ts′ fs′ → Grew cap (put cap before c) (grownAfter n (fateOf cap before c)) ts′ fs′
+  grew-put : (ts′ fs′ : List ℕ) → Holds cap (listAfter cap before c) (length (listAfter cap before c)) ts′ fs′ → Grew cap (put cap before c) (grownAfter n (fateOf cap before c)) ts′ fs′
   unfolding orElse
   grew-put ts′ fs′ h = at (anyOf (λ e. within e c) before) (eqb (length (left before c)) cap) refl refl
     where
@@ -159,17 +159,17 @@ module _ (cap n : ℕ) (ts fs : List ℕ) (c : Literals) where
 
       at : (a b : Bool) → anyOf (λ e. within e c) before ≡ a → eqb (length (left before c)) cap ≡ b → Grew cap (put cap before c) (grownAfter n (fateOf cap before c)) ts′ fs′
       at true b p q =
-          let e : after cap before c ≡ before = after-is cap before c before _ (put-dropped cap before c p) refl in
+          let e : listAfter cap before c ≡ before = after-is cap before c before _ (put-dropped cap before c p) refl in
           known (some before) Dropped (put-dropped cap before c p) (fate-dropped cap before c p)
           (grew-of cap _ before _ n ts′ fs′ h e (ap length e ∙ length-entriesOf n ts fs))
       at false true p q = known none Full (put-full cap before c p q) (fate-full cap before c p q) refl
       at false false p q =
-          let e : after cap before c ≡ left before c ++ c ∷ [] = after-is cap before c (left before c ++ c ∷ []) _ (put-added cap before c p q) refl in
+          let e : listAfter cap before c ≡ left before c ++ c ∷ [] = after-is cap before c (left before c ++ c ∷ []) _ (put-added cap before c p q) refl in
           known (some (left before c ++ c ∷ [])) (added cap before c) (put-added cap before c p q) (fate-added cap before c p q)
           (grew-of cap _ (left before c ++ c ∷ []) _ (length (left before c) + 1) ts′ fs′ h e (ap length e ∙ length-append (left before c) (c ∷ [])))
 
 pub offered : (n : ℕ) (ts fs : List ℕ) (c : Literals) (ts′ fs′ : List ℕ) (f g : Fate) → f ≡ fateOf (length ts) (entriesOf n ts fs) c → f ≡ g
-    → Holds (length ts) (after (length ts) (entriesOf n ts fs) c) (length (after (length ts) (entriesOf n ts fs) c)) ts′ fs′ → Puts (c ∷ []) n ts fs (grownAfter n g) ts′ fs′
+    → Holds (length ts) (listAfter (length ts) (entriesOf n ts fs) c) (length (listAfter (length ts) (entriesOf n ts fs) c)) ts′ fs′ → Puts (c ∷ []) n ts fs (grownAfter n g) ts′ fs′
 offered n ts fs c ts′ fs′ f g p q h = record {
   grew =
       subst (λ (x : Option (List Literals)). Grew (length ts) x (grownAfter n g) ts′ fs′) (putAll-one (length ts) (entriesOf n ts fs) c)

@@ -21,7 +21,7 @@ use Rattle.table.specs.declared.slots.Grown.the-variants as grown
 use Rattle.table.specs.declared.steps.Stepped.{Stepped}
 use Rattle.table.specs.declared.steps.Stepped.the-variants as stepped
 use Rattle.table.specs.declared.Table.{Table}
-use Rattle.table.specs.declared.Tabled.{Tabled}
+use Rattle.table.specs.declared.TableAnswer.{TableAnswer}
 use Rattle.table.specs.Minimal.{putAll, Outcome, refused, table}
 use Rattle.table.specs.Start.{Clause, candidates, fresh, grow, onTable, growAll}
 use Rattle.table.specs.Slots.{pairs, entriesOf, Holds, Held, tableOf, Grew, Puts}
@@ -66,9 +66,9 @@ unfolding orGiven tableOf
 ready o r k ts fs small w e = at o refl (subst (λ (x : Stepped). Right o x ts fs) e w)
   where
     at : (x : Outcome) → o ≡ x → Right x (stepped.To k) ts fs → Readied o k ts fs
-    at (refused j) q v = not-both Accepted j 0 refl (ap (λ (y : Tabled). y .answer) v)
+    at (refused j) q v = not-both Accepted j 0 refl (ap (λ (y : TableAnswer). y .answer) v)
     at (table u) q v =
-        let t : lent k ts fs ≡ tableOf u = ap (λ (y : Tabled). y .table) v in
+        let t : lent k ts fs ≡ tableOf u = ap (λ (y : TableAnswer). y .table) v in
         let n : k ≡ length u = ap (λ (y : Table). y .count) t in
         let h : Holds 128 u k ts fs = record {
           count-is = n;
@@ -86,7 +86,7 @@ refusal o r k ts fs f w e = at o (subst (λ (x : Stepped). Right o x ts fs) e w)
   where
     at : (x : Outcome) → Right x (stepped.Refused k) ts fs → Right (onTable x f) (stepped.Refused k) ts fs
     at (refused j) v = v
-    at (table u) v = not-both (Refused k 0) k 0 (ap (λ (y : Tabled). y .answer) v) refl
+    at (table u) v = not-both (Refused k 0) k 0 (ap (λ (y : TableAnswer). y .answer) v) refl
 
 -- ---- a table copied over another: both are zero past `top`
 
@@ -247,15 +247,15 @@ pub first-given : (o : Outcome) (r : Stepped) (ts fs : List ℕ) → Right o r t
 first-given o r ts fs e k q = sym (ap (λ (x : Stepped). tabled (tableOf []) x ts fs) q) ∙ e
 
 -- no table
-abbrev pub NoTable : Tabled → ℕ → ℕ → Type 0
+abbrev pub NoTable : TableAnswer → ℕ → ℕ → Type 0
 NoTable d k p = (d .answer ≡ Refused k p) × (d .table ≡ tableOf [])
 
-none-is : (d : Tabled) (k p : ℕ) → NoTable d k p → d ≡ record { answer = Refused k p; table = tableOf [] }
+none-is : (d : TableAnswer) (k p : ℕ) → NoTable d k p → d ≡ record { answer = Refused k p; table = tableOf [] }
 none-is d k p h = λ j. record { answer = h .0 j; table = h .1 j }
 
-pub first-none : (o : Outcome) (r : Stepped) (ts fs : List ℕ) → Right o r ts fs → (k : ℕ) → r ≡ stepped.Refused k → (d : Tabled) → NoTable d k 0 → d ≡ orGiven (tableOf []) o
+pub first-none : (o : Outcome) (r : Stepped) (ts fs : List ℕ) → Right o r ts fs → (k : ℕ) → r ≡ stepped.Refused k → (d : TableAnswer) → NoTable d k 0 → d ≡ orGiven (tableOf []) o
 first-none o r ts fs e k q d h = none-is d k 0 h ∙ sym (ap (λ (x : Stepped). tabled (tableOf []) x ts fs) q) ∙ e
 
-pub start-fault : (s : List ℕ) (k p : ℕ) → sheetOf s ≡ faulty k p → (d : Tabled) → NoTable d k p → d ≡ startOf (sheetOf s)
+pub start-fault : (s : List ℕ) (k p : ℕ) → sheetOf s ≡ faulty k p → (d : TableAnswer) → NoTable d k p → d ≡ startOf (sheetOf s)
 unfolding startOf
 start-fault s k p e d h = none-is d k p h ∙ sym (ap startOf e)

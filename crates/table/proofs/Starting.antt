@@ -19,7 +19,7 @@ use Rattle.sheet.proofs.Worlds.{state-consistent}
 use Rattle.sheet.proofs.Members.{any-passed, some-world}
 use Rattle.table.specs.Worlds.{Starting}
 use Rattle.table.specs.Minimal.{In, Described, putAll, Outcome, refused, table}
-use Rattle.table.specs.Start.{Clause, orOf, oneOf, clausesOf, candidates, fresh, grow, onTable, growAll, startTable, Stops}
+use Rattle.table.specs.Start.{Clause, orOf, oneOf, startClauses, candidates, fresh, grow, onTable, growAll, startTable, Stops}
 use Rattle.table.proofs.PutLaws.{put-all-all, put-all-antichain, put-all-size, put-all-in, put-all-out}
 use Rattle.table.proofs.Stepping.{code-is, table-refused, table-is}
 use Rattle.table.proofs.Candidates.{Meets, Alternatives, Low, candidates-low, candidates-in, candidates-out}
@@ -200,11 +200,11 @@ all-image f P (x ∷ xs) h = (h .0, all-image f P xs (h .1))
 
 pub start-kind : (cap : ℕ) (p : Problem) → Kind (startTable cap p)
 unfolding startTable
-start-kind cap p = growAll-kind cap (clausesOf p) (p .known ∷ [])
+start-kind cap p = growAll-kind cap (startClauses p) (p .known ∷ [])
 
 module _ (p : Problem) (hp : ProperProblem p) where
-  start-of : (w : ℕ) → Starting p w ↔ (In (p .n) (p .known ∷ []) w × All (λ c. Meets (p .n) c w) (clausesOf p))
-  unfolding clausesOf
+  start-of : (w : ℕ) → Starting p w ↔ (In (p .n) (p .known ∷ []) w × All (λ c. Meets (p .n) c w) (startClauses p))
+  unfolding startClauses
   start-of w = (
     λ s. (
       inl (s .known),
@@ -219,8 +219,8 @@ module _ (p : Problem) (hp : ProperProblem p) where
       the-one (inl h) = h
       the-one (inr h) = absurd h
 
-  clauses-proper : All (Alternatives (p .n)) (clausesOf p)
-  unfolding clausesOf
+  clauses-proper : All (Alternatives (p .n)) (startClauses p)
+  unfolding startClauses
   clauses-proper =
       all-append (Alternatives (p .n)) (map orOf (p .ors)) (map oneOf (p .oneofs)) (all-imaged orOf (Alternatives (p .n)) (p .ors) (each (p .ors) (hp .ors .each)))
       (all-imaged oneOf (Alternatives (p .n)) (p .oneofs) (each (p .oneofs) (hp .oneofs .each)))
@@ -229,9 +229,9 @@ module _ (p : Problem) (hp : ProperProblem p) where
       each cs h =
           all-map (ProperClause (p .n)) (All (Proper (p .n))) (λ alts k. all-map (ProperList (p .n) 1 4) (Proper (p .n)) (λ a q. q .proper) alts (k .each)) cs h
 
-  grown : (cap : ℕ) (t : List Literals) → startTable cap p ≡ table t → GrownTo (p .n) (hp .n-most) cap (clausesOf p) (p .known ∷ []) t
+  grown : (cap : ℕ) (t : List Literals) → startTable cap p ≡ table t → GrownTo (p .n) (hp .n-most) cap (startClauses p) (p .known ∷ []) t
   unfolding startTable
-  grown cap t e = growAll-table (p .n) (hp .n-most) cap (clausesOf p) clauses-proper (p .known ∷ []) (hp .known .proper, tt) t e
+  grown cap t e = growAll-table (p .n) (hp .n-most) cap (startClauses p) clauses-proper (p .known ∷ []) (hp .known .proper, tt) t e
 
   first-described : (k : ℕ) → 1 ≤ k → Described k (p .n) (p .known ∷ [])
   first-described k h = record { least = omega arith; most = omega arith; proper = (hp .known .proper, tt); apart = (tt, tt) }
@@ -249,7 +249,7 @@ module _ (p : Problem) (hp : ProperProblem p) where
   unfolding startTable
   start-20 cap e w b s =
       let x = start-of w .0 s in
-      growAll-20 (p .n) (hp .n-most) cap (clausesOf p) clauses-proper (p .known ∷ []) (hp .known .proper, tt) e w b (x .0) (x .1)
+      growAll-20 (p .n) (hp .n-most) cap (startClauses p) clauses-proper (p .known ∷ []) (hp .known .proper, tt) e w b (x .0) (x .1)
 
   -- a table: there is one
   pub start-some : (cap : ℕ) (t : List Literals) → startTable cap p ≡ table t → (w : ℕ) × ((w < 2 ^ p .n) × Starting p w)
@@ -268,11 +268,11 @@ module _ (p : Problem) (hp : ProperProblem p) where
       go (inr (inr k)) = let x = start-some cap (k .0) (k .1) in absurd (f (x .0) (x .1 .0) (x .1 .1))
 
 -- 20 (21) exactly if some clause leaves its fresh table empty (does not fit), every clause before it having given a table
-pub first-20 : (cap : ℕ) (p : Problem) → (startTable cap p ≡ refused 20) ↔ Stops cap (some []) (clausesOf p) (p .known ∷ [])
+pub first-20 : (cap : ℕ) (p : Problem) → (startTable cap p ≡ refused 20) ↔ Stops cap (some []) (startClauses p) (p .known ∷ [])
 unfolding startTable
 first-20 cap p =
-    (stops-of cap 20 (some []) fresh-20 refl (clausesOf p) (p .known ∷ []), of-stops cap 20 (some []) fresh-20 refl (clausesOf p) (p .known ∷ []))
+    (stops-of cap 20 (some []) fresh-20 refl (startClauses p) (p .known ∷ []), of-stops cap 20 (some []) fresh-20 refl (startClauses p) (p .known ∷ []))
 
-pub first-21 : (cap : ℕ) (p : Problem) → (startTable cap p ≡ refused 21) ↔ Stops cap none (clausesOf p) (p .known ∷ [])
+pub first-21 : (cap : ℕ) (p : Problem) → (startTable cap p ≡ refused 21) ↔ Stops cap none (startClauses p) (p .known ∷ [])
 unfolding startTable
-first-21 cap p = (stops-of cap 21 none fresh-21 refl (clausesOf p) (p .known ∷ []), of-stops cap 21 none fresh-21 refl (clausesOf p) (p .known ∷ []))
+first-21 cap p = (stops-of cap 21 none fresh-21 refl (startClauses p) (p .known ∷ []), of-stops cap 21 none fresh-21 refl (startClauses p) (p .known ∷ []))

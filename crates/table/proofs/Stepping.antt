@@ -21,30 +21,30 @@ use Rattle.sheet.proofs.LiteralSets.{below-join, proper-consistent, proper-belo
 use Rattle.sheet.proofs.Results.{replace-mono}
 use Rattle.sheet.proofs.Worlds.{after-lt, replace-state, before-world}
 use Rattle.sheet.proofs.Members.{within-trans, below-none, replace-proper, some-world, lacking-world}
-use Rattle.table.specs.Worlds.{addResult, results, takes, after, when, stepWorld}
+use Rattle.table.specs.Worlds.{addResult, results, takes, worldAfter, when, stepWorld}
 use Rattle.table.specs.Minimal.{In, Described, putAll, Outcome, refused, table}
 use Rattle.table.specs.Step.{pieces, image, orFull, stepClear, stepSure, stepTable}
 use Rattle.table.proofs.PutLaws.{put-all-all, put-all-antichain, put-all-size, put-all-in, put-all-out}
 use Rattle.table.proofs.Splitting.{Decides, Part, pieces-parts, pieces-in, pieces-out, results-same}
 
 -- ---- the step of a world
-pub step-goes : (n : ℕ) (a : Action) (w : ℕ) → T (takes n a w) → stepWorld n a w ≡ some (after n a w)
+pub step-goes : (n : ℕ) (a : Action) (w : ℕ) → T (takes n a w) → stepWorld n a w ≡ some (worldAfter n a w)
 unfolding stepWorld
-step-goes n a w t = ap (λ (b : Bool). when b (after n a w)) (T-true (takes n a w) t)
+step-goes n a w t = ap (λ (b : Bool). when b (worldAfter n a w)) (T-true (takes n a w) t)
 
 pub step-stays : (n : ℕ) (a : Action) (w : ℕ) → T (not (takes n a w)) → stepWorld n a w ≡ none
 unfolding stepWorld
-step-stays n a w t = ap (λ (b : Bool). when b (after n a w)) (T-false (takes n a w) t)
+step-stays n a w t = ap (λ (b : Bool). when b (worldAfter n a w)) (T-false (takes n a w) t)
 
-step-some : (n : ℕ) (a : Action) (w v : ℕ) → stepWorld n a w ≡ some v → after n a w ≡ v
+step-some : (n : ℕ) (a : Action) (w v : ℕ) → stepWorld n a w ≡ some v → worldAfter n a w ≡ v
 step-some n a w v e = go (test (takes n a w))
   where
-    go : T (takes n a w) ⊎ T (not (takes n a w)) → after n a w ≡ v
-    go (inl t) = Option·some-injective (after n a w) v (sym (step-goes n a w t) ∙ e)
+    go : T (takes n a w) ⊎ T (not (takes n a w)) → worldAfter n a w ≡ v
+    go (inl t) = Option·some-injective (worldAfter n a w) v (sym (step-goes n a w t) ∙ e)
     go (inr t) = absurd (Option·none-ne-some v (sym (step-stays n a w t) ∙ e))
 
 step-none : (n : ℕ) (a : Action) (w : ℕ) → stepWorld n a w ≡ none → T (not (takes n a w))
-step-none n a w e = not-in (takes n a w) (λ t. Option·some-ne-none (after n a w) (sym (step-goes n a w t) ∙ e))
+step-none n a w e = not-in (takes n a w) (λ t. Option·some-ne-none (worldAfter n a w) (sym (step-goes n a w t) ∙ e))
 
 takes-pre : (n : ℕ) (a : Action) (w : ℕ) → T (takes n a w) → T (within (a .precondition) (state n w))
 unfolding takes
@@ -69,8 +69,8 @@ results-below n (e ∷ es) he d = go (within (e .condition) d) (results-below n 
 
 -- a world that takes a proper move comes to a world
 pub after-world : (n : ℕ) (a : Action) → ProperAction n a → (w : ℕ) → w < 2 ^ n → T (takes n a w)
-    → (after n a w < 2 ^ n) × (replace (state n w) (results (a .effects) (state n w)) ≡ state n (after n a w))
-unfolding after lits.after replace state
+    → (worldAfter n a w < 2 ^ n) × (replace (state n w) (results (a .effects) (state n w)) ≡ state n (worldAfter n a w))
+unfolding worldAfter lits.overridden replace state
 after-world n a ha w b t = (after-lt n w b r (T-true (consistent r) (takes-clear n a w t)) low, replace-state n w b r (T-true (consistent r) (takes-clear n a w t)) low)
   where
     r : Literals
@@ -195,11 +195,11 @@ module _ (n : ℕ) (hn : n ≤ 32) (a : Action) (ha : ProperAction n a) (t : Lis
 
   -- ---- images
   -- the worlds of a piece come to worlds of its image
-  image-in : Sure → Clear → (w : ℕ) → w < 2 ^ n → In n t w → In n (map (image es) ps) (after n a w)
+  image-in : Sure → Clear → (w : ℕ) → w < 2 ^ n → In n t w → In n (map (image es) ps) (worldAfter n a w)
   unfolding Ready image
   image-in hs hc w b i =
-      any-imaged (image es) (λ q. T (within q (state n (after n a w)))) ps
-      (any-with Ready (λ q. T (within q (state n w))) (λ q. T (within (image es q) (state n (after n a w))))
+      any-imaged (image es) (λ q. T (within q (state n (worldAfter n a w)))) ps
+      (any-with Ready (λ q. T (within q (state n w))) (λ q. T (within (image es q) (state n (worldAfter n a w))))
       (λ q k j. subst (λ (x : Literals). T (within (image es q) x)) (after-world n a ha w b (all-take hs hc w b i) .1)
       (subst (λ (r : Literals). T (within (replace q (results es q)) (replace (state n w) r))) (results-same n w b es q j (k .1))
       (true-T (within (replace q (results es q)) (replace (state n w) (results es q))) (replace-mono q (state n w) (results es q) (T-true (within q (state n w)) j)))))
@@ -207,8 +207,8 @@ module _ (n : ℕ) (hn : n ≤ 32) (a : Action) (ha : ProperAction n a) (t : Lis
 
   -- a world of a piece's image comes from one of the piece's worlds
   came-from : (v : ℕ) → v < 2 ^ n → (q : Literals) → Ready q → T (within (image es q) (state n v))
-      → (w : ℕ) × (T (within q (state n w)) × ((w < 2 ^ n) × (after n a w ≡ v)))
-  unfolding Ready image after
+      → (w : ℕ) × (T (within q (state n w)) × ((w < 2 ^ n) × (worldAfter n a w ≡ v)))
+  unfolding Ready image worldAfter
   came-from v b q k h =
       let x = before-world n q (results es q) (proper-consistent n q (k .0)) (proper-below n q (k .0)) v b (T-true (within (replace q (results es q)) (state n v)) h) in
       let j = true-T (within q (state n (x .0))) (x .2) in (
@@ -221,8 +221,8 @@ module _ (n : ℕ) (hn : n ≤ 32) (a : Action) (ha : ProperAction n a) (t : Lis
 
   image-out : Sure → Clear → (v : ℕ) → v < 2 ^ n → In n (map (image es) ps) v → SomeTo n a t v
   image-out hs hc v b i =
-      let x = any-choose (λ q w. T (within q (state n w))) (λ w. (w < 2 ^ n) × (after n a w ≡ v)) ps
-      (any-with Ready (λ q. T (within (image es q) (state n v))) (λ q. (w : ℕ) × (T (within q (state n w)) × ((w < 2 ^ n) × (after n a w ≡ v))))
+      let x = any-choose (λ q w. T (within q (state n w))) (λ w. (w < 2 ^ n) × (worldAfter n a w ≡ v)) ps
+      (any-with Ready (λ q. T (within (image es q) (state n v))) (λ q. (w : ℕ) × (T (within q (state n w)) × ((w < 2 ^ n) × (worldAfter n a w ≡ v))))
       (λ q k j. came-from v b q k j) ps ready (any-image (image es) (λ q. T (within q (state n v))) ps i)) in
       let it = parts-out (x .0) (x .1 .0) in
       (x .0, (it, (x .1 .1 .0, step-goes n a (x .0) (all-take hs hc (x .0) (x .1 .1 .0) it) ∙ ap {B = Option ℕ} some (x .1 .1 .1))))
@@ -372,7 +372,7 @@ module _ (n : ℕ) (hn : n ≤ 32) (a : Action) (ha : ProperAction n a) (t : Lis
         x = put-images
 
     -- every world takes the move
-    pub step-taken : (w : ℕ) → w < 2 ^ n → In n t w → stepWorld n a w ≡ some (after n a w)
+    pub step-taken : (w : ℕ) → w < 2 ^ n → In n t w → stepWorld n a w ≡ some (worldAfter n a w)
     step-taken w b i = step-goes n a w (all-take (put-images .0) (put-images .1 .0) w b i)
 
     -- and it is as described
@@ -384,16 +384,16 @@ module _ (n : ℕ) (hn : n ≤ 32) (a : Action) (ha : ProperAction n a) (t : Lis
       apart = put-all-antichain cap (map (image es) ps) [] u (put-images .1 .1) tt;
     }
       where
-        goes : (w : ℕ) → w < 2 ^ n → In n t w → In n u (after n a w)
+        goes : (w : ℕ) → w < 2 ^ n → In n t w → In n u (worldAfter n a w)
         goes w b i =
             let k = all-take (put-images .0) (put-images .1 .0) w b i in
-            step-worlds (after n a w) (after-world n a ha w b k .0) .1 (w, (i, (b, step-goes n a w k)))
+            step-worlds (worldAfter n a w) (after-world n a ha w b k .0) .1 (w, (i, (b, step-goes n a w k)))
 
         some-entry : (x : List Literals) (v : ℕ) → In n x v → 1 ≤ length x
         some-entry [] v i = absurd i
         some-entry (d ∷ x) v i = omega arith
 
         filled : (x : List Literals) → All (Proper n) x → 1 ≤ length x → (y : List Literals)
-            → ((w : ℕ) → w < 2 ^ n → In n x w → In n y (after n a w)) → 1 ≤ length y
+            → ((w : ℕ) → w < 2 ^ n → In n x w → In n y (worldAfter n a w)) → 1 ≤ length y
         filled [] hx h y f = absurd (omega arith)
-        filled (d ∷ x) hx h y f = let k = some-world n d (hx .0) in some-entry y (after n a (k .0)) (f (k .0) (k .1 .0) (inl (k .1 .1)))
+        filled (d ∷ x) hx h y f = let k = some-world n d (hx .0) in some-entry y (worldAfter n a (k .0)) (f (k .0) (k .1 .0) (inl (k .1 .1)))

@@ -11,14 +11,14 @@ use Rattle.sheet.specs.declared.Answer.the-variants.{Accepted, Refused}
 use Rattle.sheet.specs.Problem.{Action}
 use Rattle.sheet.specs.Format.{Judgement, accepted, refused}
 use Rattle.table.specs.declared.Table.{Table}
-use Rattle.table.specs.declared.Tabled.{Tabled}
+use Rattle.table.specs.declared.TableAnswer.{TableAnswer}
 use Rattle.table.specs.Minimal.{described, Outcome}
 use Rattle.table.specs.Step.{stepTable}
 use Rattle.table.specs.Slots.{entries}
 use Rattle.table.specs.Calls.{orGiven, actionAt, stepKnown, stepMove, stepOf}
 use Rattle.table.specs.PictureCalls.{pictureOf, bufferOf}
 
-abbrev Same : Tabled → Tabled → Type 0
+abbrev Same : TableAnswer → TableAnswer → Type 0
 Same r q = (r .answer ≡ q .answer) × (r .answer ≡ Accepted → r .table ≡ q .table)
 
 no : {X : Type 0} {k p : ℕ} → _≡_ {A = Answer} (Refused k p) Accepted → X

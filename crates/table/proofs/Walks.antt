@@ -11,7 +11,7 @@ use Rattle.sheet.specs.Literals.{join, flip, literal, within, clash, next, memb
 use Rattle.sheet.specs.Lists.{collect}
 use Rattle.sheet.proofs.Bytes.{scan, next-end, next-here, next-step, next-next, next-ge, members-next, members-loop, members-end}
 use Rattle.table.specs.Step.{splitBy, split, pieces, image}
-use Rattle.table.specs.Carry.{lacks, partAt}
+use Rattle.table.specs.Carry.{minus, partAt}
 use Rattle.table.proofs.Lacking.{members-lacks}
 use Rattle.table.proofs.Growing.{Going}
 
@@ -66,7 +66,7 @@ module _ (es gs hs : List Effect) (e : Effect) (d : Literals) (q : gs ≡ e ∷ 
       (ap (λ (x : List Effect). pieces x d) q ∙ ap (λ (x : Bool). collect (pieces hs) (splitBy x (e .condition) d)) t ∙ append-nil (pieces hs d))
 
   -- all parts come, where the condition splits the piece
-  pub parts-start : (m : Literals) → (within (e .condition) d || clash (e .condition) d) ≡ false → m ≡ lacks (e .condition) d
+  pub parts-start : (m : Literals) → (within (e .condition) d || clash (e .condition) d) ≡ false → m ≡ minus (e .condition) d
       → map (image es) (pieces gs d) ≡ partsFrom es hs (e .condition) d m 0
   unfolding split partsFrom partList
   parts-start m t is =

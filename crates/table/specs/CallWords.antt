@@ -13,7 +13,7 @@ use Rattle.sheet.specs.Problem.{Problem, Statement}
 use Rattle.table.specs.declared.Table.{Table}
 use Rattle.table.specs.Worlds.{results, stepWorld, Starting}
 use Rattle.table.specs.Minimal.{In, Described, putAll}
-use Rattle.table.specs.Start.{clausesOf, Stops}
+use Rattle.table.specs.Start.{startClauses, Stops}
 use Rattle.table.specs.Step.{pieces, image}
 use Rattle.table.specs.Slots.{entries, tableOf}
 use Rattle.table.specs.Calls.{actionAt}
@@ -54,7 +54,7 @@ Untaken x t m = (w : ℕ) × WorldOf x t w × (stepWorld (x .problem .n) (action
 -- ---- working order
 -- the start comes to o at some clause, and to a table at every clause before it: empty, some [], is 20, full, none, is 21
 abbrev pub StartStops : Problem → Option (List Literals) → Type 0
-StartStops p o = Stops 128 o (clausesOf p) (p .known ∷ [])
+StartStops p o = Stops 128 o (startClauses p) (p .known ∷ [])
 
 -- the images of the pieces of a table by move m, in working order
 abbrev pub images : Statement → Table → ℕ → List Literals

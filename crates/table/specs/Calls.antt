@@ -9,19 +9,19 @@ use Rattle.sheet.specs.Literals.{noLiteral}
 use Rattle.sheet.specs.Problem.{Action, Problem}
 use Rattle.sheet.specs.Format.{Judgement, accepted, refused}
 use Rattle.table.specs.declared.Table.{Table}
-use Rattle.table.specs.declared.Tabled.{Tabled}
+use Rattle.table.specs.declared.TableAnswer.{TableAnswer}
 use Rattle.table.specs.Minimal.{described, Outcome}
 use Rattle.table.specs.Start.{startTable}
 use Rattle.table.specs.Step.{stepTable}
 use Rattle.table.specs.Slots.{entries, tableOf}
 
 -- the outcome with the table; a refusal by its number, at position 0, with the table t
-unfoldable pub orGiven : Table → Outcome → Tabled
+unfoldable pub orGiven : Table → Outcome → TableAnswer
 orGiven t (Outcome.refused k) = record { answer = Refused k 0; table = t }
 orGiven t (Outcome.table u) = record { answer = Accepted; table = tableOf u }
 
 -- ---- start: a fault of the sheet; then 20 or 21, whichever comes first. Refused: a table with count 0 and all slots zero
-unfoldable pub startOf : Judgement → Tabled
+unfoldable pub startOf : Judgement → TableAnswer
 startOf (refused k p) = record { answer = Refused k p; table = tableOf [] }
 startOf (accepted x) = orGiven (tableOf []) (startTable 128 (x .problem))
 
@@ -30,14 +30,14 @@ startOf (accepted x) = orGiven (tableOf []) (startTable 128 (x .problem))
 unfoldable pub actionAt : Problem → ℕ → Action
 actionAt p m = getD (p .actions) m (record { precondition = noLiteral; effects = [] })
 
-abbrev pub stepKnown : Bool → Action → Table → Tabled
+abbrev pub stepKnown : Bool → Action → Table → TableAnswer
 stepKnown false a t = record { answer = Refused 22 0; table = t }
 stepKnown true a t = orGiven t (stepTable 128 a (entries t))
 
-abbrev pub stepMove : Bool → ℕ → Action → Table → Tabled
+abbrev pub stepMove : Bool → ℕ → Action → Table → TableAnswer
 stepMove false n a t = record { answer = Refused 7 0; table = t }
 stepMove true n a t = stepKnown (described 128 n (entries t)) a t
 
-unfoldable pub stepOf : Judgement → Table → ℕ → Tabled
+unfoldable pub stepOf : Judgement → Table → ℕ → TableAnswer
 stepOf (refused k p) t m = record { answer = Refused k p; table = t }
 stepOf (accepted x) t m = stepMove (ltb m (length (x .problem .actions))) (x .problem .n) (actionAt (x .problem) m) t

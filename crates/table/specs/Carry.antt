@@ -9,7 +9,7 @@ use Rattle.sheet.specs.declared.Literals.{Literals}
 use Rattle.sheet.specs.declared.Effect.{Effect}
 use Rattle.sheet.specs.Literals.{within, clash, consistent, join, flip, literal}
 use Rattle.sheet.specs.Lists.{All}
-use Rattle.table.specs.declared.steps.Settled.{Settled}
+use Rattle.table.specs.declared.steps.Undecided.{Undecided}
 use Rattle.table.specs.Worlds.{results}
 use Rattle.table.specs.Step.{pieces}
 
@@ -29,15 +29,15 @@ pub record Splits (c piece : Literals) : Type 0 where
   pub apart : clash c piece ≡ false
 
 -- from `at` on to the place of r no condition splits the piece, and r has the results up to there
-pub record Settles (es : List Effect) (at : ℕ) (piece : Literals) (r : Settled) : Type 0 where
+pub record Skips (es : List Effect) (at : ℕ) (piece : Literals) (r : Undecided) : Type 0 where
   pub upto : at ≤ r .at
   pub carried : Carried es (r .at) piece (r .results)
   pub whole : pieces (drop (r .at) es) piece ≡ pieces (drop at es) piece
 
 -- ---- the parts of a piece that a condition splits
 -- the literals of c that are not in d
-unfoldable pub lacks : Literals → Literals → Literals
-lacks c d = record { trues = c .trues - bitAnd (c .trues) (d .trues); falses = c .falses - bitAnd (c .falses) (d .falses) }
+unfoldable pub minus : Literals → Literals → Literals
+minus c d = record { trues = c .trues - bitAnd (c .trues) (d .trues); falses = c .falses - bitAnd (c .falses) (d .falses) }
 
 -- part 0 is d with all of c, part l + 1 is d with the complement of the literal l
 unfoldable pub partAt : Literals → Literals → ℕ → Literals

@@ -6,13 +6,13 @@ use Prim.Native.Nat.{ℕ}
 use lib.ListN.{length}
 use Rattle.sheet.specs.declared.Literals.{Literals}
 use Rattle.sheet.specs.Lists.{pad}
-use Rattle.table.specs.declared.clauses.Clauses.{Clauses}
+use Rattle.table.specs.declared.picture_clauses.Clauses.{Clauses}
 use Rattle.table.specs.Slots.{trues-of, falses-of}
 
 -- clauses with zeros after them; all zero where they were too many
-unfoldable pub clausesOf : Option (List Literals) → Clauses
-clausesOf none = record { full = true; count = 0; trues = pad 256 0 []; falses = pad 256 0 [] }
-clausesOf (some s) = record { full = false; count = length s; trues = pad 256 0 (trues-of s); falses = pad 256 0 (falses-of s) }
+unfoldable pub clauseSlots : Option (List Literals) → Clauses
+clauseSlots none = record { full = true; count = 0; trues = pad 256 0 []; falses = pad 256 0 [] }
+clauseSlots (some s) = record { full = false; count = length s; trues = pad 256 0 (trues-of s); falses = pad 256 0 (falses-of s) }
 
 -- how many clauses; 257 where they were too many
 unfoldable pub sizeOf : Option (List Literals) → ℕ

@@ -14,7 +14,7 @@ use Rattle.sheet.specs.Problem.{Action}
 use Rattle.sheet.specs.Encoding.{ProperAction, ProperStatement}
 use Rattle.sheet.specs.Decoded.{statementIn}
 use Rattle.table.specs.declared.Table.{Table}
-use Rattle.table.specs.declared.Tabled.{Tabled}
+use Rattle.table.specs.declared.TableAnswer.{TableAnswer}
 use Rattle.table.specs.declared.Counted.{Counted}
 use Rattle.table.specs.declared.steps.Stepped.{Stepped}
 use Rattle.table.specs.declared.steps.Stepped.the-variants as stepped
@@ -33,7 +33,7 @@ abbrev pub lent : ℕ → List ℕ → List ℕ → Table
 lent n ts fs = record { count = n; trues = ts; falses = fs }
 
 -- what a step of the table t gave, with the arrays that it was put in
-abbrev pub tabled : Table → Stepped → List ℕ → List ℕ → Tabled
+abbrev pub tabled : Table → Stepped → List ℕ → List ℕ → TableAnswer
 tabled t (stepped.To k) us gs = record { answer = Accepted; table = lent k us gs }
 tabled t (stepped.Refused number) us gs = record { answer = Refused number 0; table = t }
 
@@ -47,7 +47,7 @@ abbrev pub kept : Answer → Table → Table → Table
 kept Accepted t u = u
 kept (Refused number position) t u = t
 
-abbrev pub counted : Table → Counted → List ℕ → List ℕ → Tabled
+abbrev pub counted : Table → Counted → List ℕ → List ℕ → TableAnswer
 counted t c us gs = record { answer = c .answer; table = kept (c .answer) t (lent (c .count) us gs) }
 
 -- an action and a table over the same n propositions

@@ -10,12 +10,12 @@ use Rattle.sheet.specs.declared.Literals.{Literals}
 use Rattle.sheet.specs.declared.Answer.the-variants.{Accepted, Refused}
 use Rattle.sheet.specs.Format.{Judgement, accepted, refused}
 use Rattle.table.specs.declared.Table.{Table}
-use Rattle.table.specs.declared.Pictured.{Pictured}
+use Rattle.table.specs.declared.PictureAnswer.{PictureAnswer}
 use Rattle.table.specs.Minimal.{described}
 use Rattle.table.specs.Picture.{picture, pictureBytes}
 use Rattle.table.specs.Slots.{entries}
 
-unfoldable pub refusal : ℕ → ℕ → Pictured
+unfoldable pub refusal : ℕ → ℕ → PictureAnswer
 refusal number position = record { answer = Refused number position; clauses = 0 }
 
 -- the bytes of s do not fit into len
@@ -23,11 +23,11 @@ unfoldable pub tooLong : List Literals → ℕ → Bool
 tooLong s len = ltb len (2 + 8 * length s)
 
 -- ---- what the call gives for a buffer of len bytes
-unfoldable pub given : Option (List Literals) → ℕ → Pictured
+unfoldable pub given : Option (List Literals) → ℕ → PictureAnswer
 given none len = refusal 21 0
 given (some s) len = cond (tooLong s len) (refusal 23 0) (record { answer = Accepted; clauses = length s })
 
-unfoldable pub pictureOf : Judgement → Table → ℕ → Pictured
+unfoldable pub pictureOf : Judgement → Table → ℕ → PictureAnswer
 pictureOf (refused k p) t len = refusal k p
 pictureOf (accepted x) t len = cond (described 128 (x .problem .n) (entries t)) (given (picture (entries t)) len) (refusal 22 0)
 

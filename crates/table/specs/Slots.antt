@@ -5,7 +5,7 @@ use mathlib.Core.List.{List, [], _∷_, map}
 use mathlib.Core.Option.{Option, none, some}
 use Prim.Native.Nat.{ℕ, suc, _+_, _-_, _≤_}
 use lib.Dec.{eqb}
-use lib.ListN.{length}
+use lib.ListN.{length, replicate}
 use Rattle.sheet.specs.declared.Literals.{Literals}
 use Rattle.sheet.specs.Literals.{within}
 use Rattle.sheet.specs.Lists.{anyOf, keep, pad}
@@ -34,6 +34,23 @@ falses-of es = map (λ (e : Literals). e .falses) es
 unfoldable pub entriesOf : ℕ → List ℕ → List ℕ → List Literals
 entriesOf n ts fs = pairs (pad n 0 ts) (pad n 0 fs)
 
+-- ---- what contracts ask of two arrays
+-- n slots or more
+pub record Room (n : ℕ) (ts fs : List ℕ) : Type 0 where
+  pub trues : n ≤ length ts
+  pub falses : n ≤ length fs
+
+-- the slots of a table, any numbers in them
+pub record TableRoom (ts fs : List ℕ) : Type 0 where
+  pub trues : length ts ≡ 128
+  pub falses : length fs ≡ 128
+
+-- the slots of a table, all zero
+pub record Fresh (ts fs : List ℕ) : Type 0 where
+  pub trues : ts ≡ replicate 128 0
+  pub falses : fs ≡ replicate 128 0
+
+-- ---- a list of sets in them
 -- the count n and the arrays ts, fs of capacity cap hold es, with zeros after it
 pub record Holds (cap : ℕ) (es : List Literals) (n : ℕ) (ts fs : List ℕ) : Type 0 where
   pub count-is : n ≡ length es
@@ -79,8 +96,8 @@ orElse s none = s
 orElse s (some r) = r
 
 -- the list after a candidate; as it was where it is full
-unfoldable pub after : ℕ → List Literals → Literals → List Literals
-after cap s c = orElse s (put cap s c)
+unfoldable pub listAfter : ℕ → List Literals → Literals → List Literals
+listAfter cap s c = orElse s (put cap s c)
 
 -- dropped; added, with so many removed, and the new count; full
 unfoldable pub fateOf : ℕ → List Literals → Literals → Fate

@@ -13,8 +13,8 @@ use Rattle.table.specs.Minimal.{putAll, Outcome, refused, table}
 pub data Clause : Type 0 where
   orOf oneOf : List Literals → Clause
 
-unfoldable pub clausesOf : Problem → List Clause
-clausesOf p = map orOf (p .ors) ++ map oneOf (p .oneofs)
+unfoldable pub startClauses : Problem → List Clause
+startClauses p = map orOf (p .ors) ++ map oneOf (p .oneofs)
 
 -- d with each of the others made false: one literal of each is chosen and its complement added, choices in lexicographic
 -- order, the first of the others varying slowest
@@ -57,7 +57,7 @@ growAll cap (c ∷ cs) t = onTable (grow cap c t) (λ u. growAll cap cs u)
 
 -- the start of a problem, in tables of at most cap entries
 unfoldable pub startTable : ℕ → Problem → Outcome
-startTable cap p = growAll cap (clausesOf p) (p .known ∷ [])
+startTable cap p = growAll cap (startClauses p) (p .known ∷ [])
 
 -- "21 or 20, whichever the start meets first": some clause comes to o in its fresh table, where every clause before it gave a table; left
 -- empty, some [], is 20, full, none, is 21

@@ -26,8 +26,8 @@ unfoldable pub takes : ℕ → Action → ℕ → Bool
 takes n a w = within (a .precondition) (state n w) && consistent (results (a .effects) (state n w))
 
 -- those results become true, and the rest keeps its value
-unfoldable pub after : ℕ → Action → ℕ → ℕ
-after n a w = replace (state n w) (results (a .effects) (state n w)) .trues
+unfoldable pub worldAfter : ℕ → Action → ℕ → ℕ
+worldAfter n a w = replace (state n w) (results (a .effects) (state n w)) .trues
 
 abbrev pub when : Bool → ℕ → Option ℕ
 when true w = some w
@@ -35,7 +35,7 @@ when false w = none
 
 -- Φ(a, w) (000, equation 2); none: undefined
 unfoldable pub stepWorld : ℕ → Action → ℕ → Option ℕ
-stepWorld n a w = when (takes n a w) (after n a w)
+stepWorld n a w = when (takes n a w) (worldAfter n a w)
 
 abbrev pub andThen : {A B : Type 0} → Option A → (A → Option B) → Option B
 andThen none f = none

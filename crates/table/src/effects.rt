@@ -1,10 +1,10 @@
 // The effects of a move in a row of masks, four to an effect.
 use sheet::Effect;
-use sheet::rows::set_from;
+use sheet::packed::set_from;
 ghost use mathlib.Core.Path.{_≡_};
 ghost use Prim.Native.Nat.{_≤_, _+_, _*_};
 ghost use lib.ListN.{length};
-ghost use Rattle.sheet.specs.Rows as R;
+ghost use Rattle.sheet.specs.Packed as R;
 
 // The effect of a number.
 pub(crate) fn effect_at<'a>(effects: &'a [u32], i: usize) -> Effect

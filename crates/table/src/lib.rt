@@ -7,14 +7,14 @@ ghost use Rattle.table.specs.Calls.{startOf, stepOf};
 ghost use Rattle.table.specs.Moves.{lent, counted};
 ghost use Rattle.table.specs.PictureCalls.{pictureOf, bufferOf};
 
-pub mod clauses;
 pub mod effects;
-pub mod first;
+pub mod picture_bytes;
+pub mod picture_clauses;
+pub mod picture_order;
 pub mod slots;
-pub mod sorting;
+pub mod starts;
 pub mod steps;
 pub mod tables;
-pub mod writing;
 
 // A belief state: the entries in the first count slots, bit p of both masks for proposition p (document 01: a table).
 pub struct Table {
@@ -24,13 +24,13 @@ pub struct Table {
 }
 
 // What a call on tables gives.
-pub struct Tabled {
+pub struct TableAnswer {
     pub answer: Answer,
     pub table: Table,
 }
 
 // What the call `picture` gives: the number of clauses, 0 if refused.
-pub struct Pictured {
+pub struct PictureAnswer {
     pub answer: Answer,
     pub clauses: usize,
 }
@@ -42,7 +42,7 @@ pub struct Counted {
 }
 
 // The first table of a sheet.
-pub fn start(s: &[u8]) -> Tabled
+pub fn start(s: &[u8]) -> TableAnswer
     ensures { λ r. ⌜ r ≡ startOf (sheetOf (now (s .entry))) ⌝ }
 {
     let mut ors = [0u32; 136];
@@ -52,13 +52,13 @@ pub fn start(s: &[u8]) -> Tabled
     let decoded = sheet::decode(s, &mut ors, &mut oneofs, &mut goal, &mut moves);
     let answer = decoded.answer;
     match answer {
-        Answer::Refused(number, position) => first::refuse(number, position),
+        Answer::Refused(number, position) => starts::refuse_start(number, position),
         Answer::Accepted => {
             let sheet = decoded.sheet;
             // References to whole arrays: their types have the lengths.
             let ors = &ors;
             let oneofs = &oneofs;
-            first::first_table(sheet, ors, oneofs)
+            starts::first_table(sheet, ors, oneofs)
         }
     }
 }
@@ -99,7 +99,7 @@ pub fn step_lent<'a, 'b, 'c>(
 }
 
 // The step of a table by the move of a number on a sheet.
-pub fn step(s: &[u8], table: Table, number: usize) -> Tabled
+pub fn step(s: &[u8], table: Table, number: usize) -> TableAnswer
     ensures { λ r. ⌜ r ≡ stepOf (sheetOf (now (s .entry))) table number ⌝ }
 {
     let count = table.count;
@@ -116,8 +116,8 @@ pub fn step(s: &[u8], table: Table, number: usize) -> Tabled
     );
     let answer = stepped.answer;
     match answer {
-        Answer::Refused(_, _) => Tabled { answer, table },
-        Answer::Accepted => Tabled {
+        Answer::Refused(_, _) => TableAnswer { answer, table },
+        Answer::Accepted => TableAnswer {
             answer,
             table: Table {
                 count: stepped.count,
@@ -129,7 +129,7 @@ pub fn step(s: &[u8], table: Table, number: usize) -> Tabled
 }
 
 // The picture of a table, written into the buffer.
-pub fn picture(s: &[u8], table: Table, buffer: &mut [u8]) -> Pictured
+pub fn picture(s: &[u8], table: Table, buffer: &mut [u8]) -> PictureAnswer
     ensures { λ r. ⌜ r ≡ pictureOf (sheetOf (now (s .entry))) table (length (now (buffer .entry))) ⌝ }
     ensures { λ r. ⌜ now (buffer .exit) ≡ bufferOf (sheetOf (now (s .entry))) table (now (buffer .entry)) ⌝ }
 {
@@ -140,12 +140,12 @@ pub fn picture(s: &[u8], table: Table, buffer: &mut [u8]) -> Pictured
     let decoded = sheet::decode(s, &mut ors, &mut oneofs, &mut goal, &mut moves);
     let answer = decoded.answer;
     match answer {
-        Answer::Refused(number, position) => writing::refused(number, position),
+        Answer::Refused(number, position) => picture_bytes::refuse_picture(number, position),
         Answer::Accepted => {
             let sheet = decoded.sheet;
             let n = sheet.n;
             let count = table.count;
-            writing::draw(n, &table.trues, &table.falses, count, buffer)
+            picture_bytes::draw(n, &table.trues, &table.falses, count, buffer)
         }
     }
 }

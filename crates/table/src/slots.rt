@@ -10,7 +10,7 @@ ghost use lib.Seq.{paste};
 ghost use lib.ListN.{length};
 ghost use Rattle.sheet.specs.Literals as L;
 ghost use Rattle.sheet.specs.Lists.{anyOf};
-ghost use Rattle.table.specs.Slots.{entriesOf, Holds, Held, lastWithin, left, after, fateOf, Puts};
+ghost use Rattle.table.specs.Slots.{entriesOf, Holds, Held, lastWithin, left, listAfter, fateOf, Puts};
 ghost use Rattle.table.specs.declared.slots.Found.the-variants as found;
 ghost use Rattle.table.specs.Moves.{fourWithin};
 
@@ -181,7 +181,7 @@ pub(crate) fn remove(trues: &mut [u32], falses: &mut [u32], n: usize, l: Literal
 pub(crate) fn put(trues: &mut [u32], falses: &mut [u32], n: usize, l: Literals) -> Fate
     requires { ⌜ Held (length (now trues)) n (now trues) (now falses) ⌝ }
     ensures { λ r. ⌜ r ≡ fateOf (length (now (trues .entry))) (entriesOf n (now (trues .entry)) (now (falses .entry))) l ⌝ }
-    ensures { λ r. ⌜ Holds (length (now (trues .entry))) (after (length (now (trues .entry))) (entriesOf n (now (trues .entry)) (now (falses .entry))) l) (length (after (length (now (trues .entry))) (entriesOf n (now (trues .entry)) (now (falses .entry))) l)) (now (trues .exit)) (now (falses .exit)) ⌝ }
+    ensures { λ r. ⌜ Holds (length (now (trues .entry))) (listAfter (length (now (trues .entry))) (entriesOf n (now (trues .entry)) (now (falses .entry))) l) (length (listAfter (length (now (trues .entry))) (entriesOf n (now (trues .entry)) (now (falses .entry))) l)) (now (trues .exit)) (now (falses .exit)) ⌝ }
 {
     match last_within(trues, falses, n, l) {
         Found::At(_) => Fate::Dropped,

@@ -9,8 +9,8 @@ use sheet::Answer;
 use sheet::Effect;
 use sheet::Literals;
 use sheet::masks;
-use sheet::rows::set_from;
-use sheet::rows::wide;
+use sheet::packed::set_from;
+use sheet::packed::wide;
 ghost use mathlib.Core.Path.{_≡_};
 ghost use mathlib.Core.Bool.{true};
 ghost use mathlib.Core.List.{map};
@@ -20,12 +20,12 @@ ghost use Rattle.sheet.specs.Literals as L;
 ghost use Rattle.sheet.specs.Lists.{All, anyOf, allOf, collect};
 ghost use lib.Dec.{ltb};
 ghost use Rattle.sheet.specs.Encoding.{ProperAction};
-ghost use Rattle.sheet.specs.Rows as R;
+ghost use Rattle.sheet.specs.Packed as R;
 ghost use Rattle.table.specs.Step as S;
 ghost use Rattle.table.specs.Slots.{entriesOf, Held, Puts, entries};
 ghost use Rattle.table.specs.Pairs as P;
 ghost use Rattle.table.specs.Moves as M;
-ghost use Rattle.table.specs.Carry.{Steady, Carried, Splits, Settles, lacks, partAt, carriedAt};
+ghost use Rattle.table.specs.Carry.{Steady, Carried, Splits, Skips, minus, partAt, carriedAt};
 ghost use Rattle.table.specs.Calls.{orGiven, stepMove};
 
 // The precondition lies in every entry (24 if not).
@@ -106,7 +106,7 @@ pub(crate) fn opposes<'a, 'b>(
 }
 
 // Two effects are opposed in some entry (25). Whether their results clash is asked once for a pair, not in each entry.
-pub(crate) fn unclear<'a, 'b>(
+pub(crate) fn conflicting<'a, 'b>(
     effects: &'a [u32],
     size: usize,
     trues: &'b [u32],
@@ -137,22 +137,22 @@ pub(crate) fn without(piece: Literals, l: usize) -> Literals
 }
 
 // The place of the first effect that splits a piece, and the results of those before it.
-pub struct Settled {
+pub struct Undecided {
     pub at: usize,
     pub results: Literals,
 }
 
 // The first effect from `at` on whose condition splits the piece, not below `size` if there is none; `results` are those before `at`.
-pub(crate) fn settle<'a>(
+pub(crate) fn skip_decided<'a>(
     effects: &'a [u32],
     size: usize,
     at: usize,
     piece: Literals,
     results: Literals,
-) -> Settled
+) -> Undecided
     requires { ⌜ 4 * size ≤ length (now effects) ⌝ }
     requires { ⌜ Carried (R.effectsAt size (now effects)) at piece results ⌝ }
-    ensures { λ r. ⌜ Settles (R.effectsAt size (now (effects .entry))) at piece r × (r .at < size → Splits (R.effectAt (now (effects .entry)) (r .at) .condition) piece) ⌝ }
+    ensures { λ r. ⌜ Skips (R.effectsAt size (now (effects .entry))) at piece r × (r .at < size → Splits (R.effectAt (now (effects .entry)) (r .at) .condition) piece) ⌝ }
 {
     let mut sum = results;
     let mut i = at;
@@ -162,7 +162,7 @@ pub(crate) fn settle<'a>(
             sum = masks::join(e.result, sum);
         } else {
             if !masks::clash(e.condition, piece) {
-                return Settled {
+                return Undecided {
                     at: i,
                     results: sum,
                 };
@@ -170,7 +170,7 @@ pub(crate) fn settle<'a>(
         }
         i += 1;
     }
-    Settled {
+    Undecided {
         at: i,
         results: sum,
     }
@@ -199,7 +199,7 @@ pub(crate) fn carried(results: Literals, result: Literals, t: usize) -> Literals
 
 // The literals of a that are not in b.
 pub(crate) fn lacking(a: Literals, b: Literals) -> Literals
-    ensures { λ r. ⌜ r ≡ lacks a b ⌝ }
+    ensures { λ r. ⌜ r ≡ minus a b ⌝ }
 {
     Literals {
         trues: a.trues & !b.trues,
@@ -233,7 +233,7 @@ pub(crate) fn split<'a, 'b>(
     let mut t: usize = 0;
     while t < 65 {
         let p = part(piece, condition, t);
-        let s = settle(effects, size, next, p, carried(results, e.result, t));
+        let s = skip_decided(effects, size, next, p, carried(results, e.result, t));
         if s.at < size {
             let Grown::To(m) = split(effects, size, s.at, p, s.results, trues, falses, sum) else {
                 return Grown::Full;
@@ -273,7 +273,7 @@ pub(crate) fn branch<'a, 'b>(
         trues: 0,
         falses: 0,
     };
-    let s = settle(effects, size, 0, entry, none);
+    let s = skip_decided(effects, size, 0, entry, none);
     if s.at < size {
         return split(effects, size, s.at, entry, s.results, trues, falses, k);
     }
@@ -281,7 +281,7 @@ pub(crate) fn branch<'a, 'b>(
 }
 
 // The pieces of the first m entries of ts and fs, each put in its turn.
-pub(crate) fn spread<'a, 'b, 'c>(
+pub(crate) fn branch_all<'a, 'b, 'c>(
     effects: &'a [u32],
     size: usize,
     ts: &'b [u32],
@@ -335,10 +335,10 @@ pub(crate) fn step_into<'a, 'b, 'c>(
     if !sure(precondition, ts, fs, n) {
         return Stepped::Refused(24);
     }
-    if unclear(effects, size, ts, fs, n) {
+    if conflicting(effects, size, ts, fs, n) {
         return Stepped::Refused(25);
     }
-    match spread(effects, size, ts, fs, n, us, gs, 0) {
+    match branch_all(effects, size, ts, fs, n, us, gs, 0) {
         Grown::To(k) => Stepped::To(k),
         Grown::Full => Stepped::Refused(21),
     }

@@ -3,7 +3,7 @@
 use libc::STDIN_FILENO;
 use libc::STDOUT_FILENO;
 use table::Table;
-use table::Tabled;
+use table::TableAnswer;
 ghost use mathlib.Core.Path.{_≡_};
 ghost use Prim.Native.Nat.{_≤_, _<_};
 ghost use lib.ListN.{length};
@@ -69,7 +69,7 @@ fn worlds(t: Table, n: u8) -> u64
 }
 
 // What a call on tables gave, and the table that came back.
-fn told(sheet: &[u8], r: Tabled) -> Table {
+fn told(sheet: &[u8], r: TableAnswer) -> Table {
     let answer = r.answer;
     cases::write_answer(answer);
     let t = r.table;

@@ -20,7 +20,7 @@ use Rattle.plan.specs.declared.Kind.the-variants as kind
 use Rattle.plan.specs.Calls.{runOf, searchOf}
 use Rattle.plan.proofs.CallAnswers.{run-none, run-back, search-back}
 use Rattle.unit.specs.Numbers.{tableIn, tableOut, rowNumbers}
-use Rattle.unit.specs.Calls.{lastTable, rowsWith, rowsOut}
+use Rattle.unit.specs.Calls.{runTable, rowsWith, rowsOut}
 
 -- ---- a table that was written is read back
 pub table-again : (t : Table) (xs : List ℕ) → length (t .trues) ≡ 128 → length (t .falses) ≡ 128 → tableIn (tableOut t xs) ≡ t
@@ -61,8 +61,8 @@ start-zeros s xs number position e = ap (λ (t : Table). tableOut t xs) (start-b
 
 -- a refused run gives them too
 module _ (s rows : List ℕ) (number position : ℕ) (refused : runOf (sheetOf s) (length rows / 3) .verdict ≡ ran.Refused number position) where
-  pub run-zeros : (xs : List ℕ) → tableOut (lastTable s rows) xs ≡ replicate 257 0 ++ drop 257 xs
-  unfolding lastTable
+  pub run-zeros : (xs : List ℕ) → tableOut (runTable s rows) xs ≡ replicate 257 0 ++ drop 257 xs
+  unfolding runTable
   run-zeros xs = ap (λ (t : Table). tableOut t xs) (run-back s (length rows / 3) number position refused) ∙ no-table xs
 
   -- and keeps the rows

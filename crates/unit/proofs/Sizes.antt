@@ -19,7 +19,7 @@ use Rattle.sheet.specs.declared.Answer.the-variants.{Accepted}
 use Rattle.table.specs.declared.Table.{Table}
 use Rattle.table.specs.declared.Counted.{Counted}
 use Rattle.table.specs.Moves.{lent, kept, counted}
-use Rattle.table.specs.declared.Tabled.{Tabled}
+use Rattle.table.specs.declared.TableAnswer.{TableAnswer}
 use Rattle.table.specs.Worlds.{results}
 use Rattle.table.specs.Minimal.{Outcome, refused, table, putAll, described}
 use Rattle.table.specs.Start.{startTable}
@@ -78,9 +78,9 @@ unfolding orGiven tableOf
 fits-given t (refused number) s h = h
 fits-given t (table u) s h = omega (arith, s)
 
-pub start-fits : (s : List ℕ) (r : Tabled) → r ≡ startOf (sheetOf s) → r .table .count < 2 ^ 32
+pub start-fits : (s : List ℕ) (r : TableAnswer) → r ≡ startOf (sheetOf s) → r .table .count < 2 ^ 32
 unfolding startOf tableOf
-start-fits s r e = subst (λ (x : Tabled). x .table .count < 2 ^ 32) (sym e) (go (sheetOf s) refl)
+start-fits s r e = subst (λ (x : TableAnswer). x .table .count < 2 ^ 32) (sym e) (go (sheetOf s) refl)
   where
     go : (j : Judgement) → sheetOf s ≡ j → startOf j .table .count < 2 ^ 32
     go (faulty k p) q = omega arith
@@ -105,7 +105,7 @@ pub step-fits : (s xs : List ℕ) (m : ℕ) (c : Counted) (us gs : List ℕ) →
 unfolding tableIn
 step-fits s xs m c us gs h q a =
     subst (λ (x : Answer). kept x (tableIn xs) (lent (c .count) us gs) .count < 2 ^ 32) a
-    (subst (λ (x : Tabled). x .table .count < 2 ^ 32) (sym q) (fits-step (sheetOf s) (tableIn xs) m h))
+    (subst (λ (x : TableAnswer). x .table .count < 2 ^ 32) (sym q) (fits-step (sheetOf s) (tableIn xs) m h))
 
 fits-planned : (p : Problem) (plan : List ℕ) (o : Outcome) → Small o → planned p plan o .table .count < 2 ^ 32
 unfolding planned refusedRun tableOf

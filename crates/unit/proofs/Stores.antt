@@ -12,11 +12,11 @@ use Rattle.table.specs.declared.Counted.{Counted}
 use Rattle.table.specs.Moves.{lent, counted}
 use Rattle.table.specs.Calls.{stepOf}
 use Rattle.table.proofs.Copying.{Copied, copied-step, copied-end, front}
-use Rattle.unit.specs.declared.Told.{Told}
+use Rattle.unit.specs.declared.Reply.{Reply}
 use Rattle.unit.specs.Numbers.{infoOf, tableIn, tableOut}
 
 -- the four numbers of info
-pub info-stores : (t : Told) (info : List ℕ) → 4 ≤ length info
+pub info-stores : (t : Reply) (info : List ℕ) → 4 ≤ length info
     → set (set (set (set info 0 (t .position)) 1 (t .kind)) 2 (t .place)) 3 (t .detail) ≡ infoOf t info
 unfolding infoOf
 info-stores t info h = sets-eq (t .position ∷ t .kind ∷ t .place ∷ t .detail ∷ []) info 0 h

@@ -10,36 +10,36 @@ use Rattle.table.specs.Calls.{startOf, stepOf}
 use Rattle.table.specs.PictureCalls.{pictureOf}
 use Rattle.plan.specs.declared.Row.{Row}
 use Rattle.plan.specs.Calls.{runOf, rowsOf, searchOf}
-use Rattle.unit.specs.declared.Told.{Told}
-use Rattle.unit.specs.Numbers.{answerTold, verdictTold, kindTold, tableIn, rowNumbers}
+use Rattle.unit.specs.declared.Reply.{Reply}
+use Rattle.unit.specs.Numbers.{answerReply, verdictReply, kindReply, tableIn, rowNumbers}
 
 -- the sheet s judged
-unfoldable pub judgeTold : List ℕ → Told
-judgeTold s = answerTold (judgeOf s) 0
+unfoldable pub judgeReply : List ℕ → Reply
+judgeReply s = answerReply (judgeOf s) 0
 
 -- the start of the sheet s
-unfoldable pub startTold : List ℕ → Told
-startTold s = answerTold (startOf (sheetOf s) .answer) 0
+unfoldable pub startReply : List ℕ → Reply
+startReply s = answerReply (startOf (sheetOf s) .answer) 0
 
 -- the step of a table by the move of a number
-unfoldable pub stepTold : List ℕ → List ℕ → ℕ → Told
-stepTold s table number = answerTold (stepOf (sheetOf s) (tableIn table) number .answer) 0
+unfoldable pub stepReply : List ℕ → List ℕ → ℕ → Reply
+stepReply s table number = answerReply (stepOf (sheetOf s) (tableIn table) number .answer) 0
 
 -- the picture of a table with a buffer of so many bytes: the number of clauses
-unfoldable pub pictureTold : List ℕ → List ℕ → ℕ → Told
-pictureTold s table size = answerTold (pictureOf (sheetOf s) (tableIn table) size .answer) (pictureOf (sheetOf s) (tableIn table) size .clauses)
+unfoldable pub pictureReply : List ℕ → List ℕ → ℕ → Reply
+pictureReply s table size = answerReply (pictureOf (sheetOf s) (tableIn table) size .answer) (pictureOf (sheetOf s) (tableIn table) size .clauses)
 
 -- the search for a plan of at most `limit` moves
-unfoldable pub searchTold : List ℕ → ℕ → Told
-searchTold s limit = kindTold (searchOf (sheetOf s) limit .kind) (searchOf (sheetOf s) limit .length)
+unfoldable pub searchReply : List ℕ → ℕ → Reply
+searchReply s limit = kindReply (searchOf (sheetOf s) limit .kind) (searchOf (sheetOf s) limit .length)
 
 -- ---- the run, with a third of as many rows as numbers are lent
-unfoldable pub runTold : List ℕ → List ℕ → Told
-runTold s rows = verdictTold (runOf (sheetOf s) (length rows / 3) .verdict)
+unfoldable pub runReply : List ℕ → List ℕ → Reply
+runReply s rows = verdictReply (runOf (sheetOf s) (length rows / 3) .verdict)
 
 -- the last table it had
-unfoldable pub lastTable : List ℕ → List ℕ → Table
-lastTable s rows = runOf (sheetOf s) (length rows / 3) .table
+unfoldable pub runTable : List ℕ → List ℕ → Table
+runTable s rows = runOf (sheetOf s) (length rows / 3) .table
 
 -- its rows
 unfoldable pub rowsWith : List ℕ → List ℕ → List Row

@@ -14,7 +14,7 @@ use Rattle.plan.specs.declared.Verdict.the-variants as verdict
 use Rattle.plan.specs.declared.Kind.{Kind}
 use Rattle.plan.specs.declared.Kind.the-variants as kind
 use Rattle.plan.specs.Cases.{verdictAnswer, verdictPlace, verdictNumber, kindAnswer, kindPlace}
-use Rattle.unit.specs.declared.Told.{Told}
+use Rattle.unit.specs.declared.Reply.{Reply}
 
 -- ---- answers
 -- a number that an accepted call has, 0 for a refused one
@@ -23,8 +23,8 @@ ifAccepted answer.Accepted n = n
 ifAccepted (answer.Refused number position) n = 0
 
 -- an answer by its number and position; `extra` is the second number of info if it is accepted
-abbrev pub answerTold : Answer → ℕ → Told
-answerTold a extra = record { answer = numberOf a; position = positionOf a; kind = ifAccepted a extra; place = 0; detail = 0 }
+abbrev pub answerReply : Answer → ℕ → Reply
+answerReply a extra = record { answer = numberOf a; position = positionOf a; kind = ifAccepted a extra; place = 0; detail = 0 }
 
 -- the kind of a verdict: reached 0, short 1, stopped 2, full 3; 0 for a refusal
 unfoldable pub verdictKind : Verdict → ℕ
@@ -35,8 +35,8 @@ verdictKind (verdict.Full place) = 3
 verdictKind (verdict.Refused number position) = 0
 
 -- a verdict: its kind, and its place and number
-abbrev pub verdictTold : Verdict → Told
-verdictTold v =
+abbrev pub verdictReply : Verdict → Reply
+verdictReply v =
     record {
       answer = numberOf (verdictAnswer v);
       position = positionOf (verdictAnswer v);
@@ -53,8 +53,8 @@ searchKind kind.Nothing = 2
 searchKind (kind.Refused number position) = 0
 
 -- the end of a search: its kind, its place, and the length of its plan
-abbrev pub kindTold : Kind → ℕ → Told
-kindTold k size =
+abbrev pub kindReply : Kind → ℕ → Reply
+kindReply k size =
     record {
       answer = numberOf (kindAnswer k);
       position = positionOf (kindAnswer k);
@@ -64,12 +64,12 @@ kindTold k size =
     }
 
 -- info after a call: its first four numbers, and the others as they were
-unfoldable pub infoOf : Told → List ℕ → List ℕ
+unfoldable pub infoOf : Reply → List ℕ → List ℕ
 infoOf t info = t .position ∷ t .kind ∷ t .place ∷ t .detail ∷ drop 4 info
 
 -- a slice of fewer than n numbers, or an info of fewer than 4
-unfoldable pub lacks : ℕ → List ℕ → List ℕ → Bool
-lacks n xs info = ltb (length xs) n || ltb (length info) 4
+unfoldable pub tooShort : ℕ → List ℕ → List ℕ → Bool
+tooShort n xs info = ltb (length xs) n || ltb (length info) 4
 
 -- ---- tables
 -- the table in the first 257 numbers: the count, the masks of true propositions, those of false ones

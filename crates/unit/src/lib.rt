@@ -8,13 +8,13 @@ ghost use Rattle.sheet.specs.Format.{sheetOf};
 ghost use Rattle.table.specs.Calls.{startOf, stepOf};
 ghost use Rattle.table.specs.PictureCalls.{bufferOf};
 ghost use Rattle.plan.specs.Calls.{searchOf};
-ghost use Rattle.unit.specs.Numbers.{lacks, infoOf, tableIn, tableOut};
+ghost use Rattle.unit.specs.Numbers.{tooShort, infoOf, tableIn, tableOut};
 ghost use Rattle.unit.specs.Calls as U;
 
 mod numbers;
 
 // What a call answers in numbers: the answer byte, and the four numbers of info.
-pub struct Told {
+pub struct Reply {
     pub answer: u8,
     pub position: u64,
     pub kind: u64,
@@ -25,23 +25,23 @@ pub struct Told {
 // Judges a sheet.
 #[no_mangle]
 pub extern "C" fn krepuskilo_judge(sheet: &[u8], info: &mut [u64]) -> u8
-    ensures { λ r. ⌜ r ≡ cond (ltb (length (now (info .entry))) 4) 255 (U.judgeTold (now (sheet .entry)) .answer) ⌝ }
-    ensures { λ r. ⌜ now (info .exit) ≡ cond (ltb (length (now (info .entry))) 4) (now (info .entry)) (infoOf (U.judgeTold (now (sheet .entry))) (now (info .entry))) ⌝ }
+    ensures { λ r. ⌜ r ≡ cond (ltb (length (now (info .entry))) 4) 255 (U.judgeReply (now (sheet .entry)) .answer) ⌝ }
+    ensures { λ r. ⌜ now (info .exit) ≡ cond (ltb (length (now (info .entry))) 4) (now (info .entry)) (infoOf (U.judgeReply (now (sheet .entry))) (now (info .entry))) ⌝ }
 {
     if info.len() < 4 {
         return 255;
     }
-    let told = numbers::told(sheet::judge(sheet), 0);
-    numbers::write_info(info, told);
-    told.answer
+    let reply = numbers::answer_reply(sheet::judge(sheet), 0);
+    numbers::write_info(info, reply);
+    reply.answer
 }
 
 // The first table of a sheet.
 #[no_mangle]
 pub extern "C" fn krepuskilo_start(sheet: &[u8], table: &mut [u32], info: &mut [u64]) -> u8
-    ensures { λ r. ⌜ r ≡ cond (lacks 257 (now (table .entry)) (now (info .entry))) 255 (U.startTold (now (sheet .entry)) .answer) ⌝ }
-    ensures { λ r. ⌜ now (table .exit) ≡ cond (lacks 257 (now (table .entry)) (now (info .entry))) (now (table .entry)) (tableOut (startOf (sheetOf (now (sheet .entry))) .table) (now (table .entry))) ⌝ }
-    ensures { λ r. ⌜ now (info .exit) ≡ cond (lacks 257 (now (table .entry)) (now (info .entry))) (now (info .entry)) (infoOf (U.startTold (now (sheet .entry))) (now (info .entry))) ⌝ }
+    ensures { λ r. ⌜ r ≡ cond (tooShort 257 (now (table .entry)) (now (info .entry))) 255 (U.startReply (now (sheet .entry)) .answer) ⌝ }
+    ensures { λ r. ⌜ now (table .exit) ≡ cond (tooShort 257 (now (table .entry)) (now (info .entry))) (now (table .entry)) (tableOut (startOf (sheetOf (now (sheet .entry))) .table) (now (table .entry))) ⌝ }
+    ensures { λ r. ⌜ now (info .exit) ≡ cond (tooShort 257 (now (table .entry)) (now (info .entry))) (now (info .entry)) (infoOf (U.startReply (now (sheet .entry))) (now (info .entry))) ⌝ }
 {
     if table.len() < 257 {
         return 255;
@@ -52,10 +52,10 @@ pub extern "C" fn krepuskilo_start(sheet: &[u8], table: &mut [u32], info: &mut [
     let started = table::start(sheet);
     let answer = started.answer;
     let first = started.table;
-    let told = numbers::told(answer, 0);
+    let reply = numbers::answer_reply(answer, 0);
     numbers::write_table(table, first);
-    numbers::write_info(info, told);
-    told.answer
+    numbers::write_info(info, reply);
+    reply.answer
 }
 
 // The picture of a table, written into the buffer.
@@ -66,9 +66,9 @@ pub extern "C" fn krepuskilo_picture(
     buffer: &mut [u8],
     info: &mut [u64],
 ) -> u8
-    ensures { λ r. ⌜ r ≡ cond (lacks 257 (now (table .entry)) (now (info .entry))) 255 (U.pictureTold (now (sheet .entry)) (now (table .entry)) (length (now (buffer .entry))) .answer) ⌝ }
-    ensures { λ r. ⌜ now (buffer .exit) ≡ cond (lacks 257 (now (table .entry)) (now (info .entry))) (now (buffer .entry)) (bufferOf (sheetOf (now (sheet .entry))) (tableIn (now (table .entry))) (now (buffer .entry))) ⌝ }
-    ensures { λ r. ⌜ now (info .exit) ≡ cond (lacks 257 (now (table .entry)) (now (info .entry))) (now (info .entry)) (infoOf (U.pictureTold (now (sheet .entry)) (now (table .entry)) (length (now (buffer .entry)))) (now (info .entry))) ⌝ }
+    ensures { λ r. ⌜ r ≡ cond (tooShort 257 (now (table .entry)) (now (info .entry))) 255 (U.pictureReply (now (sheet .entry)) (now (table .entry)) (length (now (buffer .entry))) .answer) ⌝ }
+    ensures { λ r. ⌜ now (buffer .exit) ≡ cond (tooShort 257 (now (table .entry)) (now (info .entry))) (now (buffer .entry)) (bufferOf (sheetOf (now (sheet .entry))) (tableIn (now (table .entry))) (now (buffer .entry))) ⌝ }
+    ensures { λ r. ⌜ now (info .exit) ≡ cond (tooShort 257 (now (table .entry)) (now (info .entry))) (now (info .entry)) (infoOf (U.pictureReply (now (sheet .entry)) (now (table .entry)) (length (now (buffer .entry)))) (now (info .entry))) ⌝ }
 {
     if table.len() < 257 {
         return 255;
@@ -79,9 +79,9 @@ pub extern "C" fn krepuskilo_picture(
     let given = numbers::table_in(table);
     let pictured = table::picture(sheet, given, buffer);
     let answer = pictured.answer;
-    let told = numbers::told(answer, pictured.clauses as u64);
-    numbers::write_info(info, told);
-    told.answer
+    let reply = numbers::answer_reply(answer, pictured.clauses as u64);
+    numbers::write_info(info, reply);
+    reply.answer
 }
 
 // The step of a table by the move of a number on the sheet.
@@ -92,9 +92,9 @@ pub extern "C" fn krepuskilo_step(
     number: u64,
     info: &mut [u64],
 ) -> u8
-    ensures { λ r. ⌜ r ≡ cond (lacks 257 (now (table .entry)) (now (info .entry))) 255 (U.stepTold (now (sheet .entry)) (now (table .entry)) number .answer) ⌝ }
-    ensures { λ r. ⌜ now (table .exit) ≡ cond (lacks 257 (now (table .entry)) (now (info .entry))) (now (table .entry)) (tableOut (stepOf (sheetOf (now (sheet .entry))) (tableIn (now (table .entry))) number .table) (now (table .entry))) ⌝ }
-    ensures { λ r. ⌜ now (info .exit) ≡ cond (lacks 257 (now (table .entry)) (now (info .entry))) (now (info .entry)) (infoOf (U.stepTold (now (sheet .entry)) (now (table .entry)) number) (now (info .entry))) ⌝ }
+    ensures { λ r. ⌜ r ≡ cond (tooShort 257 (now (table .entry)) (now (info .entry))) 255 (U.stepReply (now (sheet .entry)) (now (table .entry)) number .answer) ⌝ }
+    ensures { λ r. ⌜ now (table .exit) ≡ cond (tooShort 257 (now (table .entry)) (now (info .entry))) (now (table .entry)) (tableOut (stepOf (sheetOf (now (sheet .entry))) (tableIn (now (table .entry))) number .table) (now (table .entry))) ⌝ }
+    ensures { λ r. ⌜ now (info .exit) ≡ cond (tooShort 257 (now (table .entry)) (now (info .entry))) (now (info .entry)) (infoOf (U.stepReply (now (sheet .entry)) (now (table .entry)) number) (now (info .entry))) ⌝ }
 {
     if table.len() < 257 {
         return 255;
@@ -106,10 +106,10 @@ pub extern "C" fn krepuskilo_step(
     let mut falses = [0u32; 128];
     let stepped = numbers::step_numbers(sheet, table, number as usize, &mut trues, &mut falses);
     let answer = stepped.answer;
-    let told = numbers::told(answer, 0);
+    let reply = numbers::answer_reply(answer, 0);
     numbers::write_step(table, stepped, &trues, &falses);
-    numbers::write_info(info, told);
-    told.answer
+    numbers::write_info(info, reply);
+    reply.answer
 }
 
 // The first plan of at most `limit` moves that is reached or full.
@@ -120,9 +120,9 @@ pub extern "C" fn krepuskilo_search(
     plan: &mut [u8],
     info: &mut [u64],
 ) -> u8
-    ensures { λ r. ⌜ r ≡ cond (lacks 8 (now (plan .entry)) (now (info .entry))) 255 (U.searchTold (now (sheet .entry)) limit .answer) ⌝ }
-    ensures { λ r. ⌜ now (plan .exit) ≡ cond (lacks 8 (now (plan .entry)) (now (info .entry))) (now (plan .entry)) (searchOf (sheetOf (now (sheet .entry))) limit .plan ++ drop 8 (now (plan .entry))) ⌝ }
-    ensures { λ r. ⌜ now (info .exit) ≡ cond (lacks 8 (now (plan .entry)) (now (info .entry))) (now (info .entry)) (infoOf (U.searchTold (now (sheet .entry)) limit) (now (info .entry))) ⌝ }
+    ensures { λ r. ⌜ r ≡ cond (tooShort 8 (now (plan .entry)) (now (info .entry))) 255 (U.searchReply (now (sheet .entry)) limit .answer) ⌝ }
+    ensures { λ r. ⌜ now (plan .exit) ≡ cond (tooShort 8 (now (plan .entry)) (now (info .entry))) (now (plan .entry)) (searchOf (sheetOf (now (sheet .entry))) limit .plan ++ drop 8 (now (plan .entry))) ⌝ }
+    ensures { λ r. ⌜ now (info .exit) ≡ cond (tooShort 8 (now (plan .entry)) (now (info .entry))) (now (info .entry)) (infoOf (U.searchReply (now (sheet .entry)) limit) (now (info .entry))) ⌝ }
 {
     if plan.len() < 8 {
         return 255;
@@ -144,10 +144,10 @@ pub extern "C" fn krepuskilo_search_with(
     plan: &mut [u8],
     info: &mut [u64],
 ) -> u8
-    ensures { λ r. ⌜ r ≡ cond (lacks 8 (now (plan .entry)) (now (info .entry))) 255 (U.searchTold (now (sheet .entry)) limit .answer) ⌝ }
-    ensures { λ r. ⌜ now (plan .exit) ≡ cond (lacks 8 (now (plan .entry)) (now (info .entry))) (now (plan .entry)) (searchOf (sheetOf (now (sheet .entry))) limit .plan ++ drop 8 (now (plan .entry))) ⌝ }
-    ensures { λ r. ⌜ now (info .exit) ≡ cond (lacks 8 (now (plan .entry)) (now (info .entry))) (now (info .entry)) (infoOf (U.searchTold (now (sheet .entry)) limit) (now (info .entry))) ⌝ }
-    ensures { λ r. ⌜ (lacks 8 (now (plan .entry)) (now (info .entry)) ≡ true → now (memory .exit) ≡ now (memory .entry)) ⌝ }
+    ensures { λ r. ⌜ r ≡ cond (tooShort 8 (now (plan .entry)) (now (info .entry))) 255 (U.searchReply (now (sheet .entry)) limit .answer) ⌝ }
+    ensures { λ r. ⌜ now (plan .exit) ≡ cond (tooShort 8 (now (plan .entry)) (now (info .entry))) (now (plan .entry)) (searchOf (sheetOf (now (sheet .entry))) limit .plan ++ drop 8 (now (plan .entry))) ⌝ }
+    ensures { λ r. ⌜ now (info .exit) ≡ cond (tooShort 8 (now (plan .entry)) (now (info .entry))) (now (info .entry)) (infoOf (U.searchReply (now (sheet .entry)) limit) (now (info .entry))) ⌝ }
+    ensures { λ r. ⌜ (tooShort 8 (now (plan .entry)) (now (info .entry)) ≡ true → now (memory .exit) ≡ now (memory .entry)) ⌝ }
 {
     if plan.len() < 8 {
         return 255;
@@ -167,10 +167,10 @@ pub extern "C" fn krepuskilo_run(
     table: &mut [u32],
     info: &mut [u64],
 ) -> u8
-    ensures { λ r. ⌜ r ≡ cond (lacks 257 (now (table .entry)) (now (info .entry))) 255 (U.runTold (now (sheet .entry)) (now (rows .entry)) .answer) ⌝ }
-    ensures { λ r. ⌜ now (rows .exit) ≡ cond (lacks 257 (now (table .entry)) (now (info .entry))) (now (rows .entry)) (U.rowsOut (now (sheet .entry)) (now (rows .entry))) ⌝ }
-    ensures { λ r. ⌜ now (table .exit) ≡ cond (lacks 257 (now (table .entry)) (now (info .entry))) (now (table .entry)) (tableOut (U.lastTable (now (sheet .entry)) (now (rows .entry))) (now (table .entry))) ⌝ }
-    ensures { λ r. ⌜ now (info .exit) ≡ cond (lacks 257 (now (table .entry)) (now (info .entry))) (now (info .entry)) (infoOf (U.runTold (now (sheet .entry)) (now (rows .entry))) (now (info .entry))) ⌝ }
+    ensures { λ r. ⌜ r ≡ cond (tooShort 257 (now (table .entry)) (now (info .entry))) 255 (U.runReply (now (sheet .entry)) (now (rows .entry)) .answer) ⌝ }
+    ensures { λ r. ⌜ now (rows .exit) ≡ cond (tooShort 257 (now (table .entry)) (now (info .entry))) (now (rows .entry)) (U.rowsOut (now (sheet .entry)) (now (rows .entry))) ⌝ }
+    ensures { λ r. ⌜ now (table .exit) ≡ cond (tooShort 257 (now (table .entry)) (now (info .entry))) (now (table .entry)) (tableOut (U.runTable (now (sheet .entry)) (now (rows .entry))) (now (table .entry))) ⌝ }
+    ensures { λ r. ⌜ now (info .exit) ≡ cond (tooShort 257 (now (table .entry)) (now (info .entry))) (now (info .entry)) (infoOf (U.runReply (now (sheet .entry)) (now (rows .entry))) (now (info .entry))) ⌝ }
 {
     if table.len() < 257 {
         return 255;
@@ -191,9 +191,9 @@ pub extern "C" fn krepuskilo_run(
         &mut clauses,
     );
     let verdict = went.verdict;
-    let told = numbers::told_verdict(verdict);
-    numbers::write_rows(rows, went.rows, &entries, &clauses);
+    let reply = numbers::verdict_reply(verdict);
+    numbers::write_row_numbers(rows, went.rows, &entries, &clauses);
     numbers::write_entries(table, went.size, &trues, &falses);
-    numbers::write_info(info, told);
-    told.answer
+    numbers::write_info(info, reply);
+    reply.answer
 }

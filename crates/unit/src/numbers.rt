@@ -1,10 +1,10 @@
 // Values laid out as numbers: answers, tables, rows and plans.
-use crate::Told;
+use crate::Reply;
 use plan::Kind;
-use plan::Searched;
+use plan::SearchAnswer;
 use plan::Verdict;
 use sheet::Answer;
-use sheet::rows::wide;
+use sheet::packed::wide;
 use table::Counted;
 use table::Table;
 use table::slots::copy_masks;
@@ -20,21 +20,21 @@ ghost use Rattle.table.specs.Calls.{stepOf};
 ghost use Rattle.table.specs.Moves.{lent, kept, counted};
 ghost use Rattle.plan.specs.Course.{countsIn};
 ghost use Rattle.plan.specs.Rows.{rowsIn};
-ghost use Rattle.unit.specs.Numbers.{answerTold, verdictTold, kindTold, infoOf, tableIn, tableOut, rowNumbers};
+ghost use Rattle.unit.specs.Numbers.{answerReply, verdictReply, kindReply, infoOf, tableIn, tableOut, rowNumbers};
 
 // An answer in numbers; `extra` is the second number of info if it is accepted.
-pub(crate) fn told(answer: Answer, extra: u64) -> Told
-    ensures { λ r. ⌜ r ≡ answerTold answer extra ⌝ }
+pub(crate) fn answer_reply(answer: Answer, extra: u64) -> Reply
+    ensures { λ r. ⌜ r ≡ answerReply answer extra ⌝ }
 {
     match answer {
-        Answer::Accepted => Told {
+        Answer::Accepted => Reply {
             answer: 0,
             position: 0,
             kind: extra,
             place: 0,
             detail: 0,
         },
-        Answer::Refused(number, position) => Told {
+        Answer::Refused(number, position) => Reply {
             answer: number,
             position: position as u64,
             kind: 0,
@@ -45,10 +45,10 @@ pub(crate) fn told(answer: Answer, extra: u64) -> Told
 }
 
 // A verdict in numbers.
-pub(crate) fn told_verdict(verdict: Verdict) -> Told
-    ensures { λ r. ⌜ r ≡ verdictTold verdict ⌝ }
+pub(crate) fn verdict_reply(verdict: Verdict) -> Reply
+    ensures { λ r. ⌜ r ≡ verdictReply verdict ⌝ }
 {
-    let mut told = Told {
+    let mut reply = Reply {
         answer: 0,
         position: 0,
         kind: 0,
@@ -58,30 +58,30 @@ pub(crate) fn told_verdict(verdict: Verdict) -> Told
     match verdict {
         Verdict::Reached => {}
         Verdict::Short => {
-            told.kind = 1;
+            reply.kind = 1;
         }
         Verdict::Stopped(place, number) => {
-            told.kind = 2;
-            told.place = place as u64;
-            told.detail = number as u64;
+            reply.kind = 2;
+            reply.place = place as u64;
+            reply.detail = number as u64;
         }
         Verdict::Full(place) => {
-            told.kind = 3;
-            told.place = place as u64;
+            reply.kind = 3;
+            reply.place = place as u64;
         }
         Verdict::Refused(number, position) => {
-            told.answer = number;
-            told.position = position as u64;
+            reply.answer = number;
+            reply.position = position as u64;
         }
     }
-    told
+    reply
 }
 
 // The end of a search in numbers, with the size of its plan.
-pub(crate) fn told_kind(kind: Kind, size: u64) -> Told
-    ensures { λ r. ⌜ r ≡ kindTold kind size ⌝ }
+pub(crate) fn kind_reply(kind: Kind, size: u64) -> Reply
+    ensures { λ r. ⌜ r ≡ kindReply kind size ⌝ }
 {
-    let mut told = Told {
+    let mut reply = Reply {
         answer: 0,
         position: 0,
         kind: 0,
@@ -91,30 +91,30 @@ pub(crate) fn told_kind(kind: Kind, size: u64) -> Told
     match kind {
         Kind::Reached => {}
         Kind::Full(place) => {
-            told.kind = 1;
-            told.place = place as u64;
+            reply.kind = 1;
+            reply.place = place as u64;
         }
         Kind::Nothing => {
-            told.kind = 2;
+            reply.kind = 2;
         }
         Kind::Refused(number, position) => {
-            told.answer = number;
-            told.position = position as u64;
-            told.detail = 0;
+            reply.answer = number;
+            reply.position = position as u64;
+            reply.detail = 0;
         }
     }
-    told
+    reply
 }
 
 // The four numbers of info. The others are kept.
-pub(crate) fn write_info(info: &mut [u64], told: Told)
+pub(crate) fn write_info(info: &mut [u64], reply: Reply)
     requires { ⌜ 4 ≤ length (now info) ⌝ }
-    ensures { λ r. ⌜ now (info .exit) ≡ infoOf told (now (info .entry)) ⌝ }
+    ensures { λ r. ⌜ now (info .exit) ≡ infoOf reply (now (info .entry)) ⌝ }
 {
-    info[0] = told.position;
-    info[1] = told.kind;
-    info[2] = told.place;
-    info[3] = told.detail;
+    info[0] = reply.position;
+    info[1] = reply.kind;
+    info[2] = reply.place;
+    info[3] = reply.detail;
 }
 
 // Bytes copied to the front of others. The others are kept.
@@ -133,18 +133,18 @@ pub(crate) fn copy_bytes<'a, 'b>(to: &'a mut [u8], from: &'b [u8])
 pub(crate) fn write_search<'a, 'b>(
     plan: &'a mut [u8],
     info: &'b mut [u64],
-    searched: Searched,
+    searched: SearchAnswer,
 ) -> u8
     requires { ⌜ (8 ≤ length (now plan)) × (4 ≤ length (now info)) ⌝ }
-    ensures { λ r. ⌜ r ≡ kindTold (searched .kind) (searched .length) .answer ⌝ }
+    ensures { λ r. ⌜ r ≡ kindReply (searched .kind) (searched .length) .answer ⌝ }
     ensures { λ r. ⌜ now (plan .exit) ≡ searched .plan ++ drop 8 (now (plan .entry)) ⌝ }
-    ensures { λ r. ⌜ now (info .exit) ≡ infoOf (kindTold (searched .kind) (searched .length)) (now (info .entry)) ⌝ }
+    ensures { λ r. ⌜ now (info .exit) ≡ infoOf (kindReply (searched .kind) (searched .length)) (now (info .entry)) ⌝ }
 {
     let kind = searched.kind;
-    let told = told_kind(kind, searched.length as u64);
+    let reply = kind_reply(kind, searched.length as u64);
     copy_bytes(plan, &searched.plan);
-    write_info(info, told);
-    told.answer
+    write_info(info, reply);
+    reply.answer
 }
 
 // The table in 257 numbers: the count, the masks of true propositions, those of false ones.
@@ -231,7 +231,7 @@ pub(crate) fn write_step<'a, 'b>(
 }
 
 // The rows of the first n places, three numbers each: the place, its entries and its clauses. The others are kept.
-pub(crate) fn write_rows<'a, 'b>(
+pub(crate) fn write_row_numbers<'a, 'b>(
     rows: &'a mut [u64],
     n: usize,
     entries: &'b [usize; 65],

@@ -49,8 +49,8 @@ use Rattle.plan.specs.Rows.{rowsIn}
 use Rattle.plan.proofs.Row as T
 use Rattle.plan.proofs.Counts as N
 use Rattle.plan.proofs.Counts.Laws as N′
-use Rattle.plan.proofs.Ran as S
-use Rattle.plan.proofs.Ran.Laws as S′
+use Rattle.plan.proofs.RunAnswer as S
+use Rattle.plan.proofs.RunAnswer.Laws as S′
 use Rattle.plan.proofs.Course as O
 use Rattle.plan.proofs.Course.Laws as O′
 use Rattle.plan.proofs.Entering.{Places, envOf, rooms, enters}

@@ -42,13 +42,13 @@ use denote.Triple.Walked.{Stays, stay-none-slice, walkOf, goes-none-slice, Walks
 use denote.Exit.{yes}
 use Rattle.sheet.specs.Format.{sheetOf}
 use Rattle.plan.specs.declared.Row.{Row}
-use Rattle.plan.specs.declared.Ran.{Ran}
+use Rattle.plan.specs.declared.RunAnswer.{RunAnswer}
 use Rattle.plan.specs.Calls.{runOf, rowsAfter}
 use Rattle.plan.specs.Rows.{noRow}
 use Rattle.plan.proofs.Row as T
 use Rattle.plan.proofs.Row.Laws as T′
-use Rattle.plan.proofs.Ran as S
-use Rattle.plan.proofs.Ran.Laws as S′
+use Rattle.plan.proofs.RunAnswer as S
+use Rattle.plan.proofs.RunAnswer.Laws as S′
 use Rattle.plan.proofs.RanRows as D
 use Rattle.plan.proofs.RanRows.Laws as D′
 use Rattle.plan.proofs.Entering.{Places, envOf, rooms, enters}
@@ -100,7 +100,7 @@ fields-are [] (u ∷ us) h = absurd h
 fields-are (z ∷ zs) [] h = absurd h
 fields-are (z ∷ zs) (u ∷ us) h = (h .0, fields-are zs us (h .1))
 
-ran-is : (r : Ran) (zs : List Row) (w : Val) (us : List Val) → Is S.the-row r (w ∷ []) → length zs ≡ 65 → shadow (each Row (T.the-row .own) zs us)
+ran-is : (r : RunAnswer) (zs : List Row) (w : Val) (us : List Val) → Is S.the-row r (w ∷ []) → length zs ≡ 65 → shadow (each Row (T.the-row .own) zs us)
     → Is D.the-row (record { ran = r; rows = zs }) (vstruct (vcons w (vcons (arrayVal us) vnil)) ∷ [])
 ran-is r zs w us is l h = ((w ∷ [], (arrayVal us ∷ [], tt)), (refl, (is, ((us, ((refl, length-map zs (T.the-field .into) ∙ l), fields-are zs us h)), tt))))
 
@@ -120,14 +120,14 @@ module _ {M : Type 1} (𝓤 : URA M) (H : Heap 𝓤) (A : Atoms 𝓤) (W : Given
   Shared = ShrSlice (named 0) κ u8 .own bytes (sb ∷ [])
 
   -- the answer of the run
-  abbrev out : Ran
+  abbrev out : RunAnswer
   out = runOf (sheetOf (bytes .now)) 65
 
   -- the rows at the end
   abbrev last : List Row
   last = rowsAfter (sheetOf (bytes .now)) ys
 
-  exits : (r : Ran) (zs : List Row) (w : Val) (us : List Val) → Is D.the-row (record { ran = r; rows = zs }) (vstruct (vcons w (vcons (arrayVal us) vnil)) ∷ []) → r ≡ out → zs ≡ last
+  exits : (r : RunAnswer) (zs : List Row) (w : Val) (us : List Val) → Is D.the-row (record { ran = r; rows = zs }) (vstruct (vcons w (vcons (arrayVal us) vnil)) ∷ []) → r ≡ out → zs ≡ last
       → ent 𝓤 (⋆ 𝓤 H A (raw (A .lft κ q) ∷ ‵ Shared ∷ [])) (Post (vstruct (vcons w (vcons (arrayVal us) vnil))))
   exits r zs w us is e₁ e₂ =
       qed W (raw (A .lft κ q) ∷ ‵ Shared ∷ []) ∵
@@ -151,7 +151,7 @@ module _ {M : Type 1} (𝓤 : URA M) (H : Heap 𝓤) (A : Atoms 𝓤) (W : Given
 
     -- what the result is, and the last list
     abbrev Ended : Val → List Row → Type 0
-    Ended w zs = (r : Ran) × (Is S.the-row r (w ∷ []) × ((r ≡ out) × (zs ≡ last)))
+    Ended w zs = (r : RunAnswer) × (Is S.the-row r (w ∷ []) × ((r ≡ out) × (zs ≡ last)))
 
     -- what is passed beside the slice
     abbrev Beside : Item 𝓤
@@ -173,7 +173,7 @@ module _ {M : Type 1} (𝓤 : URA M) (H : Heap 𝓤) (A : Atoms 𝓤) (W : Given
     gets-run : (ν : ℕ) (δ : GName) (w : Val) → ent 𝓤 (Run 𝓤 H A mem run .post (to-run ν δ) w) (mean 𝓤 H A (Told ν δ w))
     gets-run ν δ w =
         qed W (raw (Run 𝓤 H A mem run .post (to-run ν δ) w) ∷ []) ∵ updating ! $
-        use1 W (later (some (λ (r : Ran). ((‵ (flft κ q) ⊛ (‵ (flft (ν ∷ []) fullShare) ⊛ ‵ ftrue)) ⊛ ‵ (S.the-row .own r (w ∷ [])))
+        use1 W (later (some (λ (r : RunAnswer). ((‵ (flft κ q) ⊛ (‵ (flft (ν ∷ []) fullShare) ⊛ ‵ ftrue)) ⊛ ‵ (S.the-row .own r (w ∷ [])))
         ⊛ some (λ (ws : Lasts run-rows.ended (κ, (ν ∷ [], tt)) (args δ)). ‵ (lasts run-rows.ended (κ, (ν ∷ [], tt)) (args δ) ws) ⊛ (raw (fact 𝓤 (r ≡ out)) ⊛ raw (fact 𝓤 (ws .1 .0 ≡ last))))))) (id⊢ 𝓤 _) $ await ! tt $ pick ! (λ r.
         split ! $ move ! (1 ∷ []) $ pick ! (λ ws. split ! $ move ! (1 ∷ []) $ split ! $ heard ! (r ≡ out) (λ e₁. heard ! (ws .1 .0 ≡ last) (λ e₂.
         fsplit ! $ drop ! $ fsplit ! $ fsplit ! $ move ! (1 ∷ []) $ feqL ! (λ len.
@@ -202,7 +202,7 @@ module _ {M : Type 1} (𝓤 : URA M) (H : Heap 𝓤) (A : Atoms 𝓤) (W : Given
           ∷ i₃ ∷ ‵ (fdies (S′.mir) l₃) ∷ ‵ (fdies array l₂) ∷ ‵ (fat fullShare slice-bytes l₁ 0 sb) ∷ ‵ (fdies slice-bytes l₁) ∷ ‵ (froom (D′.mir) l₀ 0) ∷ ‵ (fdies (D′.mir) l₀) ∷ []
 
       -- once `run` has returned: the array is read whole, and goes into the result
-      ends : (r : Ran) (zs : List Row) (w : Val) → Is S.the-row r (w ∷ []) → length zs ≡ 65 → r ≡ out → zs ≡ last
+      ends : (r : RunAnswer) (zs : List Row) (w : Val) → Is S.the-row r (w ∷ []) → length zs ≡ 65 → r ≡ out → zs ≡ last
           → ent 𝓤 (⋆ 𝓤 H A (‵ (cells (in-memory T.the-row) zs l₂ 0) ∷ raw (A .lft κ q) ∷ ‵ Shared ∷ Cells (‵ (fat fullShare (S′.mir) l₃ 0 w)))) (Wp 𝓤 H C Λ En body.t-6 (atReturn 𝓤 H En Post))
       ends r zs w is l e₁ e₂ =
           qed W (‵ (cells (in-memory T.the-row) zs l₂ 0) ∷ raw (A .lft κ q) ∷ ‵ Shared ∷ Cells (‵ (fat fullShare (S′.mir) l₃ 0 w))) ∵ exec ! C Λ En body.t-6 (atRet En Post) $

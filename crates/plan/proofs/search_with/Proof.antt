@@ -15,17 +15,17 @@ decode-requires c κs = search needs
 enum-known-answer : tie.Need-enum-known-answer
 enum-known-answer c = search needs
 
-refused-requires : tie.Need-refused-requires
-refused-requires c κs = search needs
+refuse-search-requires : tie.Need-refuse-search-requires
+refuse-search-requires c κs = search needs
 
 enum-told : tie.Need-enum-told
 enum-told c = search needs
 
-refused-requires-2 : tie.Need-refused-requires-2
-refused-requires-2 c κs = search needs
+refuse-search-requires-2 : tie.Need-refuse-search-requires-2
+refuse-search-requires-2 c κs = search needs
 
 returns : tie.Need-returns
-returns c = c .refused2 .ensures ∙ search-most _ _ (accepted-says _ _ _ _ _ _ (c .before .before .before .before .decode .ensures .0) (c .before .before .enum-told .given .1)) _ (c .before .if1 .taken)
+returns c = c .refuse-search2 .ensures ∙ search-most _ _ (accepted-says _ _ _ _ _ _ (c .before .before .before .before .decode .ensures .0) (c .before .before .enum-told .given .1)) _ (c .before .if1 .taken)
 
 search-sheet-requires : tie.Need-search-sheet-requires
 search-sheet-requires c κs =
@@ -34,7 +34,7 @@ search-sheet-requires c κs =
     (h, omega (arith, c .before .before .before .before .before .before .before .before .before .before .if1 .left))
 
 returns-2 : tie.Need-returns-2
-returns-2 c = c .refused .ensures ∙ search-fault _ _ _ _ (refused-says _ _ _ _ _ _ (c .before .before .before .before .decode .ensures .0) _ _ (c .before .before .answer .given .1))
+returns-2 c = c .refuse-search .ensures ∙ search-fault _ _ _ _ (refused-says _ _ _ _ _ _ (c .before .before .before .before .decode .ensures .0) _ _ (c .before .before .answer .given .1))
 
 same-length : tie.Need-same-length
 same-length c = search needs
@@ -49,9 +49,9 @@ search-with-spec =
     (tie.spec
     decode-requires
     enum-known-answer
-    refused-requires
+    refuse-search-requires
     enum-told
-    refused-requires-2
+    refuse-search-requires-2
     returns
     search-sheet-requires
     returns-2

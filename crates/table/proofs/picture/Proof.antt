@@ -12,8 +12,8 @@ decode-requires c κs = search needs
 enum-known-answer : tie.Need-enum-known-answer
 enum-known-answer c = search needs
 
-refused-requires : tie.Need-refused-requires
-refused-requires c κs = search needs
+refuse-picture-requires : tie.Need-refuse-picture-requires
+refuse-picture-requires c κs = search needs
 
 enum-told : tie.Need-enum-told
 enum-told c = search needs
@@ -22,7 +22,7 @@ draw-requires : tie.Need-draw-requires
 draw-requires c κs = search needs
 
 returns : tie.Need-returns
-returns c = sheet-refused _ _ _ _ _ (refused-says _ _ _ _ _ _ (c .before .before .before .before .decode .ensures .0) _ _ (c .before .before .answer .given .1)) _ (c .refused .ensures)
+returns c = sheet-refused _ _ _ _ _ (refused-says _ _ _ _ _ _ (c .before .before .before .before .decode .ensures .0) _ _ (c .before .before .answer .given .1)) _ (c .refuse-picture .ensures)
 
 same-length : tie.Need-same-length
 same-length c = search needs
@@ -37,7 +37,7 @@ picture-spec =
     (tie.spec
     decode-requires
     enum-known-answer
-    refused-requires
+    refuse-picture-requires
     enum-told
     draw-requires
     returns

@@ -4,7 +4,7 @@ use native.Mathlib.Omega.{arith}
 use borrow.Author.Needs.{needs}
 use Rattle.sheet.specs.Decoded.{problemIn, statementIn}
 use Rattle.sheet.proofs.SlotLaws.{refused-says, accepted-says, accepted-proper, ors-few, oneofs-few}
-use Rattle.table.specs.Start.{clausesOf, startTable}
+use Rattle.table.specs.Start.{startClauses, startTable}
 use Rattle.table.specs.Calls.{startOf}
 use Rattle.table.proofs.Started.{start-fault}
 use Rattle.table.proofs.start.Statement.{statement}
@@ -16,8 +16,8 @@ decode-requires c κs = search needs
 enum-known-answer : tie.Need-enum-known-answer
 enum-known-answer c = search needs
 
-refuse-requires : tie.Need-refuse-requires
-refuse-requires c κs = search needs
+refuse-start-requires : tie.Need-refuse-start-requires
+refuse-start-requires c κs = search needs
 
 enum-told : tie.Need-enum-told
 enum-told c = search needs
@@ -30,10 +30,10 @@ first-table-requires c κs =
     ((omega (arith, f .0), f .1), (omega (arith, g .0), g .1))
 
 returns : tie.Need-returns
-returns c = start-fault _ _ _ (refused-says _ _ _ _ _ _ (c .before .before .before .before .decode .ensures .0) _ _ (c .before .before .answer .given .1)) _ (c .refuse .ensures)
+returns c = start-fault _ _ _ (refused-says _ _ _ _ _ _ (c .before .before .before .before .decode .ensures .0) _ _ (c .before .before .answer .given .1)) _ (c .refuse-start .ensures)
 
 returns-2 : tie.Need-returns-2
-unfolding startOf startTable clausesOf statementIn problemIn
+unfolding startOf startTable startClauses statementIn problemIn
 returns-2 c = c .first-table .ensures ∙ sym (ap startOf (accepted-says _ _ _ _ _ _ (c .before .before .before .before .before .before .before .before .decode .ensures .0) (c .before .before .before .before .before .before .enum-told .given .1)))
 
 pub start-spec : {M : Type 1} → statement M
@@ -42,7 +42,7 @@ start-spec =
     (tie.spec
     decode-requires
     enum-known-answer
-    refuse-requires
+    refuse-start-requires
     enum-told
     first-table-requires
     returns

@@ -12,8 +12,8 @@ returns c = let e = lt-ltb _ _ (c .if1 .taken) in (cond-true _ _ e, cond-true _ 
 judge-requires : tie.Need-judge-requires
 judge-requires c κs = search needs
 
-told-requires : tie.Need-told-requires
-told-requires c κs = search needs
+answer-reply-requires : tie.Need-answer-reply-requires
+answer-reply-requires c κs = search needs
 
 write-info-requires : tie.Need-write-info-requires
 write-info-requires c κs = search needs
@@ -25,10 +25,10 @@ returns-2 : tie.Need-returns-2
 returns-2 c =
     let t = c .before .before .before .before in
     let e = le-ltb _ _ (t .before .before .if1 .left) in
-    let same = judge-told _ _ _ (t .before .judge .ensures) (t .told .ensures) in
+    let same = judge-told _ _ _ (t .before .judge .ensures) (t .answer-reply .ensures) in
     (byte e _ _ same, numbers e _ _ same _ _ (c .before .before .write-info .ensures))
 
 pub krepuskilo-judge-spec : {M : Type 1} → statement M
 krepuskilo-judge-spec =
     tie.close
-    (tie.spec returns judge-requires told-requires write-info-requires same-length returns-2)
+    (tie.spec returns judge-requires answer-reply-requires write-info-requires same-length returns-2)

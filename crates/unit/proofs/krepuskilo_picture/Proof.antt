@@ -27,8 +27,8 @@ table-in-requires c κs = search needs
 picture-requires : tie.Need-picture-requires
 picture-requires c κs = search needs
 
-told-requires : tie.Need-told-requires
-told-requires c κs = search needs
+answer-reply-requires : tie.Need-answer-reply-requires
+answer-reply-requires c κs = search needs
 
 write-info-requires : tie.Need-write-info-requires
 write-info-requires c κs = search needs
@@ -46,7 +46,7 @@ returns-3 c =
     let a = g .before .before .before .before .before .before .args in
     let e = lacks-none 257 (a .table .now) (a .info .now) (g .before .if1 .left) (g .if2 .left) in
     let given = r .before .before .table-in .ensures in
-    let same = picture-told _ _ _ _ _ _ given (r .picture .ensures .0) (c .before .before .before .before .told .ensures) in
+    let same = picture-told _ _ _ _ _ _ given (r .picture .ensures .0) (c .before .before .before .before .answer-reply .ensures) in
     let drawn = r .picture .ensures .1 ∙ ap (λ (t : Table). bufferOf (sheetOf (a .sheet .now)) t (a .buffer .now)) given in
     (byte e _ _ same, (second _ _ _ e drawn, numbers e _ _ same _ _ (c .before .before .write-info .ensures)))
 
@@ -58,7 +58,7 @@ krepuskilo-picture-spec =
     returns-2
     table-in-requires
     picture-requires
-    told-requires
+    answer-reply-requires
     write-info-requires
     same-length
     same-length-2

@@ -22,11 +22,11 @@ returns-2 c =
 course-into-requires : tie.Need-course-into-requires
 course-into-requires c κs = search needs
 
-told-verdict-requires : tie.Need-told-verdict-requires
-told-verdict-requires c κs = search needs
+verdict-reply-requires : tie.Need-verdict-reply-requires
+verdict-reply-requires c κs = search needs
 
-write-rows-requires : tie.Need-write-rows-requires
-write-rows-requires c κs = rows-room _ (c .before .before .before .before .before .before .before .before .before .before .before .before .before .before .before .args .rows .now) _ (c .before .before .before .before .course-into .ensures)
+write-row-numbers-requires : tie.Need-write-row-numbers-requires
+write-row-numbers-requires c κs = rows-room _ (c .before .before .before .before .before .before .before .before .before .before .before .before .before .before .before .args .rows .now) _ (c .before .before .before .before .course-into .ensures)
 
 write-entries-requires : tie.Need-write-entries-requires
 write-entries-requires c κs = (c .before .before .before .before .before .before .before .before .before .before .before .before .before .before .before .before .if1 .left, run-fits _ _ _ (c .before .before .before .before .before .before .before .before .before .before .course-into .ensures))
@@ -48,10 +48,10 @@ returns-3 c =
     let a = c .before .before .before .before .before .before .before .before .before .before .before .before .before .before .before .before .before .before .before .before .before .before .before .before .before .before .before .before .args in
     let e = lacks-none 257 (a .table .now) (a .info .now) (c .before .before .before .before .before .before .before .before .before .before .before .before .before .before .before .before .before .before .before .before .before .before .before .if1 .left) (c .before .before .before .before .before .before .before .before .before .before .before .before .before .before .before .before .before .before .before .before .before .before .if2 .left) in
     let d = c .before .before .before .before .before .before .before .before .before .before .before .before .before .before .before .before .before .course-into in
-    let same = run-told _ (a .rows .now) _ _ (d .ensures) (c .before .before .before .before .before .before .before .before .before .before .before .before .before .before .before .before .told-verdict .ensures) in (
+    let same = run-told _ (a .rows .now) _ _ (d .ensures) (c .before .before .before .before .before .before .before .before .before .before .before .before .before .before .before .before .verdict-reply .ensures) in (
       byte e _ _ same,
       (
-        second _ _ _ e (rows-out _ _ _ (d .ensures) _ (c .before .before .before .before .before .before .before .before .before .before .before .before .write-rows .ensures)),
+        second _ _ _ e (rows-out _ _ _ (d .ensures) _ (c .before .before .before .before .before .before .before .before .before .before .before .before .write-row-numbers .ensures)),
         (
           tables e _ _ _ _ (run-table _ (a .rows .now) _ (d .ensures)) (c .before .before .before .before .before .before .write-entries .ensures),
           numbers e _ _ same _ _ (c .before .before .write-info .ensures),
@@ -66,8 +66,8 @@ krepuskilo-run-spec =
     returns
     returns-2
     course-into-requires
-    told-verdict-requires
-    write-rows-requires
+    verdict-reply-requires
+    write-row-numbers-requires
     write-entries-requires
     write-info-requires
     same-length

@@ -1,7 +1,7 @@
 -- `krepuskilo_start` meets its contract: the answer of `start` in numbers and its table, or 255. Assumes nothing.
 use mathlib.Core.Path.{ap}
 use borrow.Author.Needs.{needs}
-use Rattle.table.specs.declared.Tabled.{Tabled}
+use Rattle.table.specs.declared.TableAnswer.{TableAnswer}
 use Rattle.sheet.proofs.Bools.{cond-true}
 use Rattle.unit.proofs.Answering.{lacks-first, lacks-info, lacks-none, byte, tables, numbers, start-told}
 use Rattle.unit.proofs.Sizes.{start-fits}
@@ -23,8 +23,8 @@ returns-2 c =
 start-requires : tie.Need-start-requires
 start-requires c κs = search needs
 
-told-requires : tie.Need-told-requires
-told-requires c κs = search needs
+answer-reply-requires : tie.Need-answer-reply-requires
+answer-reply-requires c κs = search needs
 
 write-table-requires : tie.Need-write-table-requires
 write-table-requires c κs = (c .before .before .before .before .before .if1 .left, start-fits _ _ (c .before .before .before .start .ensures))
@@ -43,8 +43,8 @@ returns-3 c =
     let r = c .before .before .before .before .before .before .before .before .before .before in
     let a = r .before .before .before .before .before .before .args in
     let e = lacks-none 257 (a .table .now) (a .info .now) (r .before .before .if1 .left) (r .before .if2 .left) in
-    let same = start-told _ _ _ (r .start .ensures) (c .before .before .before .before .before .before .before .before .told .ensures) in
-    (byte e _ _ same, (tables e _ _ _ _ (ap (λ (x : Tabled). x .table) (r .start .ensures)) (c .before .before .before .before .before .before .write-table .ensures), numbers e _ _ same _ _ (c .before .before .write-info .ensures)))
+    let same = start-told _ _ _ (r .start .ensures) (c .before .before .before .before .before .before .before .before .answer-reply .ensures) in
+    (byte e _ _ same, (tables e _ _ _ _ (ap (λ (x : TableAnswer). x .table) (r .start .ensures)) (c .before .before .before .before .before .before .write-table .ensures), numbers e _ _ same _ _ (c .before .before .write-info .ensures)))
 
 pub krepuskilo-start-spec : {M : Type 1} → statement M
 krepuskilo-start-spec =
@@ -53,7 +53,7 @@ krepuskilo-start-spec =
     returns
     returns-2
     start-requires
-    told-requires
+    answer-reply-requires
     write-table-requires
     write-info-requires
     same-length

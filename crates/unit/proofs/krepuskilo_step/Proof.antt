@@ -1,7 +1,7 @@
 -- `krepuskilo_step` meets its contract: the answer of `step` in numbers and its table, or 255. Assumes nothing.
 use mathlib.Core.Path.{ap}
 use Rattle.sheet.proofs.Bools.{cond-true}
-use Rattle.table.specs.declared.Tabled.{Tabled}
+use Rattle.table.specs.declared.TableAnswer.{TableAnswer}
 use Rattle.unit.proofs.Answering.{lacks-first, lacks-info, lacks-none, byte, tables, numbers, step-told}
 use Rattle.unit.proofs.Sizes.{step-fits}
 use borrow.Author.Needs.{needs}
@@ -29,8 +29,8 @@ slice-aggregate-step-numbers-2 c = search needs
 step-numbers-requires : tie.Need-step-numbers-requires
 step-numbers-requires c κs = search needs
 
-told-requires : tie.Need-told-requires
-told-requires c κs = search needs
+answer-reply-requires : tie.Need-answer-reply-requires
+answer-reply-requires c κs = search needs
 
 write-step-requires : tie.Need-write-step-requires
 write-step-requires c κs =
@@ -51,8 +51,8 @@ returns-3 c =
     let a = c .before .before .before .before .before .before .before .before .before .before .before .before .before .before .before .before .before .before .before .before .before .before .args in
     let e = lacks-none 257 (a .table .now) (a .info .now) (c .before .before .before .before .before .before .before .before .before .before .before .before .before .before .before .before .before .before .if1 .left) (c .before .before .before .before .before .before .before .before .before .before .before .before .before .before .before .before .before .if2 .left) in
     let d = c .before .before .before .before .before .before .before .before .before .before .before .before .before .step-numbers in
-    let same = step-told (a .sheet .now) (a .table .now) (a .number) _ _ (d .ensures) (c .before .before .before .before .before .before .before .before .before .before .told .ensures) in
-    let next = ap (λ (x : Tabled). x .table) (d .ensures) in
+    let same = step-told (a .sheet .now) (a .table .now) (a .number) _ _ (d .ensures) (c .before .before .before .before .before .before .before .before .before .before .answer-reply .ensures) in
+    let next = ap (λ (x : TableAnswer). x .table) (d .ensures) in
     (byte e _ _ same, (tables e _ _ _ _ next (c .before .before .before .before .before .before .write-step .ensures), numbers e _ _ same _ _ (c .before .before .write-info .ensures)))
 
 pub krepuskilo-step-spec : {M : Type 1} → statement M
@@ -64,7 +64,7 @@ krepuskilo-step-spec =
     slice-aggregate-step-numbers
     slice-aggregate-step-numbers-2
     step-numbers-requires
-    told-requires
+    answer-reply-requires
     write-step-requires
     write-info-requires
     same-length

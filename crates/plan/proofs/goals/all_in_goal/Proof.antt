@@ -6,7 +6,7 @@ use borrow.Author.Needs.{needs}
 use borrow.Author.Tests.{not-true, not-false}
 use lib.ListN.{drop}
 use Rattle.sheet.specs.Lists.{allOf}
-use Rattle.sheet.specs.Rows.{setsRow}
+use Rattle.sheet.specs.Packed.{setsIn}
 use Rattle.table.specs.Slots.{entriesOf}
 use Rattle.table.proofs.Turns.{all-stop, all-on, entries-next, entries-done}
 use Rattle.plan.specs.Run.{inGoal}
@@ -15,7 +15,7 @@ use Rattle.plan.proofs.goals.all_in_goal.Tie as tie
 
 abbrev Inv-loop : tie.InvT-loop
 Inv-loop goal trues falses count i₀ i =
-    (i ≤ count) × (allOf (inGoal (setsRow goal)) (entriesOf count trues falses) ≡ allOf (inGoal (setsRow goal)) (drop i (entriesOf count trues falses)))
+    (i ≤ count) × (allOf (inGoal (setsIn goal)) (entriesOf count trues falses) ≡ allOf (inGoal (setsIn goal)) (drop i (entriesOf count trues falses)))
 
 abbrev μ-loop : tie.MeasureT-loop
 μ-loop goal trues falses count i₀ i = count - i
@@ -32,7 +32,7 @@ in-goal-requires c κs = search needs
 returns : tie.Need-returns Inv-loop μ-loop
 returns c =
     let a = c .before .before .before .before .before .before .before .before .args in
-    all-stop (inGoal (setsRow (a .goal .now))) _ _ _ _
+    all-stop (inGoal (setsIn (a .goal .now))) _ _ _ _
     (entries-next (a .count) (a .trues .now) (a .falses .now) (c .before .before .before .before .loop .i) (c .before .before .entry-at .result) (c .before .before .before .loop-test .taken) (c .before .before .entry-at .ensures))
     (c .before .in-goal .ensures) (not-true (c .before .in-goal .result) (c .if1 .taken))
     ∙ sym (c .before .before .before .before .loop .inv .1)
@@ -48,7 +48,7 @@ loop-again c =
     let a = c .before .before .before .before .before .before .before .before .args in (
       omega arith,
       c .before .before .before .before .loop .inv .1
-          ∙ all-on (inGoal (setsRow (a .goal .now))) _ _ _ _
+          ∙ all-on (inGoal (setsIn (a .goal .now))) _ _ _ _
           (entries-next (a .count) (a .trues .now) (a .falses .now) (c .before .before .before .before .loop .i) (c .before .before .entry-at .result) (c .before .before .before .loop-test .taken) (c .before .before .entry-at .ensures))
           (c .before .in-goal .ensures) (not-false (c .before .in-goal .result) (c .if1 .left)),
     )
@@ -56,7 +56,7 @@ loop-again c =
 returns-2 : tie.Need-returns-2 Inv-loop μ-loop
 returns-2 c =
     let a = c .before .before .before .before .before .args in
-    sym (c .before .loop .inv .1 ∙ ap (allOf (inGoal (setsRow (a .goal .now)))) (entries-done (a .count) (a .trues .now) (a .falses .now) (c .before .loop .i) (c .loop-test .left)))
+    sym (c .before .loop .inv .1 ∙ ap (allOf (inGoal (setsIn (a .goal .now)))) (entries-done (a .count) (a .trues .now) (a .falses .now) (c .before .loop .i) (c .loop-test .left)))
 
 pub all-in-goal-spec : {M : Type 1} → statement M
 all-in-goal-spec =

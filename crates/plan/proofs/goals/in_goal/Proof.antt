@@ -7,15 +7,15 @@ use borrow.Author.Tests.{not-true, not-false}
 use lib.ListN.{drop, getD}
 use Rattle.sheet.specs.Literals.{meets}
 use Rattle.sheet.specs.Lists.{allOf}
-use Rattle.sheet.specs.Rows.{setsRow}
-use Rattle.sheet.proofs.RowLaws.{sets-step, sets-end}
+use Rattle.sheet.specs.Packed.{setsIn}
+use Rattle.sheet.proofs.PackedLaws.{sets-step, sets-end}
 use Rattle.table.proofs.Turns.{all-stop, all-on}
 use Rattle.plan.specs.Run.{inGoal}
 use Rattle.plan.proofs.goals.in_goal.Statement.{statement}
 use Rattle.plan.proofs.goals.in_goal.Tie as tie
 
 abbrev Inv-loop : tie.InvT-loop
-Inv-loop goal d count i₀ i = (count ≡ getD goal 0 0) × (inGoal (setsRow goal) d ≡ inGoal (drop i (setsRow goal)) d)
+Inv-loop goal d count i₀ i = (count ≡ getD goal 0 0) × (inGoal (setsIn goal) d ≡ inGoal (drop i (setsIn goal)) d)
 
 abbrev μ-loop : tie.MeasureT-loop
 μ-loop goal d count i₀ i = count - i
@@ -33,7 +33,7 @@ shares-requires : tie.Need-shares-requires Inv-loop μ-loop
 shares-requires c κs = search needs
 
 returns : tie.Need-returns Inv-loop μ-loop
-unfolding setsRow inGoal
+unfolding setsIn inGoal
 returns c =
     let o = c .before .before .before .before in
     let a = o .before .before .before .args in
@@ -48,7 +48,7 @@ loop-less : tie.Need-loop-less Inv-loop μ-loop
 loop-less c = search needs
 
 loop-again : tie.Need-loop-again Inv-loop μ-loop
-unfolding setsRow inGoal
+unfolding setsIn inGoal
 loop-again c =
     let o = c .before .before .before .before in
     let a = o .before .before .before .args in (
@@ -59,7 +59,7 @@ loop-again c =
     )
 
 returns-2 : tie.Need-returns-2 Inv-loop μ-loop
-unfolding setsRow inGoal
+unfolding setsIn inGoal
 returns-2 c =
     let o = c .before in
     let a = o .before .before .before .args in

@@ -15,20 +15,20 @@ decode-requires c κs = search needs
 enum-known-answer : tie.Need-enum-known-answer
 enum-known-answer c = search needs
 
-refused-requires : tie.Need-refused-requires
-refused-requires c κs = search needs
+refuse-run-requires : tie.Need-refuse-run-requires
+refuse-run-requires c κs = search needs
 
 enum-told : tie.Need-enum-told
 enum-told c = search needs
 
-refused-requires-2 : tie.Need-refused-requires-2
-refused-requires-2 c κs = search needs
+refuse-run-requires-2 : tie.Need-refuse-run-requires-2
+refuse-run-requires-2 c κs = search needs
 
 returns : tie.Need-returns
 returns c =
     let z = c .before .before .before .before .before .before .before .before .before .before .pre in
-    in-zeros (c .refused2 .result) (z .0 .0) (z .0 .1) (z .1 .0) (z .1 .1)
-    ∙ c .refused2 .ensures
+    in-zeros (c .refuse-run2 .result) (z .0 .0) (z .0 .1) (z .1 .0) (z .1 .1)
+    ∙ c .refuse-run2 .ensures
     ∙ course-few _ _ (accepted-says _ _ _ _ _ _ (c .before .before .before .before .decode .ensures .0) (c .before .before .enum-told .given .1)) _ (c .before .if1 .taken)
 
 run-sheet-requires : tie.Need-run-sheet-requires
@@ -39,8 +39,8 @@ run-sheet-requires c κs =
 returns-2 : tie.Need-returns-2
 returns-2 c =
     let z = c .before .before .before .before .before .before .before .before .before .before .pre in
-    in-zeros (c .refused .result) (z .0 .0) (z .0 .1) (z .1 .0) (z .1 .1)
-    ∙ c .refused .ensures
+    in-zeros (c .refuse-run .result) (z .0 .0) (z .0 .1) (z .1 .0) (z .1 .1)
+    ∙ c .refuse-run .ensures
     ∙ course-fault _ _ _ _ (refused-says _ _ _ _ _ _ (c .before .before .before .before .decode .ensures .0) _ _ (c .before .before .answer .given .1))
 
 returns-3 : tie.Need-returns-3
@@ -55,9 +55,9 @@ course-into-spec =
     (tie.spec
     decode-requires
     enum-known-answer
-    refused-requires
+    refuse-run-requires
     enum-told
-    refused-requires-2
+    refuse-run-requires-2
     returns
     run-sheet-requires
     returns-2

@@ -2,7 +2,7 @@
 use mathlib.Core.Path.{sym, ap, _∙_}
 use mathlib.Core.Bool.{Bool}
 use borrow.Author.Needs.{needs}
-use Rattle.plan.specs.Run.{ended}
+use Rattle.plan.specs.Run.{endedIn}
 use Rattle.plan.specs.Calls.{verdictOf}
 use Rattle.plan.proofs.runs.end.Statement.{statement}
 use Rattle.plan.proofs.runs.end.Tie as tie
@@ -12,11 +12,11 @@ all-in-goal-requires c κs = search needs
 
 returns : tie.Need-returns
 unfolding verdictOf
-returns c = sym (ap (λ (b : Bool). verdictOf (ended b)) (sym (c .before .all-in-goal .ensures) ∙ c .if1 .taken))
+returns c = sym (ap (λ (b : Bool). verdictOf (endedIn b)) (sym (c .before .all-in-goal .ensures) ∙ c .if1 .taken))
 
 returns-2 : tie.Need-returns-2
 unfolding verdictOf
-returns-2 c = sym (ap (λ (b : Bool). verdictOf (ended b)) (sym (c .before .all-in-goal .ensures) ∙ c .if1 .left))
+returns-2 c = sym (ap (λ (b : Bool). verdictOf (endedIn b)) (sym (c .before .all-in-goal .ensures) ∙ c .if1 .left))
 
 pub end-spec : {M : Type 1} → statement M
 end-spec = tie.close (tie.spec all-in-goal-requires returns returns-2)

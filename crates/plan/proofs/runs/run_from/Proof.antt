@@ -6,7 +6,7 @@ use native.Mathlib.Omega.{arith}
 use borrow.Author.Needs.{needs}
 use lib.ListN.{length}
 use Rattle.sheet.proofs.Prefixes.{length-mapped}
-use Rattle.sheet.specs.Rows.{setsRow}
+use Rattle.sheet.specs.Packed.{setsIn}
 use Rattle.table.specs.Slots.{entries}
 use Rattle.table.specs.Moves.{lent}
 use Rattle.plan.specs.Course.{countsIn, courseFrom}
@@ -18,7 +18,7 @@ use Rattle.plan.proofs.runs.run_from.Tie as tie
 
 abbrev Inv-loop : tie.InvT-loop
 Inv-loop goal moves place trues₀ falses₀ n sizes₀ clauses₀ plan count size₀ rows₀ i₀ trues falses sizes clauses size rows i =
-    Going plan moves goal (courseFrom (setsRow goal) [] place (left plan moves place) (entries (lent n trues₀ falses₀))) i (lent size trues falses) (countsIn rows sizes clauses)
+    Going plan moves goal (courseFrom (setsIn goal) [] place (left plan moves place) (entries (lent n trues₀ falses₀))) i (lent size trues falses) (countsIn rows sizes clauses)
 
 abbrev μ-loop : tie.MeasureT-loop
 μ-loop goal moves place trues₀ falses₀ n sizes₀ clauses₀ plan count size₀ rows₀ i₀ trues falses sizes clauses size rows i = count - i

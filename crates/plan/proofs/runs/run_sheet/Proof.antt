@@ -23,8 +23,8 @@ run-from-requires c κs =
 enum-known-number : tie.Need-enum-known-number
 enum-known-number c = search needs
 
-refused-requires : tie.Need-refused-requires
-refused-requires c κs = search needs
+refuse-run-requires : tie.Need-refuse-run-requires
+refuse-run-requires c κs = search needs
 
 returns : tie.Need-returns
 unfolding entries
@@ -35,8 +35,8 @@ returns c =
 returns-2 : tie.Need-returns-2
 returns-2 c =
     let z = c .before .before .before .before .before .before .before .before .before .before .before .before .before .before .before in
-    in-zeros (c .refused .result) refl refl (z .pre .1 .1 .0) (z .pre .1 .1 .1)
-    ∙ c .refused .ensures
+    in-zeros (c .refuse-run .result) refl refl (z .pre .1 .1 .0) (z .pre .1 .1 .1)
+    ∙ c .refuse-run .ensures
     ∙ run-stops (z .args .sheet) (z .args .ors .now) (z .args .oneofs .now) (z .args .goal .now) (z .args .moves .now) (z .pre .0) _ _ _ (c .before .before .before .before .before .before .first-into .ensures) _ (c .before .before .before .before .number .given .1)
 
 pub run-sheet-spec : {M : Type 1} → statement M
@@ -47,6 +47,6 @@ run-sheet-spec =
     enum-known-n
     run-from-requires
     enum-known-number
-    refused-requires
+    refuse-run-requires
     returns
     returns-2)

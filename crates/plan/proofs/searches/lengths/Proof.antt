@@ -4,10 +4,10 @@ use Prim.Native.Nat.{_+_, _-_, _≤_}
 use native.Mathlib.Omega.{arith}
 use borrow.Author.Needs.{needs}
 use denote.Ref.{now}
-use Rattle.sheet.specs.Rows.{setsRow}
+use Rattle.sheet.specs.Packed.{setsIn}
 use Rattle.table.specs.Slots.{entriesOf, entries}
 use Rattle.plan.specs.Search.{nothing}
-use Rattle.sheet.specs.Rows.{actionOf}
+use Rattle.sheet.specs.Packed.{actionOf}
 use Rattle.plan.specs.Walks.{firstFrom}
 use Rattle.plan.proofs.FirstAnswers.{firstBelow}
 use Rattle.plan.proofs.Pruning.{quiet-lengths}
@@ -19,7 +19,7 @@ use Rattle.plan.proofs.searches.lengths.Tie as tie
 
 abbrev Inv-loop : tie.InvT-loop
 Inv-loop moves count goal ts fs n limit memory₀ length₀ memory length =
-    (firstBelow (firstFrom (setsRow goal) (actionOf moves) count 0 (entriesOf n ts fs)) length ≡ nothing) × (length ≤ limit + 1) × (N.length memory ≡ N.length memory₀) × Remembers moves count goal memory
+    (firstBelow (firstFrom (setsIn goal) (actionOf moves) count 0 (entriesOf n ts fs)) length ≡ nothing) × (length ≤ limit + 1) × (N.length memory ≡ N.length memory₀) × Remembers moves count goal memory
 
 abbrev μ-loop : tie.MeasureT-loop
 μ-loop moves count goal ts fs n limit memory₀ length₀ memory length = limit + 1 - length
@@ -32,16 +32,16 @@ loop-holds c =
     let s = c .before .before .before .before .before .before .before .before .before .args in
     (refl, omega arith, refl, c .before .before .forget .ensures (now (s .moves)) (s .count) (now (s .goal)))
 
-walk-requires : tie.Need-walk-requires Inv-loop μ-loop
+try-plans-requires : tie.Need-try-plans-requires Inv-loop μ-loop
 unfolding entries
-walk-requires c κs =
+try-plans-requires c κs =
     let z = c .before .before .before .before .before .before .before .before .before .before .before .before in
     let s = z .args in
     let g = c .before .before .loop in
-    (z .pre .0, (omega arith, (quiet-lengths (setsRow (now (s .goal))) (actionOf (now (s .moves))) (s .count) (entriesOf (s .n) (now (s .ts)) (now (s .fs))) (g .length) (g .inv .0), g .inv .3)))
+    (z .pre .0, (omega arith, (quiet-lengths (setsIn (now (s .goal))) (actionOf (now (s .moves))) (s .count) (entriesOf (s .n) (now (s .ts)) (now (s .fs))) (g .length) (g .inv .0), g .inv .3)))
 
-ended-requires : tie.Need-ended-requires Inv-loop μ-loop
-ended-requires c κs = search needs
+is-end-requires : tie.Need-is-end-requires Inv-loop μ-loop
+is-end-requires c κs = search needs
 
 same-length : tie.Need-same-length Inv-loop μ-loop
 same-length c = search needs
@@ -51,7 +51,7 @@ unfolding entries
 returns c =
     let s = c .before .before .before .before .before .before .before .before .before .before .before .before .before .before .before .before .before .args in
     let g = c .before .before .before .before .before .before .before .loop in
-    length-found (setsRow (now (s .goal))) (actionOf (now (s .moves))) (s .count) (entriesOf (s .n) (now (s .ts)) (now (s .fs))) (s .limit) (g .length) _ (g .inv .0) (c .before .before .before .before .before .before .loop-test .taken) (c .before .before .before .before .walk .ensures .0) (sym (c .before .ended .ensures) ∙ c .if1 .taken)
+    length-found (setsIn (now (s .goal))) (actionOf (now (s .moves))) (s .count) (entriesOf (s .n) (now (s .ts)) (now (s .fs))) (s .limit) (g .length) _ (g .inv .0) (c .before .before .before .before .before .before .loop-test .taken) (c .before .before .before .before .try-plans .ensures .0) (sym (c .before .is-end .ensures) ∙ c .if1 .taken)
 
 add-length : tie.Need-add-length Inv-loop μ-loop
 add-length c = search needs
@@ -64,7 +64,7 @@ unfolding entries
 loop-again c =
     let s = c .before .before .before .before .before .before .before .before .before .before .before .before .before .before .before .before .before .args in
     let g = c .before .before .before .before .before .before .before .loop in
-    (length-next (setsRow (now (s .goal))) (actionOf (now (s .moves))) (s .count) (entriesOf (s .n) (now (s .ts)) (now (s .fs))) (s .limit) (g .length) _ (g .inv .0) (c .before .before .before .before .walk .ensures .0) (sym (c .before .ended .ensures) ∙ c .if1 .left), omega arith, search needs, c .before .before .before .before .walk .ensures .1)
+    (length-next (setsIn (now (s .goal))) (actionOf (now (s .moves))) (s .count) (entriesOf (s .n) (now (s .ts)) (now (s .fs))) (s .limit) (g .length) _ (g .inv .0) (c .before .before .before .before .try-plans .ensures .0) (sym (c .before .is-end .ensures) ∙ c .if1 .left), omega arith, search needs, c .before .before .before .before .try-plans .ensures .1)
 
 none-requires : tie.Need-none-requires Inv-loop μ-loop
 none-requires c κs = search needs
@@ -77,7 +77,7 @@ unfolding entries
 returns-2 c =
     let s = c .before .before .before .before .before .before .before .before .before .before .before .before .args in
     let g = c .before .before .loop in
-    length-none (setsRow (now (s .goal))) (actionOf (now (s .moves))) (s .count) (entriesOf (s .n) (now (s .ts)) (now (s .fs))) (s .limit) (g .length) _ (g .inv .0) (omega arith) (c .none .ensures)
+    length-none (setsIn (now (s .goal))) (actionOf (now (s .moves))) (s .count) (entriesOf (s .n) (now (s .ts)) (now (s .fs))) (s .limit) (g .length) _ (g .inv .0) (omega arith) (c .none .ensures)
 
 pub lengths-spec : {M : Type 1} → statement M
 lengths-spec =
@@ -87,8 +87,8 @@ lengths-spec =
     μ-loop
     forget-requires
     loop-holds
-    walk-requires
-    ended-requires
+    try-plans-requires
+    is-end-requires
     same-length
     returns
     add-length

@@ -33,8 +33,8 @@ lengths-requires c κs =
 enum-known-number : tie.Need-enum-known-number
 enum-known-number c = search needs
 
-refused-requires : tie.Need-refused-requires
-refused-requires c κs = search needs
+refuse-search-requires : tie.Need-refuse-search-requires
+refuse-search-requires c κs = search needs
 
 same-length : tie.Need-same-length
 same-length c = search needs
@@ -47,7 +47,7 @@ returns c =
 returns-2 : tie.Need-returns-2
 returns-2 c =
     let z = c .before .before .before .before .before .before .before .before .before .before .before .before .before .before .before in
-    c .refused .ensures ∙ search-stops (z .args .sheet) (z .args .ors .now) (z .args .oneofs .now) (z .args .goal .now) (z .args .moves .now) (z .pre .0) _ _ _ (c .before .before .before .before .before .before .first-into .ensures) _ (c .before .before .number .given .1) (z .args .limit)
+    c .refuse-search .ensures ∙ search-stops (z .args .sheet) (z .args .ors .now) (z .args .oneofs .now) (z .args .goal .now) (z .args .moves .now) (z .pre .0) _ _ _ (c .before .before .before .before .before .before .first-into .ensures) _ (c .before .before .number .given .1) (z .args .limit)
 
 pub search-sheet-spec : {M : Type 1} → statement M
 search-sheet-spec =
@@ -61,7 +61,7 @@ search-sheet-spec =
     slice-aggregate-lengths-2
     lengths-requires
     enum-known-number
-    refused-requires
+    refuse-search-requires
     same-length
     returns
     returns-2)

@@ -6,8 +6,8 @@ use Rattle.plan.proofs.Texts.{wrote-then, refused-text, whole-text}
 use Rattle.plan.proofs.text.write_text.Statement.{statement}
 use Rattle.plan.proofs.text.write_text.Tie as tie
 
-refused-requires : tie.Need-refused-requires
-refused-requires c κs = search needs
+is-refused-requires : tie.Need-is-refused-requires
+is-refused-requires c κs = search needs
 
 write-verdict-requires : tie.Need-write-verdict-requires
 write-verdict-requires c κs = search needs
@@ -16,7 +16,7 @@ same-length : tie.Need-same-length
 same-length c = search needs
 
 returns : tie.Need-returns
-returns c = refused-text _ _ (sym (c .before .before .before .before .before .refused .ensures) ∙ c .before .before .before .before .if1 .taken) (c .before .before .write-verdict .ensures)
+returns c = refused-text _ _ (sym (c .before .before .before .before .before .is-refused .ensures) ∙ c .before .before .before .before .if1 .taken) (c .before .before .write-verdict .ensures)
 
 slice-aggregate-write-bytes : tie.Need-slice-aggregate-write-bytes
 slice-aggregate-write-bytes c = search needs
@@ -24,8 +24,8 @@ slice-aggregate-write-bytes c = search needs
 write-bytes-requires : tie.Need-write-bytes-requires
 write-bytes-requires c κs = search needs
 
-write-rows-requires : tie.Need-write-rows-requires
-write-rows-requires c κs = search needs
+write-row-lines-requires : tie.Need-write-row-lines-requires
+write-row-lines-requires c κs = search needs
 
 write-verdict-requires-2 : tie.Need-write-verdict-requires-2
 write-verdict-requires-2 c κs = search needs
@@ -39,20 +39,20 @@ returns-2 c =
     let r = z .before .before .before .before in
     let b = r .before .before .before .before in
     let p = b .before .before .before .before .before .before .before .before .pre in
-    whole-text _ _ (sym (b .before .before .before .before .before .refused .ensures) ∙ b .before .before .before .before .if1 .left)
-    (wrote-then (b .write-bytes .ensures) (omega (arith, p .1)) (r .write-rows .ensures .0)) (omega (arith, p .0, p .1)) (z .write-verdict2 .ensures)
+    whole-text _ _ (sym (b .before .before .before .before .before .is-refused .ensures) ∙ b .before .before .before .before .if1 .left)
+    (wrote-then (b .write-bytes .ensures) (omega (arith, p .1)) (r .write-row-lines .ensures .0)) (omega (arith, p .0, p .1)) (z .write-verdict2 .ensures)
 
 pub write-text-spec : {M : Type 1} → statement M
 write-text-spec =
     tie.close
     (tie.spec
-    refused-requires
+    is-refused-requires
     write-verdict-requires
     same-length
     returns
     slice-aggregate-write-bytes
     write-bytes-requires
-    write-rows-requires
+    write-row-lines-requires
     write-verdict-requires-2
     same-length-2
     returns-2)

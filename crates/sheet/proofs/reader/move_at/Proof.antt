@@ -6,10 +6,10 @@ use borrow.Author.Needs.{needs}
 use lib.ListN.{length-set, length-take, length-drop}
 use Rattle.sheet.specs.Form.{times}
 use Rattle.sheet.specs.Format.{action, listOf, count, effect}
-use Rattle.sheet.specs.Marks.{Gave, same}
+use Rattle.sheet.specs.Marks.{ReadsAs, same}
 use Rattle.sheet.proofs.Reading.{gave-stop, gave-on, gave-as, gave-made, got-same}
 use Rattle.sheet.proofs.Parts.{read-passed, count-most}
-use Rattle.sheet.proofs.RowLaws.{action-laid}
+use Rattle.sheet.proofs.PackedLaws.{action-laid}
 use Rattle.sheet.proofs.reader.move_at.Statement.{statement}
 use Rattle.sheet.proofs.reader.move_at.Tie as tie
 
@@ -78,7 +78,7 @@ returns-3 c =
     let z = c .before .before .before .before .before .before .before .before .before .before .before .before .before .before .before in
     let p = c .before .before .before .before .before .before .before .before .before .before .before .before .literals-at in
     let r = c .before .before .before .before .before .before .before .before .count-at in
-    subst (Gave same _ _) (sym (action-laid (z .args .row .now) _ (p .result .value) (r .result .value) (z .pre .1) (search needs)))
+    subst (ReadsAs same _ _) (sym (action-laid (z .args .row .now) _ (p .result .value) (r .result .value) (z .pre .1) (search needs)))
     (gave-on _ _ _ _ same (got-same _ _ _ (p .ensures) (c .before .before .before .before .before .before .before .before .before .before .mark .given .1))
     (gave-as _ (listOf 0 8 (effect _)) _ _ _ same (λ a. refl)
     (gave-made (λ es. record { precondition = p .result .value; effects = es })

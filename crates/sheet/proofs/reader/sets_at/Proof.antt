@@ -3,11 +3,11 @@ use mathlib.Core.Path.{sym, subst, _∙_}
 use native.Mathlib.Omega.{arith}
 use borrow.Author.Needs.{needs}
 use lib.ListN.{length-set, length-take, length-drop}
-use Rattle.sheet.specs.Marks.{Gave, same}
+use Rattle.sheet.specs.Marks.{ReadsAs, same}
 use Rattle.sheet.specs.Format.{listOf}
 use Rattle.sheet.proofs.Reading.{gave-stop, gave-on, got-same}
 use Rattle.sheet.proofs.Parts.{read-passed, count-most}
-use Rattle.sheet.proofs.RowLaws.{sets-row-laid}
+use Rattle.sheet.proofs.PackedLaws.{sets-laid}
 use Rattle.sheet.proofs.reader.sets_at.Statement.{statement}
 use Rattle.sheet.proofs.reader.sets_at.Tie as tie
 
@@ -54,7 +54,7 @@ unfolding listOf
 returns-2 c =
     let z = c .before .before .before .before .before .before .before .before .before .before in
     let r = c .before .before .before .before .before .before .before .count-at in
-    subst (Gave same _ _) (sym (sets-row-laid (z .args .row .now) _ (r .result .value) (z .pre .1)))
+    subst (ReadsAs same _ _) (sym (sets-laid (z .args .row .now) _ (r .result .value) (z .pre .1)))
     (gave-on _ _ _ _ same (got-same _ _ _ (r .ensures) (c .before .before .before .before .before .mark .given .1)) (c .before .before .sets-from .ensures))
 
 pub sets-at-spec : {M : Type 1} → statement M

@@ -2,10 +2,10 @@
 use mathlib.Core.Path.{sym, _∙_}
 use borrow.Author.Needs.{needs}
 use Rattle.sheet.specs.Problem.{problemOf}
-use Rattle.sheet.specs.Rows.{actionFrom}
+use Rattle.sheet.specs.Packed.{actionFrom}
 use Rattle.sheet.specs.Decoded.{problemIn, statementIn, judgementIn}
 use Rattle.sheet.specs.Marks.{factsIn}
-use Rattle.sheet.proofs.RowLaws.{items-length}
+use Rattle.sheet.proofs.PackedLaws.{items-length}
 use Rattle.sheet.proofs.SlotLaws.{refused-with, refused-by}
 use Rattle.sheet.proofs.Sections.{sheet-facts, sheet-moves, moves-most, sheet-goal, sheet-plan, plan-most, sheet-longer, sheet-whole}
 use Rattle.sheet.proofs.reader.sheet_in.Statement.{statement}
@@ -20,8 +20,8 @@ enum-known-mark c = search needs
 enum-told : tie.Need-enum-told
 enum-told c = search needs
 
-refused-at-requires : tie.Need-refused-at-requires
-refused-at-requires c κs = search needs
+refuse-at-requires : tie.Need-refuse-at-requires
+refuse-at-requires c κs = search needs
 
 same-length : tie.Need-same-length
 same-length c = c .before .before .before .before .before .before .before .facts-at .kept .1 .0
@@ -31,8 +31,8 @@ same-length-2 c = c .before .before .before .before .before .before .before .fac
 
 returns : tie.Need-returns
 returns c = (
-  refused-by _ _ _ _ _ _ (c .refused-at .ensures .0) ∙ sym (sheet-facts _ (c .before .before .before .before .before .before .before .facts-at .ensures .0) (c .before .enum-told .given .1)),
-  c .refused-at .ensures .1,
+  refused-by _ _ _ _ _ _ (c .refuse-at .ensures .0) ∙ sym (sheet-facts _ (c .before .before .before .before .before .before .before .facts-at .ensures .0) (c .before .enum-told .given .1)),
+  c .refuse-at .ensures .1,
 )
 
 moves-at-requires : tie.Need-moves-at-requires
@@ -44,8 +44,8 @@ enum-known-mark-moves c = search needs
 enum-told-2 : tie.Need-enum-told-2
 enum-told-2 c = search needs
 
-refused-at-requires-2 : tie.Need-refused-at-requires-2
-refused-at-requires-2 c κs = search needs
+refuse-at-requires-2 : tie.Need-refuse-at-requires-2
+refuse-at-requires-2 c κs = search needs
 
 same-length-3 : tie.Need-same-length-3
 same-length-3 c = c .before .before .before .before .before .before .before .before .before .before .before .before .before .before .before .facts-at .kept .1 .0
@@ -59,8 +59,8 @@ same-length-5 c = c .before .before .before .before .before .moves-at .kept .1 .
 returns-2 : tie.Need-returns-2
 unfolding factsIn
 returns-2 c = (
-  refused-by _ _ _ _ _ _ (c .refused-at2 .ensures .0) ∙ sym (sheet-moves _ (c .before .before .before .before .before .before .before .before .before .before .before .before .before .before .before .facts-at .ensures .0) (c .before .before .before .before .before .before .before .before .before .mark .given .1) (c .before .before .before .before .before .moves-at .ensures) (c .before .enum-told2 .given .1)),
-  c .refused-at2 .ensures .1,
+  refused-by _ _ _ _ _ _ (c .refuse-at2 .ensures .0) ∙ sym (sheet-moves _ (c .before .before .before .before .before .before .before .before .before .before .before .before .before .before .before .facts-at .ensures .0) (c .before .before .before .before .before .before .before .before .before .mark .given .1) (c .before .before .before .before .before .moves-at .ensures) (c .before .enum-told2 .given .1)),
+  c .refuse-at2 .ensures .1,
 )
 
 sets-at-requires : tie.Need-sets-at-requires
@@ -72,8 +72,8 @@ enum-known-mark-goal c = search needs
 enum-told-3 : tie.Need-enum-told-3
 enum-told-3 c = search needs
 
-refused-at-requires-3 : tie.Need-refused-at-requires-3
-refused-at-requires-3 c κs = search needs
+refuse-at-requires-3 : tie.Need-refuse-at-requires-3
+refuse-at-requires-3 c κs = search needs
 
 same-length-6 : tie.Need-same-length-6
 same-length-6 c = c .before .before .before .before .before .before .before .before .before .before .before .before .before .before .before .before .before .before .before .before .before .before .facts-at .kept .1 .0
@@ -90,10 +90,10 @@ same-length-9 c = c .before .before .before .before .before .before .before .bef
 returns-3 : tie.Need-returns-3
 unfolding factsIn
 returns-3 c = (
-  refused-by _ _ _ _ _ _ (c .refused-at3 .ensures .0)
+  refused-by _ _ _ _ _ _ (c .refuse-at3 .ensures .0)
       ∙ sym (sheet-goal _ (c .before .before .before .before .before .before .before .before .before .before .before .before .before .before .before .before .before .before .before .before .before .before .facts-at .ensures .0) (c .before .before .before .before .before .before .before .before .before .before .before .before .before .before .before .before .mark .given .1) (c .before .before .before .before .before .before .before .before .before .before .before .before .moves-at .ensures)
       (c .before .before .before .before .before .before .before .before .mark-moves .given .1) (c .before .before .before .before .before .sets-at .ensures) (c .before .enum-told3 .given .1)),
-  c .refused-at3 .ensures .1,
+  c .refuse-at3 .ensures .1,
 )
 
 plan-at-requires : tie.Need-plan-at-requires
@@ -106,8 +106,8 @@ enum-known-mark-plan c = search needs
 enum-told-4 : tie.Need-enum-told-4
 enum-told-4 c = search needs
 
-refused-at-requires-4 : tie.Need-refused-at-requires-4
-refused-at-requires-4 c κs = search needs
+refuse-at-requires-4 : tie.Need-refuse-at-requires-4
+refuse-at-requires-4 c κs = search needs
 
 same-length-10 : tie.Need-same-length-10
 same-length-10 c = c .before .before .before .before .before .before .before .before .before .before .before .before .before .before .before .before .before .before .before .before .before .before .before .before .before .before .facts-at .kept .1 .0
@@ -124,15 +124,15 @@ same-length-13 c = c .before .before .before .before .before .before .before .be
 returns-4 : tie.Need-returns-4
 unfolding factsIn
 returns-4 c = (
-  refused-by _ _ _ _ _ _ (c .refused-at4 .ensures .0)
+  refused-by _ _ _ _ _ _ (c .refuse-at4 .ensures .0)
       ∙ sym (sheet-plan _ (c .before .before .before .before .before .before .before .before .before .before .before .before .before .before .before .before .before .before .before .before .before .before .before .before .before .before .facts-at .ensures .0) (c .before .before .before .before .before .before .before .before .before .before .before .before .before .before .before .before .before .before .before .before .mark .given .1) (c .before .before .before .before .before .before .before .before .before .before .before .before .before .before .before .before .moves-at .ensures)
       (c .before .before .before .before .before .before .before .before .before .before .before .before .mark-moves .given .1) (c .before .before .before .before .before .before .before .before .before .sets-at .ensures)
       (c .before .before .before .before .before .mark-goal .given .1) (items-length 35 actionFrom _ _) (c .before .before .before .plan-at .ensures) (c .before .enum-told4 .given .1)),
-  c .refused-at4 .ensures .1,
+  c .refuse-at4 .ensures .1,
 )
 
-refused-requires : tie.Need-refused-requires
-refused-requires c κs = search needs
+refuse-requires : tie.Need-refuse-requires
+refuse-requires c κs = search needs
 
 same-length-14 : tie.Need-same-length-14
 same-length-14 c = c .before .before .before .before .before .before .before .before .before .before .before .before .before .before .before .before .before .before .before .before .before .before .before .before .before .before .before .before .facts-at .kept .1 .0
@@ -149,12 +149,12 @@ same-length-17 c = c .before .before .before .before .before .before .before .be
 returns-5 : tie.Need-returns-5
 unfolding factsIn
 returns-5 c = (
-  refused-with _ _ _ _ _ _ _ (c .refused .ensures .0)
+  refused-with _ _ _ _ _ _ _ (c .refuse .ensures .0)
       ∙ sym (sheet-longer _ (c .before .before .before .before .before .before .before .before .before .before .before .before .before .before .before .before .before .before .before .before .before .before .before .before .before .before .before .before .facts-at .ensures .0) (c .before .before .before .before .before .before .before .before .before .before .before .before .before .before .before .before .before .before .before .before .before .before .mark .given .1) (c .before .before .before .before .before .before .before .before .before .before .before .before .before .before .before .before .before .before .moves-at .ensures)
       (c .before .before .before .before .before .before .before .before .before .before .before .before .before .before .mark-moves .given .1) (c .before .before .before .before .before .before .before .before .before .before .before .sets-at .ensures)
       (c .before .before .before .before .before .before .before .mark-goal .given .1) (items-length 35 actionFrom _ _) (c .before .before .before .before .before .plan-at .ensures)
       (c .before .before .before .mark-plan .given .1) (c .before .if1 .taken)),
-  c .refused .ensures .1,
+  c .refuse .ensures .1,
 )
 
 same-length-18 : tie.Need-same-length-18
@@ -189,14 +189,14 @@ sheet-in-spec =
     facts-at-requires
     enum-known-mark
     enum-told
-    refused-at-requires
+    refuse-at-requires
     same-length
     same-length-2
     returns
     moves-at-requires
     enum-known-mark-moves
     enum-told-2
-    refused-at-requires-2
+    refuse-at-requires-2
     same-length-3
     same-length-4
     same-length-5
@@ -204,7 +204,7 @@ sheet-in-spec =
     sets-at-requires
     enum-known-mark-goal
     enum-told-3
-    refused-at-requires-3
+    refuse-at-requires-3
     same-length-6
     same-length-7
     same-length-8
@@ -213,13 +213,13 @@ sheet-in-spec =
     plan-at-requires
     enum-known-mark-plan
     enum-told-4
-    refused-at-requires-4
+    refuse-at-requires-4
     same-length-10
     same-length-11
     same-length-12
     same-length-13
     returns-4
-    refused-requires
+    refuse-requires
     same-length-14
     same-length-15
     same-length-16

@@ -1,5 +1,5 @@
 -- `table::effects::effect_at` meets its contract. Assumes nothing.
-use Rattle.sheet.specs.Rows.{effectAt}
+use Rattle.sheet.specs.Packed.{effectAt}
 use borrow.Author.Needs.{needs}
 use Rattle.table.proofs.effects.effect_at.Statement.{statement}
 use Rattle.table.proofs.effects.effect_at.Tie as tie

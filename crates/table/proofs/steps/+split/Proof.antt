@@ -8,10 +8,10 @@ use borrow.Author.Needs.{needs}
 use Rattle.sheet.specs.declared.Effect.{Effect}
 use Rattle.sheet.specs.Literals.{next as nextOf}
 use Rattle.table.specs.Step.{pieces, image}
-use Rattle.sheet.specs.Rows.{effectsAt}
+use Rattle.sheet.specs.Packed.{effectsAt}
 use Rattle.table.specs.Carry.{Splits}
 use Rattle.table.proofs.Carrying.{settles-puts, settles-leaf, past-part}
-use Rattle.sheet.proofs.RowLaws.{effects-step, effects-end}
+use Rattle.sheet.proofs.PackedLaws.{effects-step, effects-end}
 use Rattle.table.proofs.Pads.{holds-trues-long, holds-falses-long, held-own}
 use Rattle.table.proofs.Growing.{Going, going-start, going-on, going-full, going-end}
 use Rattle.table.proofs.Walks.{going-at, Turn, turn-start, turn-on, turn-less, turn-most, partsFrom, parts-start, parts-turn, parts-end}
@@ -28,7 +28,7 @@ use Rattle.table.proofs.slots.offer_by_newest.Reads as offer-by-newest-
 use Rattle.table.proofs.steps.carried.Reads as carried-reads
 use Rattle.table.proofs.steps.lacking.Reads as lacking-reads
 use Rattle.table.proofs.steps.part.Reads as part-reads
-use Rattle.table.proofs.steps.settle.Reads as settle-reads
+use Rattle.table.proofs.steps.skip_decided.Reads as skip-decided-reads
 use Rattle.table.proofs.steps.+split.{statement}
 use Rattle.table.proofs.steps.+split.Tie.{close}
 
@@ -42,7 +42,7 @@ abbrev split-below : ℕ → In 2 split-kinds.ps
 split-below t = and 2 split-kinds.ps (falls 2 split-kinds.ps _<_ μ-split t) split.Pre
 
 abbrev claims : ℕ → split-lts.Claims
-claims t = (effect-at-reads.Asked, effect-at-reads.Learnt, lacking-reads.Asked, lacking-reads.Learnt, part-reads.Asked, part-reads.Learnt, carried-reads.Asked, carried-reads.Learnt, settle-reads.Asked, settle-reads.Learnt, split-below t, split.Post, replace-reads.Asked, replace-reads.Learnt, offer-by-newest-reads.Asked, offer-by-newest-reads.Learnt, next-reads.Asked, next-reads.Learnt)
+claims t = (effect-at-reads.Asked, effect-at-reads.Learnt, lacking-reads.Asked, lacking-reads.Learnt, part-reads.Asked, part-reads.Learnt, carried-reads.Asked, carried-reads.Learnt, skip-decided-reads.Asked, skip-decided-reads.Learnt, split-below t, split.Post, replace-reads.Asked, replace-reads.Learnt, offer-by-newest-reads.Asked, offer-by-newest-reads.Learnt, next-reads.Asked, next-reads.Learnt)
 
 abbrev split-Inv-loop : split-lts.InvT-loop
 split-Inv-loop effects size at piece results trues₀ falses₀ k e condition missing next sum₀ t₀ trues falses sum t =
@@ -64,7 +64,7 @@ splits : (t : ℕ) (c : split-lts.After-effect-at (claims t) (split-at t) split.
 splits t c = let o = c .before .before .before .before in subst (λ (e : Effect). Splits (e .condition) (o .args .piece)) (sym (c .effect-at .ensures)) (o .pre .1 .1 .0 .1)
 
 -- the part of this turn comes first, and then those from the next turn on
-turned : (t : ℕ) (c : split-lts.After-settle (claims t) (split-at t) split.Post split-Inv-loop split-μ-loop) (n : ℕ)
+turned : (t : ℕ) (c : split-lts.After-skip-decided (claims t) (split-at t) split.Post split-Inv-loop split-μ-loop) (n : ℕ)
     → let a = c .before .before .before .before .before .before .before .before .before .before .before .args in
     let es = effectsAt (a .size) (a .effects .now) in
     let hs = drop (a .at + 1) es in
@@ -96,8 +96,8 @@ split-part-requires t c κs = search needs
 split-carried-requires : (t : ℕ) → split-lts.Need-carried-requires (claims t) (split-at t) split.Post split-Inv-loop split-μ-loop
 split-carried-requires t c κs = search needs
 
-split-settle-requires : (t : ℕ) → split-lts.Need-settle-requires (claims t) (split-at t) split.Post split-Inv-loop split-μ-loop
-split-settle-requires t c κs =
+split-skip-decided-requires : (t : ℕ) → split-lts.Need-skip-decided-requires (claims t) (split-at t) split.Post split-Inv-loop split-μ-loop
+split-skip-decided-requires t c κs =
     let o = c .before .before .before .before .before .before .before .before .before .before in
     let v = c .before .before .before .loop in (
       o .pre .1 .0,
@@ -107,8 +107,8 @@ split-settle-requires t c κs =
 split-split-requires : (t : ℕ) → split-lts.Need-split-requires (claims t) (split-at t) split.Post split-Inv-loop split-μ-loop
 split-split-requires t c κs =
     let o = c .before .before .before .before .before .before .before .before .before .before .before .before .before .before .before in
-    let s = c .before .before .before .before .settle .ensures in
-    let h : c .before .before .before .before .settle .result .at < o .args .size = omega arith in (
+    let s = c .before .before .before .before .skip-decided .ensures in
+    let h : c .before .before .before .before .skip-decided .result .at < o .args .size = omega arith in (
       omega (arith, s .0 .upto, o .pre .0, o .pre .1 .1 .0 .0),
       (o .pre .1 .0, ((h, s .1 h), (s .0 .carried, held-own _ _ _ _ (c .before .before .before .before .before .before .before .before .loop .inv .1 .held)))),
     )
@@ -131,7 +131,7 @@ split-same-length-2 t c =
 split-returns : (t : ℕ) → split-lts.Need-returns (claims t) (split-at t) split.Post split-Inv-loop split-μ-loop
 split-returns t c =
     let s = c .before .before .before .before .before .before .before .before .before .before .before in
-    going-full _ _ _ _ _ _ _ _ _ _ _ _ _ (s .before .before .before .before .loop .inv .1) (turned t s _ refl) (settles-puts _ _ _ _ (s .settle .ensures .0) _ _ _ _ _ _ (c .before .before .before .before .before .before .split .ensures)) (c .enum-told .given .1)
+    going-full _ _ _ _ _ _ _ _ _ _ _ _ _ (s .before .before .before .before .loop .inv .1) (turned t s _ refl) (settles-puts _ _ _ _ (s .skip-decided .ensures .0) _ _ _ _ _ _ (c .before .before .before .before .before .before .split .ensures)) (c .enum-told .given .1)
 
 split-replace-requires : (t : ℕ) → split-lts.Need-replace-requires (claims t) (split-at t) split.Post split-Inv-loop split-μ-loop
 split-replace-requires t c κs = search needs
@@ -159,7 +159,7 @@ split-returns-2 t c =
     let s = c .before .before .before .before .before .before .before .before .before .before .before .before in
     let a = s .before .before .before .before .before .before .before .before .before .before .before .args in
     going-full _ _ _ _ _ _ _ _ _ _ _ _ _ (s .before .before .before .before .loop .inv .1) (turned t s _ refl)
-    (settles-leaf _ _ _ _ (s .settle .ensures .0) (effects-end (a .size) (a .effects .now) (s .settle .result .at) (omega (arith, c .before .before .before .before .before .before .before .before .before .before .if1 .left))) _ (c .before .before .before .before .before .before .before .replace .ensures) _ _ _ _ _ _ (c .before .before .before .before .before .before .offer-by-newest .ensures)) (c .enum-told2 .given .1)
+    (settles-leaf _ _ _ _ (s .skip-decided .ensures .0) (effects-end (a .size) (a .effects .now) (s .skip-decided .result .at) (omega (arith, c .before .before .before .before .before .before .before .before .before .before .if1 .left))) _ (c .before .before .before .before .before .before .before .replace .ensures) _ _ _ _ _ _ (c .before .before .before .before .before .before .offer-by-newest .ensures)) (c .enum-told2 .given .1)
 
 split-next-requires : (t : ℕ) → split-lts.Need-next-requires (claims t) (split-at t) split.Post split-Inv-loop split-μ-loop
 split-next-requires t c κs = search needs
@@ -180,10 +180,10 @@ split-loop-again t c =
       turn-on _ (v .t) _ (c .next .ensures),
       ⊎-elim
           (λ x. going-at _ _ _ _ _ _ _ _ _ _ _ (x .13) (x .11) (x .12)
-          (going-on _ _ _ _ _ _ _ _ _ _ _ _ _ (v .inv .1) (turned t s _ (c .next .ensures)) (settles-puts _ _ _ _ (s .settle .ensures .0) _ _ _ _ _ _ (x .3 .ensures)) _ (x .9 .given .1)))
+          (going-on _ _ _ _ _ _ _ _ _ _ _ _ _ (v .inv .1) (turned t s _ (c .next .ensures)) (settles-puts _ _ _ _ (s .skip-decided .ensures .0) _ _ _ _ _ _ (x .3 .ensures)) _ (x .9 .given .1)))
           (λ x. going-at _ _ _ _ _ _ _ _ _ _ _ (x .14) (x .12) (x .13)
           (going-on _ _ _ _ _ _ _ _ _ _ _ _ _ (v .inv .1) (turned t s _ (c .next .ensures))
-          (settles-leaf _ _ _ _ (s .settle .ensures .0) (effects-end (a .size) (a .effects .now) (s .settle .result .at) (omega (arith, x .0 .left))) _ (x .3 .ensures) _ _ _ _ _ _ (x .4 .ensures)) _ (x .10 .given .1)))
+          (settles-leaf _ _ _ _ (s .skip-decided .ensures .0) (effects-end (a .size) (a .effects .now) (s .skip-decided .result .at) (omega (arith, x .0 .left))) _ (x .3 .ensures) _ _ _ _ _ _ (x .4 .ensures)) _ (x .10 .given .1)))
           (c .before .if1 .came),
     )
 
@@ -208,7 +208,7 @@ pub +split-spec : {M : Type 1} → statement M
     (split-loop-holds t)
     (split-part-requires t)
     (split-carried-requires t)
-    (split-settle-requires t)
+    (split-skip-decided-requires t)
     (split-split-requires t)
     (split-enum-known-m t)
     (split-enum-told t)

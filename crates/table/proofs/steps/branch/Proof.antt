@@ -2,19 +2,19 @@
 use Prim.Native.Nat.{_<_}
 use native.Mathlib.Omega.{arith}
 use Rattle.table.proofs.Carrying.{carried-start, settles-puts, settles-leaf}
-use Rattle.sheet.proofs.RowLaws.{effects-end}
+use Rattle.sheet.proofs.PackedLaws.{effects-end}
 use borrow.Author.Needs.{needs}
 use Rattle.table.proofs.steps.branch.Statement.{statement}
 use Rattle.table.proofs.steps.branch.Tie as tie
 
-settle-requires : tie.Need-settle-requires
-settle-requires c κs = let o = c .before .before .before in (o .pre .0, carried-start _ _ (o .pre .1 .0 .0) (o .pre .1 .0 .1))
+skip-decided-requires : tie.Need-skip-decided-requires
+skip-decided-requires c κs = let o = c .before .before .before in (o .pre .0, carried-start _ _ (o .pre .1 .0 .0) (o .pre .1 .0 .1))
 
 split-requires : tie.Need-split-requires
 split-requires c κs =
     let o = c .before .before .before .before .before .before .before .before in
-    let s = c .before .before .before .before .settle .ensures in
-    let h : c .before .before .before .before .settle .result .at < o .args .size = omega arith in
+    let s = c .before .before .before .before .skip-decided .ensures in
+    let h : c .before .before .before .before .skip-decided .result .at < o .args .size = omega arith in
     (o .pre .0, ((h, s .1 h), (s .0 .carried, o .pre .1 .1)))
 
 same-length : tie.Need-same-length
@@ -24,7 +24,7 @@ same-length-2 : tie.Need-same-length-2
 same-length-2 c = search needs
 
 returns : tie.Need-returns
-returns c = settles-puts _ 0 _ _ (c .before .before .before .before .before .before .before .before .before .settle .ensures .0) _ _ _ _ _ _ (c .before .before .before .before .split .ensures)
+returns c = settles-puts _ 0 _ _ (c .before .before .before .before .before .before .before .before .before .skip-decided .ensures .0) _ _ _ _ _ _ (c .before .before .before .before .split .ensures)
 
 replace-requires : tie.Need-replace-requires
 replace-requires c κs = search needs
@@ -41,14 +41,14 @@ same-length-4 c = search needs
 returns-2 : tie.Need-returns-2
 returns-2 c =
     let a = c .before .before .before .before .before .before .before .before .before .before .before .before .before .before .args in
-    let s = c .before .before .before .before .before .before .before .before .before .before .settle in
+    let s = c .before .before .before .before .before .before .before .before .before .before .skip-decided in
     settles-leaf _ 0 _ _ (s .ensures .0) (effects-end (a .size) (a .effects .now) (s .result .at) (omega (arith, c .before .before .before .before .before .before .before .before .if1 .left))) _ (c .before .before .before .before .before .replace .ensures) _ _ _ _ _ _ (c .before .before .before .before .offer .ensures)
 
 pub branch-spec : {M : Type 1} → statement M
 branch-spec =
     tie.close
     (tie.spec
-    settle-requires
+    skip-decided-requires
     split-requires
     same-length
     same-length-2

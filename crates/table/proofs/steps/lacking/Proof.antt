@@ -5,15 +5,15 @@ use native.Mathlib.Omega.{arith}
 use lib.Bits.{bitAnd}
 use Rattle.sheet.specs.declared.Literals.{Literals}
 use Rattle.sheet.proofs.Bits.{and-not}
-use Rattle.table.specs.Carry.{lacks}
+use Rattle.table.specs.Carry.{minus}
 use Rattle.table.proofs.steps.lacking.Statement.{statement}
 use Rattle.table.proofs.steps.lacking.Tie as tie
 
 lacked : (a b : Literals) → a .trues < 2 ^ 32 → a .falses < 2 ^ 32 → b .trues < 2 ^ 32 → b .falses < 2 ^ 32
     → _≡_ {A = Literals}
     (record { trues = bitAnd (a .trues) ((2 ^ 32 - 1) - b .trues); falses = bitAnd (a .falses) ((2 ^ 32 - 1) - b .falses) })
-    (lacks a b)
-unfolding lacks
+    (minus a b)
+unfolding minus
 lacked a b ht hf bt bf = rw (and-not 32 (a .trues) (b .trues) ht bt, and-not 32 (a .falses) (b .falses) hf bf)
 
 returns : tie.Need-returns

@@ -9,8 +9,8 @@ use Rattle.table.specs.Step.{stepTable}
 use Rattle.table.specs.Slots.{entriesOf}
 use Rattle.table.specs.Moves.{Fits, lent}
 use Rattle.table.specs.Calls.{orGiven}
-use Rattle.sheet.specs.Rows.{countIn}
-use Rattle.sheet.proofs.RowLaws.{row-lent}
+use Rattle.sheet.specs.Packed.{countIn}
+use Rattle.sheet.proofs.PackedLaws.{item-lent}
 use Rattle.table.proofs.Advancing.{action-is}
 use Rattle.table.proofs.steps.step_at.Statement.{statement}
 use Rattle.table.proofs.steps.step_at.Tie as tie
@@ -56,7 +56,7 @@ step-into-requires c κs =
     let z = c .before .before .before .before .before .before .before .before .before .before .before .before in
     let xs = z .args .moves .now in
     let m = z .args .m in
-    let r = row-lent 35 m xs in
+    let r = item-lent 35 m xs in
     let w = c .before .before .wide .ensures in
     let a = action-is xs m _ _ _ r (c .before .before .before .before .before .set-from .ensures) w in (
       simp (length-take, length-drop) (omega (arith, z .pre .0, w ∙ ap countIn r)),
@@ -77,7 +77,7 @@ returns c =
     let xs = z .args .moves .now in
     c .before .before .before .before .step-into .ensures
     ∙ ap (λ (x : Action). orGiven t (stepTable 128 x (entriesOf (z .args .n) (now (z .args .ts)) (now (z .args .fs)))))
-    (action-is xs m _ _ _ (row-lent 35 m xs) (c .before .before .before .before .before .before .before .before .before .before .set-from .ensures) (c .before .before .before .before .before .before .before .wide .ensures))
+    (action-is xs m _ _ _ (item-lent 35 m xs) (c .before .before .before .before .before .before .before .before .before .before .set-from .ensures) (c .before .before .before .before .before .before .before .wide .ensures))
 
 pub step-at-spec : {M : Type 1} → statement M
 step-at-spec =

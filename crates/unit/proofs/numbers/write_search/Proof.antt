@@ -4,13 +4,13 @@ use mathlib.Core.List.{_++_}
 use Prim.Native.Nat.{ℕ}
 use lib.ListN.{length, drop}
 use borrow.Author.Needs.{needs}
-use Rattle.unit.specs.declared.Told.{Told}
+use Rattle.unit.specs.declared.Reply.{Reply}
 use Rattle.unit.specs.Numbers.{infoOf}
 use Rattle.unit.proofs.numbers.write_search.Statement.{statement}
 use Rattle.unit.proofs.numbers.write_search.Tie as tie
 
-told-kind-requires : tie.Need-told-kind-requires
-told-kind-requires c κs = search needs
+kind-reply-requires : tie.Need-kind-reply-requires
+kind-reply-requires c κs = search needs
 
 copy-bytes-requires : tie.Need-copy-bytes-requires
 copy-bytes-requires c κs = search needs
@@ -28,15 +28,15 @@ returns : tie.Need-returns
 returns c =
     let k = c .before .before .before .before .before .before .before .before .before .before .before in
     let a = k .before .before .before .args in
-    let told = k .told-kind .ensures in
+    let told = k .kind-reply .ensures in
     let n : length (a .t3 .plan) ≡ 8 = search needs in
-    (ap (λ (x : Told). x .answer) told, (c .before .before .before .before .before .before .copy-bytes .ensures ∙ ap (λ (i : ℕ). a .t3 .plan ++ drop i (a .plan .now)) n, c .before .before .write-info .ensures ∙ ap (λ (x : Told). infoOf x (a .info .now)) told))
+    (ap (λ (x : Reply). x .answer) told, (c .before .before .before .before .before .before .copy-bytes .ensures ∙ ap (λ (i : ℕ). a .t3 .plan ++ drop i (a .plan .now)) n, c .before .before .write-info .ensures ∙ ap (λ (x : Reply). infoOf x (a .info .now)) told))
 
 pub write-search-spec : {M : Type 1} → statement M
 write-search-spec =
     tie.close
     (tie.spec
-    told-kind-requires
+    kind-reply-requires
     copy-bytes-requires
     write-info-requires
     same-length

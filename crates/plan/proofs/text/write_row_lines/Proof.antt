@@ -1,0 +1,77 @@
+-- `text::write_rows` meets its contract. The invariant: the rows below i are written. Assumes nothing.
+use mathlib.Core.Path.{_≡_, refl, subst, _∙_}
+use Prim.Native.Nat.{ℕ, _+_, _*_, _-_, _≤_}
+use native.Mathlib.Omega.{arith}
+use lib.ListN.{length}
+use borrow.Author.Needs.{needs}
+use Rattle.plan.specs.Rows.{rowsBelow}
+use Rattle.plan.specs.Text.{rowsText, Wrote}
+use Rattle.plan.proofs.Texts.{wrote-no-rows, wrote-row}
+use Rattle.plan.proofs.text.write_row_lines.Statement.{statement}
+use Rattle.plan.proofs.text.write_row_lines.Tie as tie
+
+abbrev Inv-loop : tie.InvT-loop
+Inv-loop out₀ at counts count next₀ i₀ out next i =
+    (i ≤ count) × (next ≤ at + 63 * i) × (length out ≡ length out₀) × Wrote out₀ at (rowsText (rowsBelow counts i)) next out
+
+abbrev μ-loop : tie.MeasureT-loop
+μ-loop out₀ at counts count next₀ i₀ out next i = count - i
+
+loop-holds : tie.Need-loop-holds Inv-loop μ-loop
+loop-holds c = (omega arith, omega arith, refl, wrote-no-rows (c .before .args .t3) _ _)
+
+mul-t10 : tie.Need-mul-t10 Inv-loop μ-loop
+mul-t10 c = search needs
+
+element-copy-out-t13 : tie.Need-element-copy-out-t13 Inv-loop μ-loop
+element-copy-out-t13 c = search needs
+
+mul-t14 : tie.Need-mul-t14 Inv-loop μ-loop
+mul-t14 c = search needs
+
+element-copy-out-t17 : tie.Need-element-copy-out-t17 Inv-loop μ-loop
+element-copy-out-t17 c = search needs
+
+write-row-line-requires : tie.Need-write-row-line-requires Inv-loop μ-loop
+write-row-line-requires c κs = omega arith
+
+add-i : tie.Need-add-i Inv-loop μ-loop
+add-i c = omega arith
+
+loop-less : tie.Need-loop-less Inv-loop μ-loop
+loop-less c = omega arith
+
+loop-again : tie.Need-loop-again Inv-loop μ-loop
+loop-again c =
+    let o = c .before .before .before .before .before .before .before in
+    let a = o .before .before .args in
+    let w = c .before .before .write-row-line in
+    (omega arith, omega arith, w .kept .0 ∙ o .loop .inv .2, wrote-row (a .t3) (o .loop .i) (o .loop .inv .3) (omega arith) (w .ensures .0))
+
+same-length : tie.Need-same-length Inv-loop μ-loop
+same-length c = c .before .loop .inv .2
+
+returns : tie.Need-returns Inv-loop μ-loop
+returns c =
+    let a = c .before .before .before .args in
+    let l = c .before .loop in
+    let whole : l .i ≡ a .t3 .count = omega arith in
+    (subst (λ (k : ℕ). Wrote (a .out .now) (a .at) (rowsText (rowsBelow (a .t3) k)) (l .next) (l .out)) whole (l .inv .3), omega arith)
+
+pub write-row-lines-spec : {M : Type 1} → statement M
+write-row-lines-spec =
+    tie.close
+    (tie.spec
+    Inv-loop
+    μ-loop
+    loop-holds
+    mul-t10
+    element-copy-out-t13
+    mul-t14
+    element-copy-out-t17
+    write-row-line-requires
+    add-i
+    loop-less
+    loop-again
+    same-length
+    returns)

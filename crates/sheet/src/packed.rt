@@ -1,0 +1,55 @@
+// Sets, effects and moves as numbers in rows that can be lent: lists of sets in 17 numbers, moves in 35 (specs/Rows).
+use crate::Effect;
+use crate::Literals;
+ghost use mathlib.Core.Path.{_≡_};
+ghost use mathlib.Core.List.{_++_};
+ghost use Prim.Native.Nat.{_≤_, _+_, _*_};
+ghost use lib.ListN.{length, take, drop, getD};
+ghost use Rattle.sheet.specs.Packed as R;
+
+// The set whose two masks stand from number i on.
+pub fn set_from<'a>(row: &'a [u32], i: usize) -> Literals
+    requires { ⌜ i + 2 ≤ length (now row) ⌝ }
+    ensures { λ r. ⌜ r ≡ R.setFrom (now (row .entry)) i ⌝ }
+{
+    Literals {
+        trues: row[i],
+        falses: row[i + 1],
+    }
+}
+
+// The four masks of an effect from `at` on. The others are kept.
+pub(crate) fn write_effect(effects: &mut [u32], at: usize, e: Effect)
+    requires { ⌜ at + 4 ≤ length (now effects) ⌝ }
+    ensures { λ r. ⌜ now (effects .exit) ≡ take at (now (effects .entry)) ++ (R.masksOf e ++ drop (at + 4) (now (effects .entry))) ⌝ }
+{
+    let condition = e.condition;
+    let result = e.result;
+    effects[at] = condition.trues;
+    effects[at + 1] = condition.falses;
+    effects[at + 2] = result.trues;
+    effects[at + 3] = result.falses;
+}
+
+// A number as a count.
+pub fn wide(x: u32) -> usize
+    ensures { λ r. ⌜ r ≡ x ⌝ }
+{
+    x as usize
+}
+
+// How many sets a row of 17 numbers has.
+pub fn count_of<'a>(row: &'a [u32]) -> usize
+    requires { ⌜ 1 ≤ length (now row) ⌝ }
+    ensures { λ r. ⌜ r ≡ getD (now (row .entry)) 0 0 ⌝ }
+{
+    wide(row[0])
+}
+
+// The set of number i in such a row.
+pub fn set_at<'a>(row: &'a [u32], i: usize) -> Literals
+    requires { ⌜ 2 * i + 3 ≤ length (now row) ⌝ }
+    ensures { λ r. ⌜ r ≡ R.setFrom (drop 1 (now (row .entry))) (2 * i) ⌝ }
+{
+    set_from(row, 2 * i + 1)
+}

@@ -1,0 +1,104 @@
+-- `clauses::join_lists` meets its contract. The invariant: the clauses from i on are still to be joined. Assumes nothing.
+use mathlib.Core.Path.{refl, sym, _∙_}
+use Prim.Native.Nat.{_≤_, _-_}
+use native.Mathlib.Omega.{arith}
+use lib.ListN.{drop}
+use Rattle.table.specs.Picture.{unions}
+use Rattle.table.specs.Slots.{entriesOf}
+use Rattle.table.proofs.Pads.{holds-trues-long, holds-falses-long, held-own}
+use Rattle.table.proofs.Growing.{Going, going-start, going-on, going-full, going-end}
+use Rattle.table.proofs.Joining.{unions-step, unions-end}
+use borrow.Author.Needs.{needs}
+use Rattle.table.proofs.picture_clauses.join_lists.Statement.{statement}
+use Rattle.table.proofs.picture_clauses.join_lists.Tie as tie
+
+abbrev Inv-loop : tie.InvT-loop
+Inv-loop ts fs n us vs m trues₀ falses₀ count₀ i₀ trues falses count i =
+    (i ≤ n)
+    × Going (unions (entriesOf n ts fs) (entriesOf m us vs)) 0 trues₀ falses₀ (unions (drop i (entriesOf n ts fs)) (entriesOf m us vs)) count trues falses
+
+abbrev μ-loop : tie.MeasureT-loop
+μ-loop ts fs n us vs m trues₀ falses₀ count₀ i₀ trues falses count i = n - i
+
+loop-holds : tie.Need-loop-holds Inv-loop μ-loop
+loop-holds c = (omega arith, going-start _ _ _ _ _ refl (c .before .before .before .before .before .before .pre .1 .1))
+
+mul-t14 : tie.Need-mul-t14 Inv-loop μ-loop
+mul-t14 c = omega arith
+
+shared-slice-read-t16 : tie.Need-shared-slice-read-t16 Inv-loop μ-loop
+shared-slice-read-t16 c = omega arith
+
+mul-t17 : tie.Need-mul-t17 Inv-loop μ-loop
+mul-t17 c = omega arith
+
+shared-slice-read-t19 : tie.Need-shared-slice-read-t19 Inv-loop μ-loop
+shared-slice-read-t19 c = omega arith
+
+distribute-requires : tie.Need-distribute-requires Inv-loop μ-loop
+distribute-requires c κs =
+    (c .before .before .before .before .before .before .before .before .before .before .before .before .pre .1 .0, held-own _ _ _ _ (c .before .before .before .before .before .loop .inv .1 .held))
+
+enum-known-k : tie.Need-enum-known-k Inv-loop μ-loop
+enum-known-k c = search needs
+
+enum-told : tie.Need-enum-told Inv-loop μ-loop
+enum-told c = search needs
+
+same-length : tie.Need-same-length Inv-loop μ-loop
+same-length c =
+    c .before .before .before .before .before .before .distribute .kept .1 .1 .1 .1 .0 ∙ holds-trues-long _ _ _ _ _ (c .before .before .before .before .before .before .before .before .before .before .before .before .loop .inv .1 .held)
+
+same-length-2 : tie.Need-same-length-2 Inv-loop μ-loop
+same-length-2 c =
+    c .before .before .before .before .before .before .distribute .kept .1 .1 .1 .1 .1 .0 ∙ holds-falses-long _ _ _ _ _ (c .before .before .before .before .before .before .before .before .before .before .before .before .loop .inv .1 .held) ∙ sym (holds-falses-long _ _ _ _ _ (c .before .before .before .before .before .before .before .before .before .before .before .before .before .before .before .before .before .before .before .pre .1 .1))
+
+returns : tie.Need-returns Inv-loop μ-loop
+returns c =
+    going-full _ _ _ _ _ _ _ _ _ _ _ _ _ (c .before .before .before .before .before .before .before .before .before .before .before .before .loop .inv .1) (unions-step _ _ _ _ _ (c .before .before .before .before .before .before .before .before .before .before .before .loop-test .taken)) (c .before .before .before .before .before .before .distribute .ensures) (c .enum-told .given .1)
+
+add-i : tie.Need-add-i Inv-loop μ-loop
+add-i c = omega arith
+
+loop-less : tie.Need-loop-less Inv-loop μ-loop
+loop-less c = omega arith
+
+loop-again : tie.Need-loop-again Inv-loop μ-loop
+loop-again c = (
+  omega (arith, c .before .before .before .before .before .before .before .before .before .before .before .before .loop-test .taken),
+  going-on _ _ _ _ _ _ _ _ _ _ _ _ _ (c .before .before .before .before .before .before .before .before .before .before .before .before .before .loop .inv .1) (unions-step _ _ _ _ _ (c .before .before .before .before .before .before .before .before .before .before .before .before .loop-test .taken)) (c .before .before .before .before .before .before .before .distribute .ensures) _ (c .before .k .given .1),
+)
+
+same-length-3 : tie.Need-same-length-3 Inv-loop μ-loop
+same-length-3 c = holds-trues-long _ _ _ _ _ (c .before .loop .inv .1 .held)
+
+same-length-4 : tie.Need-same-length-4 Inv-loop μ-loop
+same-length-4 c =
+    holds-falses-long _ _ _ _ _ (c .before .loop .inv .1 .held) ∙ sym (holds-falses-long _ _ _ _ _ (c .before .before .before .before .before .before .before .before .pre .1 .1))
+
+returns-2 : tie.Need-returns-2 Inv-loop μ-loop
+returns-2 c = going-end _ _ _ _ _ _ _ _ (c .before .loop .inv .1) (unions-end _ _ _ _ _ (c .loop-test .left))
+
+pub join-lists-spec : {M : Type 1} → statement M
+join-lists-spec =
+    tie.close
+    (tie.spec
+    Inv-loop
+    μ-loop
+    loop-holds
+    mul-t14
+    shared-slice-read-t16
+    mul-t17
+    shared-slice-read-t19
+    distribute-requires
+    enum-known-k
+    enum-told
+    same-length
+    same-length-2
+    returns
+    add-i
+    loop-less
+    loop-again
+    same-length-3
+    same-length-4
+    returns-2)

@@ -1,0 +1,87 @@
+-- `clauses::units` meets its contract. The invariant: the literals before l stand in the slots. Assumes nothing.
+use mathlib.Core.Path.{sym, _∙_}
+use Prim.Native.Nat.{_-_}
+use native.Mathlib.Omega.{arith}
+use lib.ListN.{length}
+use Rattle.table.proofs.Pads.{holds-falses-long}
+use Rattle.table.proofs.Firsts.{Listed, listed-start, listed-on, listed-less, listed-end}
+use borrow.Author.Needs.{needs}
+use Rattle.table.proofs.picture_clauses.units.Statement.{statement}
+use Rattle.table.proofs.picture_clauses.units.Tie as tie
+
+abbrev Inv-loop : tie.InvT-loop
+Inv-loop e trues₀ falses₀ n₀ l₀ trues falses n l =
+    Listed (length trues₀) e l n trues falses
+
+abbrev μ-loop : tie.MeasureT-loop
+μ-loop e trues₀ falses₀ n₀ l₀ trues falses n l = 64 - l
+
+next-requires : tie.Need-next-requires Inv-loop μ-loop
+next-requires c κs = search needs
+
+loop-holds : tie.Need-loop-holds Inv-loop μ-loop
+loop-holds c = listed-start _ _ _ _ _ (c .before .before .before .pre .0) (c .next .ensures)
+
+literal-requires : tie.Need-literal-requires Inv-loop μ-loop
+literal-requires c κs = search needs
+
+mul-trues : tie.Need-mul-trues Inv-loop μ-loop
+mul-trues c = omega arith
+
+slice-write-trues : tie.Need-slice-write-trues Inv-loop μ-loop
+slice-write-trues c = omega arith
+
+mul-falses : tie.Need-mul-falses Inv-loop μ-loop
+mul-falses c = omega arith
+
+slice-write-falses : tie.Need-slice-write-falses Inv-loop μ-loop
+slice-write-falses c =
+    omega (arith, c .before .before .loop .inv .few, c .before .before .loop .inv .falses-long, c .before .before .before .before .before .before .pre .1, c .before .loop-test .taken)
+
+add-n : tie.Need-add-n Inv-loop μ-loop
+add-n c = omega arith
+
+add-next : tie.Need-add-next Inv-loop μ-loop
+add-next c = omega arith
+
+next-requires-2 : tie.Need-next-requires-2 Inv-loop μ-loop
+next-requires-2 c κs = search needs
+
+loop-less : tie.Need-loop-less Inv-loop μ-loop
+loop-less c = listed-less _ _ _ (c .before .before .loop-test .taken) (c .next2 .ensures)
+
+loop-again : tie.Need-loop-again Inv-loop μ-loop
+loop-again c =
+    listed-on _ _ _ _ _ _ (c .before .before .before .loop .inv) (c .before .before .loop-test .taken) (c .before .before .before .before .before .before .before .pre .1) _ (c .before .literal .ensures) _ (c .next2 .ensures)
+
+same-length : tie.Need-same-length Inv-loop μ-loop
+same-length c = c .before .loop .inv .trues-long
+
+same-length-2 : tie.Need-same-length-2 Inv-loop μ-loop
+same-length-2 c =
+    c .before .loop .inv .falses-long ∙ sym (holds-falses-long _ _ _ _ _ (c .before .before .before .before .before .pre .0))
+
+returns : tie.Need-returns Inv-loop μ-loop
+returns c = listed-end _ _ _ _ _ _ (c .before .loop .inv) (c .loop-test .left)
+
+pub units-spec : {M : Type 1} → statement M
+units-spec =
+    tie.close
+    (tie.spec
+    Inv-loop
+    μ-loop
+    next-requires
+    loop-holds
+    literal-requires
+    mul-trues
+    slice-write-trues
+    mul-falses
+    slice-write-falses
+    add-n
+    add-next
+    next-requires-2
+    loop-less
+    loop-again
+    same-length
+    same-length-2
+    returns)

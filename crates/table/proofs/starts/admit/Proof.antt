@@ -1,0 +1,30 @@
+-- `first::admit` meets its contract. Assumes nothing.
+use mathlib.Core.Path.{sym, _∙_}
+use borrow.Author.Needs.{needs}
+use Rattle.table.proofs.Growing.{nothing-put, puts-is}
+use Rattle.table.proofs.Choosing.{kept-one, left-out}
+use Rattle.table.proofs.starts.admit.Statement.{statement}
+use Rattle.table.proofs.starts.admit.Tie as tie
+
+consistent-requires : tie.Need-consistent-requires
+consistent-requires c κs = search needs
+
+offer-requires : tie.Need-offer-requires
+offer-requires c κs = search needs
+
+same-length : tie.Need-same-length
+same-length c = search needs
+
+same-length-2 : tie.Need-same-length-2
+same-length-2 c = search needs
+
+returns : tie.Need-returns
+returns c = puts-is _ _ _ _ _ _ _ _ (sym (kept-one _ (sym (c .before .before .before .before .before .before .before .before .consistent .ensures) ∙ c .before .before .before .before .before .before .before .if1 .taken))) (c .before .before .before .before .offer .ensures)
+
+returns-2 : tie.Need-returns-2
+returns-2 c = nothing-put _ _ _ _ (left-out _ (sym (c .before .consistent .ensures) ∙ c .if1 .left)) (c .before .before .before .before .pre)
+
+pub admit-spec : {M : Type 1} → statement M
+admit-spec =
+    tie.close
+    (tie.spec consistent-requires offer-requires same-length same-length-2 returns returns-2)

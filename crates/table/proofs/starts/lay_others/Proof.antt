@@ -1,0 +1,97 @@
+-- `table::starts::lay_others` meets its contract. The invariant: the others below j are laid out. Assumes nothing.
+use mathlib.Core.Path.{_≡_, refl, sym, _∙_}
+use mathlib.Core.Logic.{⊎-elim}
+use Prim.Native.Nat.{_≤_, _-_}
+use native.Mathlib.Omega.{arith}
+use borrow.Author.Needs.{needs}
+use lib.ListN.{length, length-set}
+use Rattle.sheet.specs.Packed.{setsIn}
+use Rattle.table.proofs.PackedClauses.{alts-step, alts-end}
+use Rattle.table.proofs.Choosing.{Laying, laying-start, laying-one, laying-none, laying-end}
+use Rattle.table.proofs.starts.lay_others.Statement.{statement}
+use Rattle.table.proofs.starts.lay_others.Tie as tie
+
+abbrev Inv-loop : tie.InvT-loop
+Inv-loop alts i row₀ count k₀ j₀ row k j = (j ≤ count) × (length row ≡ 16) × Laying (setsIn alts) i j k row
+
+abbrev μ-loop : tie.MeasureT-loop
+μ-loop alts i row₀ count k₀ j₀ row k j = count - j
+
+count-of-requires : tie.Need-count-of-requires Inv-loop μ-loop
+count-of-requires c κs = search needs
+
+loop-holds : tie.Need-loop-holds Inv-loop μ-loop
+loop-holds c = (omega arith, c .before .before .before .pre .1, laying-start _ _ _)
+
+set-at-requires : tie.Need-set-at-requires Inv-loop μ-loop
+set-at-requires c κs = omega arith
+
+mul-row : tie.Need-mul-row Inv-loop μ-loop
+mul-row c = omega arith
+
+mul-row-2 : tie.Need-mul-row-2 Inv-loop μ-loop
+mul-row-2 c = omega arith
+
+slice-write-row : tie.Need-slice-write-row Inv-loop μ-loop
+slice-write-row c = omega arith
+
+mul-row-3 : tie.Need-mul-row-3 Inv-loop μ-loop
+mul-row-3 c = omega arith
+
+add-row : tie.Need-add-row Inv-loop μ-loop
+add-row c = omega arith
+
+mul-row-4 : tie.Need-mul-row-4 Inv-loop μ-loop
+mul-row-4 c = omega arith
+
+slice-write-row-2 : tie.Need-slice-write-row-2 Inv-loop μ-loop
+slice-write-row-2 c = simp length-set (omega arith)
+
+add-k : tie.Need-add-k Inv-loop μ-loop
+add-k c = omega arith
+
+add-j : tie.Need-add-j Inv-loop μ-loop
+add-j c = omega arith
+
+loop-less : tie.Need-loop-less Inv-loop μ-loop
+loop-less c = omega arith
+
+loop-again : tie.Need-loop-again Inv-loop μ-loop
+loop-again c =
+    let alts = c .before .before .before .before .before .before .args .alts .now in
+    let j = c .before .before .loop .j in
+    let w = c .before .before .loop .inv in
+    let e = c .before .before .before .count-of .ensures in
+    ⊎-elim (λ v. rw (v .2, v .3) (omega arith, simp length-set (w .1), laying-one _ _ _ _ _ _ (w .2) (alts-step alts j _ e _ (c .before .loop-test .taken) (v .1 .ensures)) (v .0 .taken) (omega (arith, w .2 .few))))
+    (λ v. rw (v .1, v .2) (omega arith, w .1, laying-none _ _ _ _ _ _ (w .2) (alts-step alts j _ e _ (c .before .loop-test .taken) refl) (v .0 .left))) (c .if1 .came)
+
+same-length : tie.Need-same-length Inv-loop μ-loop
+same-length c = c .before .loop .inv .1 ∙ sym (c .before .before .before .before .before .pre .1)
+
+returns : tie.Need-returns Inv-loop μ-loop
+returns c =
+    let w = c .before .loop .inv in
+    (omega (arith, w .2 .few), laying-end _ _ _ _ _ (w .2) (alts-end _ _ _ (c .before .before .count-of .ensures) (c .loop-test .left)))
+
+pub lay-others-spec : {M : Type 1} → statement M
+lay-others-spec =
+    tie.close
+    (tie.spec
+    Inv-loop
+    μ-loop
+    count-of-requires
+    loop-holds
+    set-at-requires
+    mul-row
+    mul-row-2
+    slice-write-row
+    mul-row-3
+    add-row
+    mul-row-4
+    slice-write-row-2
+    add-k
+    add-j
+    loop-less
+    loop-again
+    same-length
+    returns)

@@ -1,0 +1,72 @@
+-- `table::starts::widen_one` meets its contract. Assumes nothing.
+use mathlib.Core.Path.{_≡_, sym, ap, ap₂, _∙_}
+use mathlib.Core.List.{List}
+use Prim.Native.Nat.{ℕ, _<_, _*_}
+use lib.ListN.{getD, drop}
+use borrow.Author.Tests.{not-true, not-false}
+use Rattle.sheet.specs.declared.Literals.{Literals}
+use Rattle.sheet.specs.Literals as L
+use Rattle.sheet.specs.Lists.{keep}
+use Rattle.sheet.specs.Packed.{setFrom, setsIn}
+use Rattle.table.specs.Start.{falsify}
+use Rattle.table.specs.Reads.{others}
+use Rattle.table.proofs.PackedClauses.{alt-at}
+use Rattle.table.proofs.Growing.{nothing-put, puts-is}
+use Rattle.table.proofs.Choosing.{cut}
+use borrow.Author.Needs.{needs}
+use Rattle.table.proofs.starts.widen_one.Statement.{statement}
+use Rattle.table.proofs.starts.widen_one.Tie as tie
+
+-- the alternative is read in its slot
+picked : (row : List ℕ) (i : ℕ) (d a w : Literals) → i < getD row 0 0 → a ≡ setFrom (drop 1 row) (2 * i) → w ≡ L.join d a → w ≡ L.join d (getD (setsIn row) i L.noLiteral)
+picked row i d a w h q e = e ∙ ap (L.join d) (sym (alt-at row i a h q))
+
+set-at-requires : tie.Need-set-at-requires
+set-at-requires c κs = search needs
+
+join-requires : tie.Need-join-requires
+join-requires c κs = search needs
+
+consistent-requires : tie.Need-consistent-requires
+consistent-requires c κs = search needs
+
+returns : tie.Need-returns
+returns c =
+    let s = c .before .before .before .before .before .before .before in
+    let e = picked _ _ _ _ _ (s .pre .0 .1) (c .before .before .before .set-at .ensures) (c .before .before .join .ensures) in
+    nothing-put _ _ _ _ (cut (others (s .args .i) 0 (setsIn (s .args .alts .now))) _ (ap L.consistent (sym e) ∙ sym (c .before .consistent .ensures) ∙ not-true _ (c .if1 .taken))) (s .pre .1)
+
+slice-aggregate-lay-others : tie.Need-slice-aggregate-lay-others
+slice-aggregate-lay-others c = search needs
+
+lay-others-requires : tie.Need-lay-others-requires
+lay-others-requires c κs = search needs
+
+choose-requires : tie.Need-choose-requires
+choose-requires c κs = (c .before .before .before .before .lay-others .ensures .0, (sym (c .before .before .before .before .before .before .before .consistent .ensures) ∙ not-false _ (c .before .before .before .before .before .before .if1 .left), c .before .before .before .before .before .before .before .before .before .before .before .before .before .pre .1))
+
+same-length : tie.Need-same-length
+same-length c = search needs
+
+same-length-2 : tie.Need-same-length-2
+same-length-2 c = search needs
+
+returns-2 : tie.Need-returns-2
+returns-2 c =
+    let e = picked _ _ _ _ _ (c .before .before .before .before .before .before .before .before .before .before .before .before .before .before .before .before .before .before .pre .0 .1) (c .before .before .before .before .before .before .before .before .before .before .before .before .before .before .set-at .ensures) (c .before .before .before .before .before .before .before .before .before .before .before .before .before .join .ensures) in
+    puts-is _ _ _ _ _ _ _ _ (ap₂ (λ (x : List Literals) (d : Literals). keep L.consistent (falsify x d)) (c .before .before .before .before .before .before .before .before .before .lay-others .ensures .1) e) (c .before .before .before .before .choose .ensures)
+
+pub widen-one-spec : {M : Type 1} → statement M
+widen-one-spec =
+    tie.close
+    (tie.spec
+    set-at-requires
+    join-requires
+    consistent-requires
+    returns
+    slice-aggregate-lay-others
+    lay-others-requires
+    choose-requires
+    same-length
+    same-length-2
+    returns-2)

@@ -1,0 +1,86 @@
+-- `table::starts::widen_oneof` meets its contract. The invariant: the alternatives from i on give the whole. Assumes nothing.
+use mathlib.Core.Path.{sym, _∙_}
+use Prim.Native.Nat.{_≤_, _-_}
+use native.Mathlib.Omega.{arith}
+use borrow.Author.Needs.{needs}
+use Rattle.sheet.specs.Literals as L
+use Rattle.sheet.specs.Lists.{keep}
+use Rattle.sheet.specs.Packed.{setsIn}
+use Rattle.table.specs.Start.{candidates, oneOf}
+use Rattle.table.proofs.PackedClauses.{length-alts, alts-end}
+use Rattle.table.proofs.Choosing.{waysFrom, ways-start, ways-step, ways-end}
+use Rattle.table.proofs.Pads.{holds-trues-long, holds-falses-long, held-own}
+use Rattle.table.proofs.Growing.{Going, going-start, going-on, going-full, going-end}
+use Rattle.table.proofs.starts.widen_oneof.Statement.{statement}
+use Rattle.table.proofs.starts.widen_oneof.Tie as tie
+
+abbrev Inv-loop : tie.InvT-loop
+Inv-loop alts entry trues₀ falses₀ k count sum₀ i₀ trues falses sum i =
+    (i ≤ count)
+    × Going (keep L.consistent (candidates (oneOf (setsIn alts)) entry)) k trues₀ falses₀ (keep L.consistent (waysFrom (setsIn alts) entry i)) sum trues falses
+
+abbrev μ-loop : tie.MeasureT-loop
+μ-loop alts entry trues₀ falses₀ k count sum₀ i₀ trues falses sum i = count - i
+
+count-of-requires : tie.Need-count-of-requires Inv-loop μ-loop
+count-of-requires c κs = search needs
+
+loop-holds : tie.Need-loop-holds Inv-loop μ-loop
+loop-holds c = (omega arith, going-start _ _ _ _ _ (ways-start _ _) (c .before .before .before .before .pre .1))
+
+widen-one-requires : tie.Need-widen-one-requires Inv-loop μ-loop
+widen-one-requires c κs = ((c .before .before .before .before .before .before .before .before .pre .0, omega arith), held-own _ _ _ _ (c .before .before .before .loop .inv .1 .held))
+
+enum-known-m : tie.Need-enum-known-m Inv-loop μ-loop
+enum-known-m c = search needs
+
+enum-told : tie.Need-enum-told Inv-loop μ-loop
+enum-told c = search needs
+
+same-length : tie.Need-same-length Inv-loop μ-loop
+same-length c = c .before .before .before .before .before .before .widen-one .kept .1 .1 .1 .0 ∙ holds-trues-long _ _ _ _ _ (c .before .before .before .before .before .before .before .before .before .before .loop .inv .1 .held)
+
+same-length-2 : tie.Need-same-length-2 Inv-loop μ-loop
+same-length-2 c = c .before .before .before .before .before .before .widen-one .kept .1 .1 .1 .1 .0 ∙ holds-falses-long _ _ _ _ _ (c .before .before .before .before .before .before .before .before .before .before .loop .inv .1 .held) ∙ sym (holds-falses-long _ _ _ _ _ (c .before .before .before .before .before .before .before .before .before .before .before .before .before .before .before .pre .1))
+
+returns : tie.Need-returns Inv-loop μ-loop
+returns c = going-full _ _ _ _ _ _ _ _ _ _ _ _ _ (c .before .before .before .before .before .before .before .before .before .before .loop .inv .1) (ways-step _ _ _ (omega (arith, length-alts (c .before .before .before .before .before .before .before .before .before .before .before .before .before .before .before .args .alts .now)))) (c .before .before .before .before .before .before .widen-one .ensures) (c .enum-told .given .1)
+
+add-i : tie.Need-add-i Inv-loop μ-loop
+add-i c = search needs
+
+loop-less : tie.Need-loop-less Inv-loop μ-loop
+loop-less c = search needs
+
+loop-again : tie.Need-loop-again Inv-loop μ-loop
+loop-again c = (omega arith, going-on _ _ _ _ _ _ _ _ _ _ _ _ _ (c .before .before .before .before .before .before .before .before .before .before .before .loop .inv .1) (ways-step _ _ _ (omega (arith, length-alts (c .before .before .before .before .before .before .before .before .before .before .before .before .before .before .before .before .args .alts .now)))) (c .before .before .before .before .before .before .before .widen-one .ensures) _ (c .before .m .given .1))
+
+same-length-3 : tie.Need-same-length-3 Inv-loop μ-loop
+same-length-3 c = holds-trues-long _ _ _ _ _ (c .before .loop .inv .1 .held)
+
+same-length-4 : tie.Need-same-length-4 Inv-loop μ-loop
+same-length-4 c = holds-falses-long _ _ _ _ _ (c .before .loop .inv .1 .held) ∙ sym (holds-falses-long _ _ _ _ _ (c .before .before .before .before .before .before .pre .1))
+
+returns-2 : tie.Need-returns-2 Inv-loop μ-loop
+returns-2 c = going-end _ _ _ _ _ _ _ _ (c .before .loop .inv .1) (ways-end _ _ _ (alts-end _ _ _ (c .before .before .count-of .ensures) (c .loop-test .left)))
+
+pub widen-oneof-spec : {M : Type 1} → statement M
+widen-oneof-spec =
+    tie.close
+    (tie.spec
+    Inv-loop
+    μ-loop
+    count-of-requires
+    loop-holds
+    widen-one-requires
+    enum-known-m
+    enum-told
+    same-length
+    same-length-2
+    returns
+    add-i
+    loop-less
+    loop-again
+    same-length-3
+    same-length-4
+    returns-2)

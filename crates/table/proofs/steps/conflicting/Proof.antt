@@ -1,0 +1,73 @@
+-- `steps::unclear` meets its contract. The invariant: the effects from i on decide. Assumes nothing.
+use mathlib.Core.Path.{_≡_, refl, sym, _∙_}
+use Prim.Native.Nat.{_-_}
+use borrow.Author.Needs.{needs}
+use lib.ListN.{drop}
+use Rattle.sheet.specs.Lists.{anyOf}
+use Rattle.sheet.specs.Packed.{effectsAt}
+use Rattle.sheet.proofs.PackedLaws.{effects-step, effects-end}
+use Rattle.table.specs.Pairs.{contradicts}
+use Rattle.table.specs.Slots.{entriesOf}
+use Rattle.table.proofs.PairScan.{pairs-turn, pairs-end}
+use Rattle.table.proofs.steps.conflicting.Statement.{statement}
+use Rattle.table.proofs.steps.conflicting.Tie as tie
+
+abbrev Inv-loop : tie.InvT-loop
+Inv-loop effects size trues falses count i₀ i =
+    anyOf (λ d. contradicts (effectsAt size effects) d) (entriesOf count trues falses) ≡ anyOf (λ d. contradicts (drop i (effectsAt size effects)) d) (entriesOf count trues falses)
+
+abbrev μ-loop : tie.MeasureT-loop
+μ-loop effects size trues falses count i₀ i = size - i
+
+loop-holds : tie.Need-loop-holds Inv-loop μ-loop
+loop-holds c = refl
+
+effect-at-requires : tie.Need-effect-at-requires Inv-loop μ-loop
+effect-at-requires c κs = search needs
+
+add-opposes : tie.Need-add-opposes Inv-loop μ-loop
+add-opposes c = search needs
+
+opposes-requires : tie.Need-opposes-requires Inv-loop μ-loop
+opposes-requires c κs = search needs
+
+returns : tie.Need-returns Inv-loop μ-loop
+returns c =
+    let o = c .before .before .before .before in
+    let a = o .before .before .before .before .args in
+    sym (o .loop .inv
+    ∙ pairs-turn _ (entriesOf (a .count) (a .trues .now) (a .falses .now)) _ _ _ _ (effects-step (a .size) (a .effects .now) (o .loop .i) _ (c .before .before .before .loop-test .taken) (c .before .before .effect-at .ensures)) (c .before .opposes .ensures) (c .if1 .taken))
+
+add-i : tie.Need-add-i Inv-loop μ-loop
+add-i c = search needs
+
+loop-less : tie.Need-loop-less Inv-loop μ-loop
+loop-less c = search needs
+
+loop-again : tie.Need-loop-again Inv-loop μ-loop
+loop-again c =
+    let o = c .before .before .before .before in
+    let a = o .before .before .before .before .args in
+    o .loop .inv
+    ∙ pairs-turn _ (entriesOf (a .count) (a .trues .now) (a .falses .now)) _ _ _ _ (effects-step (a .size) (a .effects .now) (o .loop .i) _ (c .before .before .before .loop-test .taken) (c .before .before .effect-at .ensures)) (c .before .opposes .ensures) (c .if1 .left)
+
+returns-2 : tie.Need-returns-2 Inv-loop μ-loop
+returns-2 c =
+    let a = c .before .before .before .before .before .args in
+    sym (c .before .loop .inv ∙ pairs-end _ (entriesOf (a .count) (a .trues .now) (a .falses .now)) (effects-end (a .size) (a .effects .now) (c .before .loop .i) (c .loop-test .left)))
+
+pub conflicting-spec : {M : Type 1} → statement M
+conflicting-spec =
+    tie.close
+    (tie.spec
+    Inv-loop
+    μ-loop
+    loop-holds
+    effect-at-requires
+    add-opposes
+    opposes-requires
+    returns
+    add-i
+    loop-less
+    loop-again
+    returns-2)

@@ -1,0 +1,80 @@
+-- `table::steps::skip_decided` meets its contract. The invariant: up to i the piece is whole. Assumes nothing.
+use mathlib.Core.Path.{sym, _∙_, subst}
+use mathlib.Core.Logic.{⊎-elim}
+use Prim.Native.Nat.{_-_}
+use native.Mathlib.Omega.{arith}
+use borrow.Author.Needs.{needs}
+use borrow.Author.Tests.{not-true, not-false}
+use Rattle.sheet.specs.declared.Effect.{Effect}
+use Rattle.sheet.specs.Packed.{effectsAt}
+use Rattle.table.specs.Carry.{Splits, Skips}
+use Rattle.table.proofs.Carrying.{settles-start, on-within, on-clash}
+use Rattle.sheet.proofs.PackedLaws.{effects-step}
+use Rattle.table.proofs.steps.skip_decided.Statement.{statement}
+use Rattle.table.proofs.steps.skip_decided.Tie as tie
+
+abbrev Inv-loop : tie.InvT-loop
+Inv-loop effects size at piece sum₀ i₀ sum i = Skips (effectsAt size effects) at piece (record { at = i; results = sum })
+
+abbrev μ-loop : tie.MeasureT-loop
+μ-loop effects size at piece sum₀ i₀ sum i = size - i
+
+loop-holds : tie.Need-loop-holds Inv-loop μ-loop
+loop-holds c = settles-start _ _ _ _ (c .before .pre .1)
+
+effect-at-requires : tie.Need-effect-at-requires Inv-loop μ-loop
+effect-at-requires c κs = search needs
+
+within-requires : tie.Need-within-requires Inv-loop μ-loop
+within-requires c κs = search needs
+
+join-requires : tie.Need-join-requires Inv-loop μ-loop
+join-requires c κs = search needs
+
+clash-requires : tie.Need-clash-requires Inv-loop μ-loop
+clash-requires c κs = search needs
+
+returns : tie.Need-returns Inv-loop μ-loop
+returns c = (
+  c .before .before .before .before .before .before .loop .inv,
+  λ h. subst (λ (e : Effect). Splits (e .condition) (c .before .before .before .before .before .before .before .before .args .piece)) (c .before .before .before .before .effect-at .ensures)
+      (record {
+        lacking = sym (c .before .before .before .within .ensures) ∙ c .before .before .if1 .left;
+        apart = sym (c .before .clash .ensures) ∙ not-true _ (c .if2 .taken);
+      }),
+)
+
+add-i : tie.Need-add-i Inv-loop μ-loop
+add-i c = search needs
+
+loop-less : tie.Need-loop-less Inv-loop μ-loop
+loop-less c = search needs
+
+loop-again : tie.Need-loop-again Inv-loop μ-loop
+loop-again c =
+    let a = c .before .before .before .before .before .before .args in
+    let o = c .before .before .before .before .loop in
+    let q = effects-step (a .size) (a .effects .now) (o .i) _ (c .before .before .before .loop-test .taken) (c .before .before .effect-at .ensures) in
+    ⊎-elim (λ v. on-within _ _ _ _ (o .inv) _ q _ (sym (c .before .within .ensures) ∙ v .0 .taken) (v .2 ∙ v .1 .ensures))
+    (λ v. on-clash _ _ _ _ (o .inv) _ q _ (sym (v .1 .ensures) ∙ not-false _ (v .2 .left)) (v .3))
+    (c .if1 .came)
+
+returns-2 : tie.Need-returns-2 Inv-loop μ-loop
+returns-2 c = (c .before .loop .inv, λ h. absurd (omega arith))
+
+pub skip-decided-spec : {M : Type 1} → statement M
+skip-decided-spec =
+    tie.close
+    (tie.spec
+    Inv-loop
+    μ-loop
+    loop-holds
+    effect-at-requires
+    within-requires
+    join-requires
+    clash-requires
+    returns
+    add-i
+    loop-less
+    loop-again
+    returns-2)

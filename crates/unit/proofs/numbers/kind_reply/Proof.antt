@@ -1,0 +1,50 @@
+-- `numbers::told_kind` meets its contract: case by case. Assumes nothing.
+use mathlib.Core.Path.{ap, sym}
+use borrow.Author.Needs.{needs}
+use Rattle.sheet.specs.Calls.{numberOf, positionOf}
+use Rattle.plan.specs.declared.Kind.{Kind}
+use Rattle.plan.specs.Cases.{kindAnswer, kindPlace}
+use Rattle.unit.specs.Numbers.{ifAccepted, searchKind, kindReply}
+use Rattle.unit.proofs.numbers.kind_reply.Statement.{statement}
+use Rattle.unit.proofs.numbers.kind_reply.Tie as tie
+
+enum-told : tie.Need-enum-told
+enum-told c = search needs
+
+enum-known-kind : tie.Need-enum-known-kind
+enum-known-kind c = search needs
+
+enum-told-2 : tie.Need-enum-told-2
+enum-told-2 c = search needs
+
+enum-known-kind-2 : tie.Need-enum-known-kind-2
+enum-known-kind-2 c = search needs
+
+returns : tie.Need-returns
+unfolding numberOf positionOf ifAccepted kindAnswer kindPlace searchKind
+returns c = ap (λ (k : Kind). kindReply k (c .before .before .args .size)) (sym (c .enum-told .given .1))
+
+returns-2 : tie.Need-returns-2
+unfolding numberOf positionOf ifAccepted kindAnswer kindPlace searchKind
+returns-2 c = ap (λ (k : Kind). kindReply k (c .before .before .before .args .size)) (sym (c .before .kind .given .1))
+
+returns-3 : tie.Need-returns-3
+unfolding numberOf positionOf ifAccepted kindAnswer kindPlace searchKind
+returns-3 c = ap (λ (k : Kind). kindReply k (c .before .before .args .size)) (sym (c .enum-told2 .given .1))
+
+returns-4 : tie.Need-returns-4
+unfolding numberOf positionOf ifAccepted kindAnswer kindPlace searchKind
+returns-4 c = ap (λ (k : Kind). kindReply k (c .before .before .before .args .size)) (sym (c .before .kind2 .given .1))
+
+pub kind-reply-spec : {M : Type 1} → statement M
+kind-reply-spec =
+    tie.close
+    (tie.spec
+    enum-told
+    enum-known-kind
+    enum-told-2
+    enum-known-kind-2
+    returns
+    returns-2
+    returns-3
+    returns-4)
