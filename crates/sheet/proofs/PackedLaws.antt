@@ -1,16 +1,16 @@
--- Rows of numbers: what stands in them, read part by part; and sets, effects and items laid out in them. Assumes nothing.
+-- Numbers in a packed array: what stands there, read part by part; and parts, sets, effects and items laid there. Assumes nothing.
 use mathlib.Core.Path.{_≡_, refl, sym, ap, ap₂, subst, _∙_}
 use mathlib.Core.List.{List, [], _∷_, _++_, append-assoc, append-nil}
 use Prim.Native.Nat.{ℕ, zero, suc, _+_, _-_, _*_, _≤_, _<_}
 use native.Mathlib.Nat.{not-suc-le-zero, le-of-suc-le-suc}
 use native.Mathlib.Numerals.{add-one}
 use native.Mathlib.Omega.{arith}
-use lib.ListN.{length, set, getD, take, drop, length-drop, take-append-drop, drop-of-length-le}
+use lib.ListN.{length, set, getD, take, drop, length-append, length-drop, take-append-drop, drop-of-length-le}
 use lib.Seq.{getD-drop, take-at, drop-at, drop-drop, take-append-le, drop-append-le, length-take-le, sets-eq}
 use Rattle.sheet.specs.declared.Literals.{Literals}
 use Rattle.sheet.specs.declared.Effect.{Effect}
 use Rattle.sheet.specs.Lists.{All}
-use Rattle.sheet.specs.Packed.{setFrom, setsAt, masksOf, effectAt, effectsAt, actionBy, itemAt, itemsAt, setsIn, actionFrom}
+use Rattle.sheet.specs.Packed.{part, setFrom, setsAt, masksOf, effectAt, effectsAt, actionBy, itemAt, itemsAt, setsIn, actionFrom}
 
 -- ---- reading
 pub from-later : (row : List ℕ) (i j k : ℕ) → i + j ≡ k → setFrom (drop i row) j ≡ setFrom row k
@@ -59,6 +59,47 @@ module _ {A : Type 0} (w : ℕ) (part : List ℕ → ℕ → A) (parts : ℕ →
       more (suc n) row
       ∙ ap (λ (x : List A). part row 0 ∷ x) (parts-last n (drop w row))
       ∙ ap₂ (λ (x : List A) (e : A). x ++ (e ∷ [])) (sym (more n row)) (later row n)
+
+-- ---- w numbers from `at` on
+pub part-long : (at w : ℕ) (xs : List ℕ) → at + w ≤ length xs → length (part at w xs) ≡ w
+part-long at w xs room = length-take-le w (drop at xs) (simp length-drop (omega (arith, room)))
+
+-- ---- w numbers from `at` on written anew, as a borrow of them leaves the whole
+abbrev pub anew : List ℕ → List ℕ → ℕ → ℕ → List ℕ
+anew xs ys at w = take at xs ++ (ys ++ drop w (drop at xs))
+
+module _ (xs ys : List ℕ) (at w : ℕ) (room : at + w ≤ length xs) (long : length ys ≡ w) where
+  front-long : length (take at xs) ≡ at
+  front-long = length-take-le at xs (omega (arith, room))
+
+  pub anew-long : length (anew xs ys at w) ≡ length xs
+  anew-long = simp (length-append, length-drop) (omega (arith, room, long, front-long))
+
+  -- they are there
+  pub part-same : part at w (anew xs ys at w) ≡ ys
+  part-same = ap (take w) (drop-at (take at xs) (ys ++ drop w (drop at xs)) at front-long) ∙ take-at ys (drop w (drop at xs)) w long
+
+  -- the numbers before them are kept
+  pub part-before : (b v : ℕ) → b + v ≤ at → part b v (anew xs ys at w) ≡ part b v xs
+  part-before b v h =
+      kept (ys ++ drop w (drop at xs)) ∙ sym (kept (drop at xs)) ∙ ap (part b v) (take-append-drop at xs)
+    where
+      kept : (q : List ℕ) → part b v (take at xs ++ q) ≡ part b v (take at xs)
+      kept q =
+          ap (take v) (drop-append-le b (take at xs) q (omega (arith, h, front-long)))
+          ∙ take-append-le v (drop b (take at xs)) q (simp length-drop (omega (arith, h, front-long)))
+
+  -- and those after them
+  pub part-after : (b v : ℕ) → at + w ≤ b → part b v (anew xs ys at w) ≡ part b v xs
+  part-after b v h = ap (take v) (kept (anew xs ys at w) ∙ ap (drop (b - (at + w))) same ∙ sym (kept xs))
+    where
+      kept : (l : List ℕ) → drop b l ≡ drop (b - (at + w)) (drop w (drop at l))
+      kept l =
+          let e : (at + w) + (b - (at + w)) ≡ b = omega (arith, h) in
+          sym (ap (drop (b - (at + w))) (drop-drop w at l) ∙ drop-drop (b - (at + w)) (at + w) l ∙ ap (λ (k : ℕ). drop k l) e)
+
+      same : drop w (drop at (anew xs ys at w)) ≡ drop w (drop at xs)
+      same = ap (drop w) (drop-at (take at xs) (ys ++ drop w (drop at xs)) at front-long) ∙ drop-at ys (drop w (drop at xs)) w long
 
 -- ---- items of w numbers each
 -- the numbers of item i, as a borrow of them says it
@@ -202,7 +243,7 @@ pub effects-more : (k : ℕ) (row : List ℕ) (e : Effect) → 4 * k + 4 ≤ len
     → effectsAt (k + 1) (take (4 * k) row ++ (masksOf e ++ drop (4 * k + 4) row)) ≡ effectsAt k row ++ (e ∷ [])
 effects-more k row e h = rw (add-one k) (effects-laid k row e h)
 
--- ---- a row with its count, and after it a borrow of its sets or effects
+-- ---- a count, and after it a borrow of its sets or effects
 pub sets-laid : (xs ys : List ℕ) (k : ℕ) → length xs ≡ 17 → let row = set xs 0 k in setsIn (take 1 row ++ (ys ++ drop 16 (drop 1 row))) ≡ setsAt k ys
 unfolding setsIn
 sets-laid [] ys k h = absurd (omega arith)

@@ -9,7 +9,7 @@ use Rattle.sheet.specs.Form.{Read, item, fault}
 use Rattle.sheet.specs.declared.reader.Facts as slots
 use Rattle.sheet.specs.Problem.{Facts}
 use Rattle.sheet.specs.Format.{Judgement, refused}
-use Rattle.sheet.specs.Packed.{clausesAt}
+use Rattle.sheet.specs.Packed.{clausesAt, orsIn, oneofsIn}
 
 -- where reading stands after it
 unfoldable pub markOf : {A : Type 0} → Read A → Mark
@@ -29,9 +29,10 @@ abbrev pub literalBefore : ℕ → Option ℕ
 literalBefore zero = none
 literalBefore (suc l) = some l
 
--- sections 1 to 4, with the rows of the clauses
-unfoldable pub factsIn : slots.Facts → List ℕ → List ℕ → Facts
-factsIn f ors oneofs = record { n = f .n; known = f .known; ors = clausesAt (f .ors) ors; oneofs = clausesAt (f .oneofs) oneofs }
+-- sections 1 to 4, with the packed array of the clauses
+unfoldable pub factsIn : slots.Facts → List ℕ → Facts
+factsIn f packed =
+    record { n = f .n; known = f .known; ors = clausesAt (f .ors) (orsIn packed); oneofs = clausesAt (f .oneofs) (oneofsIn packed) }
 
 -- the judgement by the fault of a mark; a mark without a fault is never asked
 unfoldable pub refusedBy : Mark → Judgement

@@ -1,4 +1,4 @@
--- Sets, effects, clauses and moves as numbers in rows, and what stands in a row.
+-- A sheet's clauses, goal and moves as numbers, one section after the other in one packed array, and what stands there.
 use mathlib.Core.Path.{_≡_}
 use mathlib.Core.List.{List, [], _∷_}
 use Prim.Native.Nat.{ℕ, zero, suc, _+_, _*_, _≤_}
@@ -7,7 +7,24 @@ use Rattle.sheet.specs.declared.Literals.{Literals}
 use Rattle.sheet.specs.declared.Effect.{Effect}
 use Rattle.sheet.specs.Problem.{Action}
 
--- ---- sets and effects in a row of masks
+-- ---- the packed array: or-clauses, oneof-clauses, goal, moves
+-- w numbers from number `at` on
+abbrev pub part : ℕ → ℕ → List ℕ → List ℕ
+part at w xs = take w (drop at xs)
+
+abbrev pub orsIn : List ℕ → List ℕ
+orsIn = part 0 136
+
+abbrev pub oneofsIn : List ℕ → List ℕ
+oneofsIn = part 136 136
+
+abbrev pub goalIn : List ℕ → List ℕ
+goalIn = part 272 17
+
+abbrev pub movesIn : List ℕ → List ℕ
+movesIn = part 289 1120
+
+-- ---- sets and effects as masks
 -- the set whose two masks stand from number i on
 unfoldable pub setFrom : List ℕ → ℕ → Literals
 setFrom row i = record { trues = getD row i 0; falses = getD row (i + 1) 0 }
@@ -36,7 +53,7 @@ actionBy precondition size row = record { precondition = precondition; effects =
 -- ---- items of w numbers each, one after the other
 -- the numbers of item i
 unfoldable pub itemAt : ℕ → List ℕ → ℕ → List ℕ
-itemAt w xs i = take w (drop (i * w) xs)
+itemAt w xs i = part (i * w) w xs
 
 -- the first k items
 unfoldable pub itemsAt : {A : Type 0} → ℕ → (List ℕ → A) → ℕ → List ℕ → List A

@@ -54,23 +54,14 @@ pub struct Decoded {
 pub fn judge(s: &[u8]) -> Answer
     ensures { λ r. ⌜ r ≡ judgeOf (now (s .entry)) ⌝ }
 {
-    let mut ors = [0u32; 136];
-    let mut oneofs = [0u32; 136];
-    let mut goal = [0u32; 17];
-    let mut moves = [0u32; 1120];
-    let d = decode(s, &mut ors, &mut oneofs, &mut goal, &mut moves);
+    let mut packed = [0u32; packed::LENGTH];
+    let d = decode(s, &mut packed);
     d.answer
 }
 
-// Judges a sheet and reads it, its clauses, goal and moves into the lent rows: what the layers above start from.
-pub fn decode(
-    s: &[u8],
-    ors: &mut [u32; 136],
-    oneofs: &mut [u32; 136],
-    goal: &mut [u32; 17],
-    moves: &mut [u32; 1120],
-) -> Decoded
-    ensures { λ r. ⌜ (judgementIn r (now (ors .exit)) (now (oneofs .exit)) (now (goal .exit)) (now (moves .exit)) ≡ sheetOf (now (s .entry))) × (r .sheet .plan .count ≤ 64) ⌝ }
+// Judges a sheet and reads it, its clauses, goal and moves into the packed array: what the layers above start from.
+pub fn decode(s: &[u8], packed: &mut [u32; packed::LENGTH]) -> Decoded
+    ensures { λ r. ⌜ (judgementIn r (now (packed .exit)) ≡ sheetOf (now (s .entry))) × (r .sheet .plan .count ≤ 64) ⌝ }
 {
-    reader::sheet_in(s, ors, oneofs, goal, moves)
+    reader::sheet_in(s, packed)
 }

@@ -7,6 +7,18 @@ ghost use Prim.Native.Nat.{_≤_, _+_, _*_};
 ghost use lib.ListN.{length, take, drop, getD};
 ghost use Rattle.sheet.specs.Packed as R;
 
+// Where each section begins, and how long the packed array is: or-clauses and oneof-clauses, eight of 17 numbers each; the goal, 17; the
+// moves, 32 of 35.
+pub const ORS: usize = 0;
+
+pub const ONEOFS: usize = 136;
+
+pub const GOAL: usize = 272;
+
+pub const MOVES: usize = 289;
+
+pub const LENGTH: usize = 1409;
+
 // The set whose two masks stand from number i on.
 pub fn set_from<'a>(row: &'a [u32], i: usize) -> Literals
     requires { ⌜ i + 2 ≤ length (now row) ⌝ }

@@ -6,6 +6,11 @@ use crate::Literals;
 use crate::Plan;
 use crate::Sheet;
 use crate::masks;
+use crate::packed::GOAL;
+use crate::packed::LENGTH;
+use crate::packed::MOVES;
+use crate::packed::ONEOFS;
+use crate::packed::ORS;
 use crate::packed::write_effect;
 ghost use mathlib.Core.Path.{_≡_};
 ghost use mathlib.Core.List.{[]};
@@ -67,11 +72,6 @@ const NONE: Literals = Literals {
 const NO_EFFECT: Effect = Effect {
     condition: NONE,
     result: NONE,
-};
-
-const NO_PLAN: Plan = Plan {
-    count: 0,
-    numbers: [0; 64],
 };
 
 // An empty value of each kind.
@@ -478,10 +478,10 @@ fn no_facts(mark: Mark) -> FactsRead
     }
 }
 
-// Sections 1 to 4, the clauses laid in the rows.
-fn facts_at(s: &[u8], ors: &mut [u32], oneofs: &mut [u32]) -> FactsRead
-    requires { ⌜ (length (now ors) ≡ 136) × (length (now oneofs) ≡ 136) ⌝ }
-    ensures { λ r. ⌜ ReadsAs same (read (now (s .entry)) F.facts 0) (r .mark) (factsIn (r .value) (now (ors .exit)) (now (oneofs .exit))) × (r .value .n ≤ 32) ⌝ }
+// Sections 1 to 4, the clauses laid in the packed array.
+fn facts_at(s: &[u8], packed: &mut [u32]) -> FactsRead
+    requires { ⌜ length (now packed) ≡ 1409 ⌝ }
+    ensures { λ r. ⌜ ReadsAs same (read (now (s .entry)) F.facts 0) (r .mark) (factsIn (r .value) (now (packed .exit))) × (r .value .n ≤ 32) ⌝ }
 {
     let first = count_at(s, 1, 32, 0);
     let mark = first.mark;
@@ -494,13 +494,13 @@ fn facts_at(s: &[u8], ors: &mut [u32], oneofs: &mut [u32]) -> FactsRead
     let Mark::At(b) = mark_known else {
         return no_facts(mark_known);
     };
-    let or_count = clauses_at(s, n, b, ors);
-    let mark_ors = or_count.mark;
+    let ors = clauses_at(s, n, b, &mut packed[ORS..ONEOFS]);
+    let mark_ors = ors.mark;
     let Mark::At(c) = mark_ors else {
         return no_facts(mark_ors);
     };
-    let oneof_count = clauses_at(s, n, c, oneofs);
-    let mark_oneofs = oneof_count.mark;
+    let oneofs = clauses_at(s, n, c, &mut packed[ONEOFS..GOAL]);
+    let mark_oneofs = oneofs.mark;
     let Mark::At(d) = mark_oneofs else {
         return no_facts(mark_oneofs);
     };
@@ -510,8 +510,8 @@ fn facts_at(s: &[u8], ors: &mut [u32], oneofs: &mut [u32]) -> FactsRead
         value: Facts {
             n: n,
             known: known_set,
-            ors: or_count.value,
-            oneofs: oneof_count.value,
+            ors: ors.value,
+            oneofs: oneofs.value,
         },
     }
 }
@@ -543,33 +543,27 @@ fn refuse_at(mark: Mark) -> Decoded
     }
 }
 
-// The sheet, its clauses, goal and moves laid in the rows, or its first fault.
-pub(crate) fn sheet_in(
-    s: &[u8],
-    ors: &mut [u32],
-    oneofs: &mut [u32],
-    goal: &mut [u32],
-    moves: &mut [u32],
-) -> Decoded
-    requires { ⌜ (length (now ors) ≡ 136) × (length (now oneofs) ≡ 136) × (length (now goal) ≡ 17) × (length (now moves) ≡ 1120) ⌝ }
-    ensures { λ r. ⌜ (judgementIn r (now (ors .exit)) (now (oneofs .exit)) (now (goal .exit)) (now (moves .exit)) ≡ F.sheetOf (now (s .entry))) × (r .sheet .plan .count ≤ 64) ⌝ }
+// The sheet, its clauses, goal and moves laid in the packed array, or its first fault.
+pub(crate) fn sheet_in(s: &[u8], packed: &mut [u32]) -> Decoded
+    requires { ⌜ length (now packed) ≡ 1409 ⌝ }
+    ensures { λ r. ⌜ (judgementIn r (now (packed .exit)) ≡ F.sheetOf (now (s .entry))) × (r .sheet .plan .count ≤ 64) ⌝ }
 {
-    let facts = facts_at(s, ors, oneofs);
+    let facts = facts_at(s, packed);
     let mark = facts.mark;
     let Mark::At(a) = mark else {
         return refuse_at(mark);
     };
     let f = facts.value;
-    let count = moves_at(s, f.n, a, moves);
-    let mark_moves = count.mark;
+    let moves = moves_at(s, f.n, a, &mut packed[MOVES..LENGTH]);
+    let mark_moves = moves.mark;
     let Mark::At(b) = mark_moves else {
         return refuse_at(mark_moves);
     };
-    let mark_goal = sets_at(s, f.n, 0, 8, b, goal);
+    let mark_goal = sets_at(s, f.n, 0, 8, b, &mut packed[GOAL..MOVES]);
     let Mark::At(c) = mark_goal else {
         return refuse_at(mark_goal);
     };
-    let plan = plan_at(s, count.value, c);
+    let plan = plan_at(s, moves.value, c);
     let mark_plan = plan.mark;
     let Mark::At(end) = mark_plan else {
         return refuse_at(mark_plan);
@@ -586,7 +580,7 @@ pub(crate) fn sheet_in(
             known: known,
             ors: f.ors,
             oneofs: f.oneofs,
-            moves: count.value,
+            moves: moves.value,
             plan: numbers,
         },
     }

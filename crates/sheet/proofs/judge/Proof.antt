@@ -8,7 +8,7 @@ decode-requires : tie.Need-decode-requires
 decode-requires c κs = search needs
 
 returns : tie.Need-returns
-returns c = answer-says _ _ _ _ _ _ (c .decode .ensures .0)
+returns c = answer-says _ _ _ (c .decode .ensures .0)
 
 pub judge-spec : {M : Type 1} → statement M
 judge-spec = tie.close (tie.spec decode-requires returns)
