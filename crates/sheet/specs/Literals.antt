@@ -39,6 +39,10 @@ consistent a = eqb (bitAnd (a .trues) (a .falses)) 0
 unfoldable pub join : Literals → Literals → Literals
 join a b = record { trues = bitOr (a .trues) (b .trues); falses = bitOr (a .falses) (b .falses) }
 
+-- the literals of a that are not in b
+unfoldable pub minus : Literals → Literals → Literals
+minus a b = record { trues = a .trues - bitAnd (a .trues) (b .trues); falses = a .falses - bitAnd (a .falses) (b .falses) }
+
 -- the complement of each literal
 unfoldable pub flip : Literals → Literals
 flip a = record { trues = a .falses; falses = a .trues }

@@ -27,28 +27,28 @@ movesIn = part 289 1120
 -- ---- sets and effects as masks
 -- the set whose two masks stand from number i on
 unfoldable pub setFrom : List ℕ → ℕ → Literals
-setFrom row i = record { trues = getD row i 0; falses = getD row (i + 1) 0 }
+setFrom xs i = record { trues = getD xs i 0; falses = getD xs (i + 1) 0 }
 
 -- the first n sets, two masks to a set
 unfoldable pub setsAt : ℕ → List ℕ → List Literals
-setsAt zero row = []
-setsAt (suc n) row = setFrom row 0 ∷ setsAt n (drop 2 row)
+setsAt zero xs = []
+setsAt (suc n) xs = setFrom xs 0 ∷ setsAt n (drop 2 xs)
 
 -- four masks to an effect: its condition, its result
 unfoldable pub masksOf : Effect → List ℕ
 masksOf e = e .condition .trues ∷ e .condition .falses ∷ e .result .trues ∷ e .result .falses ∷ []
 
 unfoldable pub effectAt : List ℕ → ℕ → Effect
-effectAt row i = record { condition = setFrom row (4 * i); result = setFrom row (4 * i + 2) }
+effectAt xs i = record { condition = setFrom xs (4 * i); result = setFrom xs (4 * i + 2) }
 
 -- the first n of them
 unfoldable pub effectsAt : ℕ → List ℕ → List Effect
-effectsAt zero row = []
-effectsAt (suc n) row = effectAt row 0 ∷ effectsAt n (drop 4 row)
+effectsAt zero xs = []
+effectsAt (suc n) xs = effectAt xs 0 ∷ effectsAt n (drop 4 xs)
 
 -- the action with these effects
 abbrev pub actionBy : Literals → ℕ → List ℕ → Action
-actionBy precondition size row = record { precondition = precondition; effects = effectsAt size row }
+actionBy precondition size xs = record { precondition = precondition; effects = effectsAt size xs }
 
 -- ---- items of w numbers each, one after the other
 -- the numbers of item i
@@ -62,11 +62,11 @@ itemsAt w f (suc k) xs = f (take w xs) ∷ itemsAt w f k (drop w xs)
 
 -- ---- a list of sets in 17 numbers, their count and two masks to each of eight: the alternatives of a clause, or the clauses of the goal
 unfoldable pub setsIn : List ℕ → List Literals
-setsIn row = setsAt (getD row 0 0) (drop 1 row)
+setsIn xs = setsAt (getD xs 0 0) (drop 1 xs)
 
--- a row of 17 numbers whose count is at most eight
+-- 17 numbers whose count is at most eight
 abbrev pub SetsFit : List ℕ → Type 0
-SetsFit row = (length row ≡ 17) × (getD row 0 0 ≤ 8)
+SetsFit xs = (length xs ≡ 17) × (getD xs 0 0 ≤ 8)
 
 -- the first k clauses
 abbrev pub clausesAt : ℕ → List ℕ → List (List Literals)
@@ -74,17 +74,17 @@ clausesAt = itemsAt 17 setsIn
 
 -- ---- a move in 35 numbers: the two masks of its precondition, its count, and four masks to each of eight effects
 abbrev pub countIn : List ℕ → ℕ
-countIn row = getD row 2 0
+countIn xs = getD xs 2 0
 
 unfoldable pub actionFrom : List ℕ → Action
-actionFrom row = actionBy (setFrom row 0) (countIn row) (take 32 (drop 3 row))
+actionFrom xs = actionBy (setFrom xs 0) (countIn xs) (take 32 (drop 3 xs))
 
 -- the count and the action of move m
 abbrev pub countOf : List ℕ → ℕ → ℕ
-countOf rows m = countIn (itemAt 35 rows m)
+countOf xs m = countIn (itemAt 35 xs m)
 
 abbrev pub actionOf : List ℕ → ℕ → Action
-actionOf rows m = actionFrom (itemAt 35 rows m)
+actionOf xs m = actionFrom (itemAt 35 xs m)
 
 -- the first k moves
 abbrev pub actionsAt : ℕ → List ℕ → List Action

@@ -27,8 +27,8 @@ pub struct Plan {
     pub numbers: [u8; 64],
 }
 
-// A sheet that was read: a planning problem over the propositions below n, and a plan. Its clauses, its goal and its moves lie in
-// rows that the caller lends (module rows); here are the counts of clauses and moves.
+// A sheet that was read: a planning problem over the propositions below n, and a plan. Its clauses, its goal and its moves lie
+// in the packed array that the caller lends (module packed); here are the counts of clauses and moves.
 pub struct Sheet {
     pub n: usize,
     pub known: Literals,

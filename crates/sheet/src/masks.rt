@@ -35,6 +35,16 @@ pub fn join(a: Literals, b: Literals) -> Literals
     }
 }
 
+// The literals of a that are not in b.
+pub fn minus(a: Literals, b: Literals) -> Literals
+    ensures { λ r. ⌜ r ≡ L.minus a b ⌝ }
+{
+    Literals {
+        trues: a.trues & !b.trues,
+        falses: a.falses & !b.falses,
+    }
+}
+
 // The complement of each literal.
 pub fn flip(a: Literals) -> Literals
     ensures { λ r. ⌜ r ≡ L.flip a ⌝ }

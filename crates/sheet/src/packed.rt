@@ -1,4 +1,4 @@
-// Sets, effects and moves as numbers in rows that can be lent: lists of sets in 17 numbers, moves in 35 (specs/Rows).
+// A sheet's clauses, goal and moves in one packed array (specs/Packed): where each section begins, and what stands there.
 use crate::Effect;
 use crate::Literals;
 ghost use mathlib.Core.Path.{_≡_};
@@ -20,13 +20,13 @@ pub const MOVES: usize = 289;
 pub const LENGTH: usize = 1409;
 
 // The set whose two masks stand from number i on.
-pub fn set_from<'a>(row: &'a [u32], i: usize) -> Literals
-    requires { ⌜ i + 2 ≤ length (now row) ⌝ }
-    ensures { λ r. ⌜ r ≡ R.setFrom (now (row .entry)) i ⌝ }
+pub fn set_from<'a>(item: &'a [u32], i: usize) -> Literals
+    requires { ⌜ i + 2 ≤ length (now item) ⌝ }
+    ensures { λ r. ⌜ r ≡ R.setFrom (now (item .entry)) i ⌝ }
 {
     Literals {
-        trues: row[i],
-        falses: row[i + 1],
+        trues: item[i],
+        falses: item[i + 1],
     }
 }
 
@@ -50,18 +50,30 @@ pub fn wide(x: u32) -> usize
     x as usize
 }
 
-// How many sets a row of 17 numbers has.
-pub fn count_of<'a>(row: &'a [u32]) -> usize
-    requires { ⌜ 1 ≤ length (now row) ⌝ }
-    ensures { λ r. ⌜ r ≡ getD (now (row .entry)) 0 0 ⌝ }
+// How many sets a clause, or the goal, has in its 17 numbers.
+pub fn count_of<'a>(item: &'a [u32]) -> usize
+    requires { ⌜ 1 ≤ length (now item) ⌝ }
+    ensures { λ r. ⌜ r ≡ getD (now (item .entry)) 0 0 ⌝ }
 {
-    wide(row[0])
+    wide(item[0])
 }
 
-// The set of number i in such a row.
-pub fn set_at<'a>(row: &'a [u32], i: usize) -> Literals
-    requires { ⌜ 2 * i + 3 ≤ length (now row) ⌝ }
-    ensures { λ r. ⌜ r ≡ R.setFrom (drop 1 (now (row .entry))) (2 * i) ⌝ }
+// The set of number i there.
+pub fn set_at<'a>(item: &'a [u32], i: usize) -> Literals
+    requires { ⌜ 2 * i + 3 ≤ length (now item) ⌝ }
+    ensures { λ r. ⌜ r ≡ R.setFrom (drop 1 (now (item .entry))) (2 * i) ⌝ }
 {
-    set_from(row, 2 * i + 1)
+    set_from(item, 2 * i + 1)
+}
+
+// The effect of number i, four masks to an effect.
+pub fn effect_at<'a>(effects: &'a [u32], i: usize) -> Effect
+    requires { ⌜ 4 * i + 4 ≤ length (now effects) ⌝ }
+    ensures { λ r. ⌜ r ≡ R.effectAt (now (effects .entry)) i ⌝ }
+{
+    let at = 4 * i;
+    Effect {
+        condition: set_from(effects, at),
+        result: set_from(effects, at + 2),
+    }
 }

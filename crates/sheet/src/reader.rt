@@ -1,4 +1,4 @@
-// Bytes to the parts of a sheet, from a position on. Each answer has a mark, and lists of sets, clauses and moves are laid in lent rows.
+// Bytes to the parts of a sheet, from a position on. Each answer has a mark, and lists of sets, clauses and moves are laid in lent numbers.
 use crate::Answer;
 use crate::Decoded;
 use crate::Effect;
@@ -241,7 +241,7 @@ fn effect_at(s: &[u8], n: usize, at: usize) -> EffectRead
     }
 }
 
-// k effects from first, laid in the row.
+// k effects from first, laid out.
 fn effects_from(s: &[u8], n: usize, k: usize, first: usize, effects: &mut [u32]) -> Mark
     requires { ⌜ (n ≤ 32) × (k ≤ 8) × (length (now effects) ≡ 32) ⌝ }
     ensures { λ r. ⌜ ReadsAs same (read (now (s .entry)) (times k (F.effect n)) first) r (R.effectsAt k (now (effects .exit))) ⌝ }
@@ -263,9 +263,9 @@ fn effects_from(s: &[u8], n: usize, k: usize, first: usize, effects: &mut [u32])
 }
 
 // A precondition and the effects, laid in the 35 numbers of a move.
-fn move_at(s: &[u8], n: usize, at: usize, row: &mut [u32]) -> Mark
-    requires { ⌜ (n ≤ 32) × (length (now row) ≡ 35) ⌝ }
-    ensures { λ r. ⌜ ReadsAs same (read (now (s .entry)) (F.action n) at) r (R.actionFrom (now (row .exit))) ⌝ }
+fn move_at(s: &[u8], n: usize, at: usize, item: &mut [u32]) -> Mark
+    requires { ⌜ (n ≤ 32) × (length (now item) ≡ 35) ⌝ }
+    ensures { λ r. ⌜ ReadsAs same (read (now (s .entry)) (F.action n) at) r (R.actionFrom (now (item .exit))) ⌝ }
 {
     let p = literals_at(s, n, 0, 8, at);
     let mark = p.mark;
@@ -279,22 +279,22 @@ fn move_at(s: &[u8], n: usize, at: usize, row: &mut [u32]) -> Mark
     };
     let precondition = p.value;
     let k = r.value;
-    row[0] = precondition.trues;
-    row[1] = precondition.falses;
-    row[2] = k as u32;
-    effects_from(s, n, k, first, &mut row[3..35])
+    item[0] = precondition.trues;
+    item[1] = precondition.falses;
+    item[2] = k as u32;
+    effects_from(s, n, k, first, &mut item[3..35])
 }
 
-// k moves from first, laid in the rows.
-fn moves_from(s: &[u8], n: usize, k: usize, first: usize, rows: &mut [u32]) -> Mark
-    requires { ⌜ (n ≤ 32) × (k ≤ 32) × (length (now rows) ≡ 1120) ⌝ }
-    ensures { λ r. ⌜ ReadsAs same (read (now (s .entry)) (times k (F.action n)) first) r (R.actionsAt k (now (rows .exit))) ⌝ }
+// k moves from first, laid in their section.
+fn moves_from(s: &[u8], n: usize, k: usize, first: usize, section: &mut [u32]) -> Mark
+    requires { ⌜ (n ≤ 32) × (k ≤ 32) × (length (now section) ≡ 1120) ⌝ }
+    ensures { λ r. ⌜ ReadsAs same (read (now (s .entry)) (times k (F.action n)) first) r (R.actionsAt k (now (section .exit))) ⌝ }
 {
     let mut next = first;
     let mut i: usize = 0;
     while i < k {
         let at = i * 35;
-        let mark = move_at(s, n, next, &mut rows[at..at + 35]);
+        let mark = move_at(s, n, next, &mut section[at..at + 35]);
         let Mark::At(rest) = mark else {
             return mark;
         };
@@ -304,10 +304,10 @@ fn moves_from(s: &[u8], n: usize, k: usize, first: usize, rows: &mut [u32]) -> M
     Mark::At(next)
 }
 
-// Section 5, laid in the rows: how many moves.
-fn moves_at(s: &[u8], n: usize, at: usize, rows: &mut [u32]) -> ByteRead
-    requires { ⌜ (n ≤ 32) × (length (now rows) ≡ 1120) ⌝ }
-    ensures { λ r. ⌜ ReadsAs same (read (now (s .entry)) (F.actions n) at) (r .mark) (R.actionsAt (r .value) (now (rows .exit))) ⌝ }
+// Section 5, laid in their section: how many moves.
+fn moves_at(s: &[u8], n: usize, at: usize, section: &mut [u32]) -> ByteRead
+    requires { ⌜ (n ≤ 32) × (length (now section) ≡ 1120) ⌝ }
+    ensures { λ r. ⌜ ReadsAs same (read (now (s .entry)) (F.actions n) at) (r .mark) (R.actionsAt (r .value) (now (section .exit))) ⌝ }
 {
     let r = count_at(s, 1, 32, at);
     let mark = r.mark;
@@ -316,7 +316,7 @@ fn moves_at(s: &[u8], n: usize, at: usize, rows: &mut [u32]) -> ByteRead
     };
     let k = r.value;
     ByteRead {
-        mark: moves_from(s, n, k, first, rows),
+        mark: moves_from(s, n, k, first, section),
         value: k,
     }
 }
@@ -344,9 +344,9 @@ fn sets_from(s: &[u8], n: usize, widest: usize, k: usize, first: usize, sets: &m
 }
 
 // least to 8 lists of 1 to widest literals, laid in 17 numbers: the alternatives of a clause, or section 6, the goal.
-fn sets_at(s: &[u8], n: usize, least: usize, widest: usize, at: usize, row: &mut [u32]) -> Mark
-    requires { ⌜ (n ≤ 32) × (length (now row) ≡ 17) ⌝ }
-    ensures { λ r. ⌜ ReadsAs same (read (now (s .entry)) (F.listOf least 8 (F.literals n 1 widest)) at) r (R.setsIn (now (row .exit))) ⌝ }
+fn sets_at(s: &[u8], n: usize, least: usize, widest: usize, at: usize, item: &mut [u32]) -> Mark
+    requires { ⌜ (n ≤ 32) × (length (now item) ≡ 17) ⌝ }
+    ensures { λ r. ⌜ ReadsAs same (read (now (s .entry)) (F.listOf least 8 (F.literals n 1 widest)) at) r (R.setsIn (now (item .exit))) ⌝ }
 {
     let r = count_at(s, least, 8, at);
     let mark = r.mark;
@@ -354,20 +354,20 @@ fn sets_at(s: &[u8], n: usize, least: usize, widest: usize, at: usize, row: &mut
         return mark;
     };
     let k = r.value;
-    row[0] = k as u32;
-    sets_from(s, n, widest, k, first, &mut row[1..17])
+    item[0] = k as u32;
+    sets_from(s, n, widest, k, first, &mut item[1..17])
 }
 
-// k clauses from first, laid in the rows.
-fn clauses_from(s: &[u8], n: usize, k: usize, first: usize, rows: &mut [u32]) -> Mark
-    requires { ⌜ (n ≤ 32) × (k ≤ 8) × (length (now rows) ≡ 136) ⌝ }
-    ensures { λ r. ⌜ ReadsAs same (read (now (s .entry)) (times k (F.clause n)) first) r (R.clausesAt k (now (rows .exit))) ⌝ }
+// k clauses from first, laid in their section.
+fn clauses_from(s: &[u8], n: usize, k: usize, first: usize, section: &mut [u32]) -> Mark
+    requires { ⌜ (n ≤ 32) × (k ≤ 8) × (length (now section) ≡ 136) ⌝ }
+    ensures { λ r. ⌜ ReadsAs same (read (now (s .entry)) (times k (F.clause n)) first) r (R.clausesAt k (now (section .exit))) ⌝ }
 {
     let mut next = first;
     let mut i: usize = 0;
     while i < k {
         let at = i * 17;
-        let mark = sets_at(s, n, 1, 4, next, &mut rows[at..at + 17]);
+        let mark = sets_at(s, n, 1, 4, next, &mut section[at..at + 17]);
         let Mark::At(rest) = mark else {
             return mark;
         };
@@ -377,10 +377,10 @@ fn clauses_from(s: &[u8], n: usize, k: usize, first: usize, rows: &mut [u32]) ->
     Mark::At(next)
 }
 
-// Section 3 or 4, laid in the rows: how many clauses.
-fn clauses_at(s: &[u8], n: usize, at: usize, rows: &mut [u32]) -> ByteRead
-    requires { ⌜ (n ≤ 32) × (length (now rows) ≡ 136) ⌝ }
-    ensures { λ r. ⌜ ReadsAs same (read (now (s .entry)) (F.clauses n) at) (r .mark) (R.clausesAt (r .value) (now (rows .exit))) ⌝ }
+// Section 3 or 4, laid in their section: how many clauses.
+fn clauses_at(s: &[u8], n: usize, at: usize, section: &mut [u32]) -> ByteRead
+    requires { ⌜ (n ≤ 32) × (length (now section) ≡ 136) ⌝ }
+    ensures { λ r. ⌜ ReadsAs same (read (now (s .entry)) (F.clauses n) at) (r .mark) (R.clausesAt (r .value) (now (section .exit))) ⌝ }
 {
     let r = count_at(s, 0, 8, at);
     let mark = r.mark;
@@ -389,7 +389,7 @@ fn clauses_at(s: &[u8], n: usize, at: usize, rows: &mut [u32]) -> ByteRead
     };
     let k = r.value;
     ByteRead {
-        mark: clauses_from(s, n, k, first, rows),
+        mark: clauses_from(s, n, k, first, section),
         value: k,
     }
 }

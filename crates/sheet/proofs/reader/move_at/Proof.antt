@@ -41,17 +41,17 @@ returns-2 c =
     gave-on _ _ _ _ same (got-same _ _ _ (c .before .before .before .before .before .before .literals-at .ensures) (c .before .before .before .before .mark .given .1))
     (gave-stop _ _ _ _ same same {v = []} (gave-stop _ (count 0 8) (λ k. times k (effect _)) _ same same (c .before .before .count-at .ensures) (c .enum-told2 .given .1)) (c .enum-told2 .given .1))
 
-slice-write-row : tie.Need-slice-write-row
-slice-write-row c = search needs
+slice-write-item : tie.Need-slice-write-item
+slice-write-item c = search needs
 
-slice-write-row-2 : tie.Need-slice-write-row-2
-slice-write-row-2 c = search needs
+slice-write-item-2 : tie.Need-slice-write-item-2
+slice-write-item-2 c = search needs
 
-cast-row : tie.Need-cast-row
-cast-row c = let h = count-most _ _ _ (read-passed _ _ _ (c .before .before .before .before .count-at .ensures) (c .before .before .end .given .1)) in omega arith
+cast-item : tie.Need-cast-item
+cast-item c = let h = count-most _ _ _ (read-passed _ _ _ (c .before .before .before .before .count-at .ensures) (c .before .before .end .given .1)) in omega arith
 
-slice-write-row-3 : tie.Need-slice-write-row-3
-slice-write-row-3 c = simp length-set (omega arith)
+slice-write-item-3 : tie.Need-slice-write-item-3
+slice-write-item-3 c = simp length-set (omega arith)
 
 sub-effects-from : tie.Need-sub-effects-from
 sub-effects-from c = search needs
@@ -70,7 +70,7 @@ effects-from-requires c κs = (
 )
 
 same-length : tie.Need-same-length
-same-length c = c .before .row .given .1 ∙ simp length-set
+same-length c = c .before .item .given .1 ∙ simp length-set
 
 returns-3 : tie.Need-returns-3
 unfolding action listOf
@@ -78,7 +78,7 @@ returns-3 c =
     let z = c .before .before .before .before .before .before .before .before .before .before .before .before .before .before .before in
     let p = c .before .before .before .before .before .before .before .before .before .before .before .before .literals-at in
     let r = c .before .before .before .before .before .before .before .before .count-at in
-    subst (ReadsAs same _ _) (sym (action-laid (z .args .row .now) _ (p .result .value) (r .result .value) (z .pre .1) (search needs)))
+    subst (ReadsAs same _ _) (sym (action-laid (z .args .item .now) _ (p .result .value) (r .result .value) (z .pre .1) (search needs)))
     (gave-on _ _ _ _ same (got-same _ _ _ (p .ensures) (c .before .before .before .before .before .before .before .before .before .before .mark .given .1))
     (gave-as _ (listOf 0 8 (effect _)) _ _ _ same (λ a. refl)
     (gave-made (λ es. record { precondition = p .result .value; effects = es })
@@ -96,10 +96,10 @@ move-at-spec =
     enum-known-end
     enum-told-2
     returns-2
-    slice-write-row
-    slice-write-row-2
-    cast-row
-    slice-write-row-3
+    slice-write-item
+    slice-write-item-2
+    cast-item
+    slice-write-item-3
     sub-effects-from
     part-effects-from-start
     part-effects-from-end

@@ -24,11 +24,11 @@ returns : tie.Need-returns
 unfolding listOf
 returns c = gave-stop _ _ _ _ same same (c .before .before .count-at .ensures) (c .enum-told .given .1)
 
-cast-row : tie.Need-cast-row
-cast-row c = let h = count-most _ _ _ (read-passed _ _ _ (c .before .before .before .count-at .ensures) (c .before .mark .given .1)) in omega arith
+cast-item : tie.Need-cast-item
+cast-item c = let h = count-most _ _ _ (read-passed _ _ _ (c .before .before .before .count-at .ensures) (c .before .mark .given .1)) in omega arith
 
-slice-write-row : tie.Need-slice-write-row
-slice-write-row c = search needs
+slice-write-item : tie.Need-slice-write-item
+slice-write-item c = search needs
 
 sub-sets-from : tie.Need-sub-sets-from
 sub-sets-from c = search needs
@@ -47,14 +47,14 @@ sets-from-requires c κs = (
 )
 
 same-length : tie.Need-same-length
-same-length c = c .before .row .given .1 ∙ simp length-set
+same-length c = c .before .item .given .1 ∙ simp length-set
 
 returns-2 : tie.Need-returns-2
 unfolding listOf
 returns-2 c =
     let z = c .before .before .before .before .before .before .before .before .before .before in
     let r = c .before .before .before .before .before .before .before .count-at in
-    subst (ReadsAs same _ _) (sym (sets-laid (z .args .row .now) _ (r .result .value) (z .pre .1)))
+    subst (ReadsAs same _ _) (sym (sets-laid (z .args .item .now) _ (r .result .value) (z .pre .1)))
     (gave-on _ _ _ _ same (got-same _ _ _ (r .ensures) (c .before .before .before .before .before .mark .given .1)) (c .before .before .sets-from .ensures))
 
 pub sets-at-spec : {M : Type 1} → statement M
@@ -65,8 +65,8 @@ sets-at-spec =
     enum-known-mark
     enum-told
     returns
-    cast-row
-    slice-write-row
+    cast-item
+    slice-write-item
     sub-sets-from
     part-sets-from-start
     part-sets-from-end
