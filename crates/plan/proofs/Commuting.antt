@@ -13,7 +13,7 @@ use Rattle.sheet.specs.declared.Effect.{Effect}
 use Rattle.sheet.specs.Literals.{has, mem, within, join, clash, consistent, replace, names, state}
 use Rattle.sheet.specs.Problem.{Action}
 use Rattle.sheet.specs.Encoding.{ProperAction}
-use Rattle.sheet.proofs.Bools.{T-false, true-T, false-T, and-l, and-r, or-not-l, or-not-r, not-not}
+use Rattle.sheet.proofs.base.Bools.{T-false, true-T, false-T, and-l, and-r, or-not-l, or-not-r, not-not}
 use Rattle.sheet.proofs.Bits.{Sub, has-or, disjoint-of, of-disjoint}
 use Rattle.sheet.proofs.LiteralSets.{Within, mem-join, or-cases, or-left, or-right, join-comm, clash-sym, apart-of, of-apart}
 use Rattle.sheet.proofs.Ascending.{mem-none}

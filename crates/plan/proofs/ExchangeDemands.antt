@@ -15,7 +15,7 @@ use Rattle.sheet.specs.Problem.{Action, Problem, Statement}
 use Rattle.sheet.specs.Format.{accepted, sheetOf}
 use Rattle.sheet.specs.Faults.{Says}
 use Rattle.sheet.specs.Encoding.{ProperAction, ProperProblem, ProperStatement, encode}
-use Rattle.sheet.proofs.ListFacts.{all-map}
+use Rattle.sheet.proofs.base.ListFacts.{all-map}
 use Rattle.sheet.proofs.Demands.{accepted-encoding, statement-proper}
 use Rattle.table.specs.declared.Table.{Table}
 use Rattle.table.specs.declared.PictureAnswer.{PictureAnswer}

@@ -7,8 +7,8 @@ use lib.Dec.{T}
 use Rattle.sheet.specs.declared.Literals.{Literals}
 use Rattle.sheet.specs.Literals.{within, clash, flip, state, meets, Proper}
 use Rattle.sheet.specs.Lists.{All, allOf}
-use Rattle.sheet.proofs.Bools.{test, both, T-true, T-false, true-T, false-T}
-use Rattle.sheet.proofs.ListFacts.{all-map, any-with, any-out, any-choose, all-test, all-fails}
+use Rattle.sheet.proofs.base.Bools.{test, both, T-true, T-false, true-T, false-T}
+use Rattle.sheet.proofs.base.ListFacts.{all-map, any-with, any-out, any-choose, all-test, all-fails}
 use Rattle.sheet.proofs.LiteralSets.{within-of, meet-at, meet-here, proper-consistent, proper-below}
 use Rattle.sheet.proofs.Worlds.{counter-world}
 use Rattle.table.specs.Worlds.{InGoal}

@@ -12,8 +12,8 @@ use Rattle.sheet.specs.Lists.{allOf, pad}
 use Rattle.sheet.specs.Problem.{Action}
 use Rattle.sheet.specs.Decoded.{planIn}
 use Rattle.sheet.specs.Packed.{setsIn}
-use Rattle.sheet.proofs.ListFacts.{all-at}
-use Rattle.sheet.proofs.Prefixes.{part-step, part-end}
+use Rattle.sheet.proofs.base.ListFacts.{all-at}
+use Rattle.sheet.proofs.base.Prefixes.{part-step, part-end}
 use Rattle.table.specs.declared.Table.{Table}
 use Rattle.table.specs.declared.TableAnswer.{TableAnswer}
 use Rattle.table.specs.declared.steps.Stepped.{Stepped}

@@ -11,7 +11,7 @@ use lib.Seq.{ext-getD}
 use Rattle.sheet.specs.declared.Literals.{Literals}
 use Rattle.sheet.specs.Lists.{All, pad}
 use Rattle.sheet.specs.Problem.{Action}
-use Rattle.sheet.proofs.ListFacts.{all-map, any-out}
+use Rattle.sheet.proofs.base.ListFacts.{all-map, any-out}
 use Rattle.table.specs.Minimal.{Outcome, refused, table}
 use Rattle.table.specs.Step.{stepTable}
 use Rattle.table.specs.Slots.{pairs, entriesOf}

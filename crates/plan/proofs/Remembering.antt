@@ -15,7 +15,7 @@ use Rattle.sheet.specs.declared.Literals.{Literals}
 use Rattle.sheet.specs.Lists.{All}
 use Rattle.sheet.specs.Problem.{Action}
 use Rattle.sheet.specs.Packed.{itemAt, setsIn, actionOf}
-use Rattle.sheet.proofs.ListFacts.{all-map, any-out}
+use Rattle.sheet.proofs.base.ListFacts.{all-map, any-out}
 use Rattle.sheet.proofs.PackedLaws.{item-lent}
 use Rattle.table.specs.Slots.{entriesOf}
 use Rattle.plan.specs.Search.{plansOf, nothing, firstOf}

@@ -15,7 +15,7 @@ use Rattle.sheet.specs.Problem.{Problem, Statement}
 use Rattle.sheet.specs.Format.{sheetOf}
 use Rattle.sheet.specs.Faults.{Says}
 use Rattle.sheet.specs.Encoding.{ProperProblem, encode}
-use Rattle.sheet.proofs.ListFacts.{map-take}
+use Rattle.sheet.proofs.base.ListFacts.{map-take}
 use Rattle.sheet.proofs.Demands.{accepted-encoding}
 use Rattle.table.specs.Minimal.{Outcome}
 use Rattle.table.specs.Start.{startTable}

@@ -17,7 +17,7 @@ use Rattle.sheet.specs.Problem.{Action, Problem, Statement}
 use Rattle.sheet.specs.Format.{Judgement, accepted, refused, sheetOf}
 use Rattle.sheet.specs.Faults.{Says}
 use Rattle.sheet.specs.Encoding.{ProperProblem}
-use Rattle.sheet.proofs.ListFacts.{map-take, map-drop, all-drop}
+use Rattle.sheet.proofs.base.ListFacts.{map-take, map-drop, all-drop}
 use Rattle.sheet.proofs.Demands.{statement-proper}
 use Rattle.table.specs.declared.Table.{Table}
 use Rattle.table.specs.declared.TableAnswer.{TableAnswer}

@@ -17,7 +17,7 @@ use Rattle.sheet.specs.Format.{Judgement, accepted, refused as faulty, sheetOf}
 use Rattle.sheet.specs.Encoding.{ProperAction, ProperProblem}
 use Rattle.sheet.specs.Decoded.{planIn}
 use Rattle.sheet.specs.Packed.{itemAt, itemsAt, setsIn, countIn, actionFrom, actionOf}
-use Rattle.sheet.proofs.ListFacts.{all-map}
+use Rattle.sheet.proofs.base.ListFacts.{all-map}
 use Rattle.table.specs.declared.Table.{Table}
 use Rattle.table.specs.declared.TableAnswer.{TableAnswer}
 use Rattle.table.specs.Start.{startTable}

@@ -13,7 +13,7 @@ use Rattle.sheet.specs.declared.Literals.{Literals}
 use Rattle.sheet.specs.Lists.{All}
 use Rattle.sheet.specs.Problem.{Action, Problem}
 use Rattle.sheet.specs.Encoding.{ProperProblem}
-use Rattle.sheet.proofs.ListFacts.{map-take}
+use Rattle.sheet.proofs.base.ListFacts.{map-take}
 use Rattle.table.specs.Worlds.{runWorld, Starting}
 use Rattle.table.specs.Minimal.{table}
 use Rattle.table.specs.Start.{startTable}

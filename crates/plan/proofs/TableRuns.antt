@@ -14,8 +14,8 @@ use Rattle.sheet.specs.Literals.{Proper}
 use Rattle.sheet.specs.Lists.{All, allOf}
 use Rattle.sheet.specs.Problem.{Action, Problem}
 use Rattle.sheet.specs.Encoding.{ProperList, ProperAction, ProperProblem}
-use Rattle.sheet.proofs.Bools.{T-true, T-false, true-T, false-T, not-in}
-use Rattle.sheet.proofs.ListFacts.{all-map, all-imaged}
+use Rattle.sheet.proofs.base.Bools.{T-true, T-false, true-T, false-T, not-in}
+use Rattle.sheet.proofs.base.ListFacts.{all-map, all-imaged}
 use Rattle.table.specs.Worlds.{Starting, InGoal}
 use Rattle.table.specs.Minimal.{In, Described, refused, table}
 use Rattle.table.specs.Start.{startTable}

@@ -15,10 +15,10 @@ use Rattle.sheet.specs.Literals.{has, mem, clash, names}
 use Rattle.sheet.specs.Lists.{Any}
 use Rattle.sheet.specs.Problem.{Action}
 use Rattle.sheet.proofs.Bits.{has-or, has-none, disjoint-of, not-disjoint}
-use Rattle.sheet.proofs.Bools.{T-true, true-T}
+use Rattle.sheet.proofs.base.Bools.{T-true, true-T}
 use Rattle.sheet.proofs.LiteralSets.{mem-join, clash-at, clash-here, or-cases, or-left, or-right}
 use Rattle.sheet.proofs.Ascending.{mem-none}
-use Rattle.sheet.proofs.ListFacts.{any-map}
+use Rattle.sheet.proofs.base.ListFacts.{any-map}
 use Rattle.sheet.proofs.Results.{has-names}
 use Rattle.plan.specs.Exchange.{resultsBy, namedBy, readBy, changed, reads, named, touch, touchAnywhere, swap, exchangeBy, exchanges}
 use Rattle.plan.specs.DemandWords.{Names, ResultOf, InResult, ReadIn, NamedIn, TouchesAt, PutsOut}

@@ -15,7 +15,7 @@ use Rattle.sheet.specs.Literals.{Proper}
 use Rattle.sheet.specs.Lists.{All, allOf}
 use Rattle.sheet.specs.Problem.{Action}
 use Rattle.sheet.specs.Encoding.{ProperAction}
-use Rattle.sheet.proofs.Bools.{test, true-T, false-T}
+use Rattle.sheet.proofs.base.Bools.{test, true-T, false-T}
 use Rattle.table.specs.Worlds.{worldAfter, stepWorld, andThen, runWorld, InGoal}
 use Rattle.table.specs.Minimal.{In, Described, refused, table}
 use Rattle.table.specs.Step.{stepTable}

@@ -15,7 +15,7 @@ use Rattle.sheet.specs.Literals.{mem, noLiteral, single, sign, byte, lit
 use Rattle.sheet.specs.Form.{Form, done, _>>=_, judged, due}
 use Rattle.sheet.specs.Format.{literalFault, ascending, setOf}
 use Rattle.sheet.proofs.Bits.{has-none}
-use Rattle.sheet.proofs.Bools.{iff-eq}
+use Rattle.sheet.proofs.base.Bools.{iff-eq}
 use Rattle.sheet.proofs.LiteralSets.{mem-join, set-ext, mem-self, single-is, or-cases, or-left, or-right, both, consistent-of, of-consistent, consistent-join, consistent-single, clash-single, of-below, below-join, below-single}
 use Rattle.sheet.proofs.Bytes.{byte-place, byte-of, contains-byte, contains-lt, down, next-found, next-ge, next-least, members-here, members-step, members-end, members-cons, members-nil, of-member, member-of}
 use Rattle.sheet.proofs.Runs.{run-byte, run-done, run-map}

@@ -12,7 +12,7 @@ use lib.Bits.{bitAnd, bitOr, or-add-and, and-step, and-shr, or-shr, and-mod, or-
 use lib.Pow.{pow-mono, pow-pos}
 use borrow.Author.Tests.{eq-eqb, eqb-true, lt-ltb, ltb-true, ltb-false, not-true}
 use Rattle.sheet.specs.Literals.{has}
-use Rattle.sheet.proofs.Bools.{iff-eq}
+use Rattle.sheet.proofs.base.Bools.{iff-eq}
 
 -- ---- a bit at 0, and one further up
 

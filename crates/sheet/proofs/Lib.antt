@@ -1,7 +1,5 @@
 -- The laws that belong to no one function.
-pub mod Bools
-pub mod ListFacts
-pub mod Prefixes
+pub mod base
 pub mod Bits
 pub mod LiteralSets
 pub mod Bytes

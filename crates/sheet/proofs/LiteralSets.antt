@@ -10,7 +10,7 @@ use lib.Bits.{bitAnd, and-comm}
 use borrow.Author.Tests.{eq-eqb, eqb-true, eqb-false, lt-ltb, ltb-true, not-true, not-false}
 use Rattle.sheet.specs.declared.Literals.{Literals}
 use Rattle.sheet.specs.Literals.{has, side, mem, within, clash, consistent, join, flip, replace, single, state, below, Proper}
-use Rattle.sheet.proofs.Bools.{T-true, true-T, iff-eq}
+use Rattle.sheet.proofs.base.Bools.{T-true, true-T, iff-eq}
 use Rattle.sheet.proofs.Bits.{has-or, has-minus, has-pow, has-none, has-not, has-below, below-has, ext, sub-of, of-sub, not-sub, disjoint-of, of-disjoint, not-disjoint}
 
 -- ---- the members of each set

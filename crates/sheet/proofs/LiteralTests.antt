@@ -7,7 +7,7 @@ use lib.Dec.{T, ltb}
 use borrow.Author.Tests.{lt-ltb, ltb-true}
 use Rattle.sheet.specs.declared.Literals.{Literals}
 use Rattle.sheet.specs.Literals.{has, mem, within, consistent, meets, state}
-use Rattle.sheet.proofs.Bools.{T-true, T-false, true-T, false-T, not-in, both, and-l, and-r, and-in}
+use Rattle.sheet.proofs.base.Bools.{T-true, T-false, true-T, false-T, not-in, both, and-l, and-r, and-in}
 use Rattle.sheet.proofs.LiteralSets.{mem-state, within-of, of-within, consistent-of, of-consistent, meet-at, meet-here}
 
 pub within-iff : (a b : Literals) → T (within a b) ↔ ((sign : Bool) (p : ℕ) → T (mem a sign p) → T (mem b sign p))

@@ -9,7 +9,7 @@ use lib.Dec.{T}
 use Rattle.sheet.specs.declared.Literals.{Literals}
 use Rattle.sheet.specs.Literals.{noLiteral, mem, within, clash, consistent, join, flip, replace, single, sign, byte, literal, contains, state, below, members, Proper}
 use Rattle.sheet.specs.Lists.{Any, All, addIf, keep}
-use Rattle.sheet.proofs.Bools.{both, T-true, T-false, true-T, false-T}
+use Rattle.sheet.proofs.base.Bools.{both, T-true, T-false, true-T, false-T}
 use Rattle.sheet.proofs.LiteralSets as sets
 use Rattle.sheet.proofs.LiteralSets.{not-not, consistent-join, below-join, below-of, clash-sym, clash-single, consistent-single, below-single, proper-of, proper-consistent, proper-below}
 use Rattle.sheet.proofs.Results.{consistent-replace, below-replace}

@@ -9,7 +9,7 @@ use borrow.Author.Tests.{not-true}
 use Rattle.sheet.specs.declared.Literals.{Literals}
 use Rattle.sheet.specs.Literals.{has, mem, within, clash, consistent, join, replace, below, names}
 use Rattle.sheet.proofs.Bits.{has-or, disjoint-of}
-use Rattle.sheet.proofs.Bools.{iff-eq}
+use Rattle.sheet.proofs.base.Bools.{iff-eq}
 use Rattle.sheet.proofs.LiteralSets.{mem-join, mem-replace, set-ext, or-cases, or-left, or-right, not-not, within-of, of-within, apart-of, consistent-of, of-consistent, below-of, of-below}
 
 -- the results come from a or from r

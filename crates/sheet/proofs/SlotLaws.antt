@@ -22,7 +22,7 @@ use Rattle.sheet.specs.Packed.{part, orsIn, oneofsIn, goalIn, movesIn, s
 use Rattle.sheet.specs.Marks.{refusedBy, factsIn}
 use Rattle.sheet.specs.Calls.{answerOf, judgeOf}
 use Rattle.sheet.specs.Encoding.{Counted, ProperClause, ProperAction, ProperStatement}
-use Rattle.sheet.proofs.ListFacts.{all-map}
+use Rattle.sheet.proofs.base.ListFacts.{all-map}
 use Rattle.sheet.proofs.Encoded.{encoded-iff}
 use Rattle.sheet.proofs.Judging.{accepted-iff}
 use Rattle.sheet.proofs.PackedLaws.{items-length, anew, anew-long, part-same, part-before, part-after}

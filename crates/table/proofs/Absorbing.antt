@@ -12,8 +12,8 @@ use borrow.Author.Tests.{ne-eqb}
 use Rattle.sheet.specs.declared.Literals.{Literals}
 use Rattle.sheet.specs.Literals.{within, consistent, join}
 use Rattle.sheet.specs.Lists.{Any, All, anyOf, addIf, keep}
-use Rattle.sheet.proofs.Bools.{test, both, T-true, true-T, not-in}
-use Rattle.sheet.proofs.ListFacts.{all-map, all-by, any-map, any-append-r, all-append, all-imaged, any-imaged, any-test, any-tested, any-none, none-any, all-keep}
+use Rattle.sheet.proofs.base.Bools.{test, both, T-true, true-T, not-in}
+use Rattle.sheet.proofs.base.ListFacts.{all-map, all-by, any-map, any-append-r, all-append, all-imaged, any-imaged, any-test, any-tested, any-none, none-any, all-keep}
 use Rattle.sheet.proofs.LiteralSets as sets
 use Rattle.sheet.proofs.Members.{any-passed, within-refl, within-trans, within-join-l}
 use Rattle.table.specs.declared.slots.Grown.{Grown}

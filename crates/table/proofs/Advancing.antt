@@ -17,7 +17,7 @@ use Rattle.sheet.specs.Problem.{Action}
 use Rattle.sheet.specs.Format.{Judgement, accepted, refused as faulty, sheetOf}
 use Rattle.sheet.specs.Decoded.{problemIn, statementIn}
 use Rattle.sheet.specs.Encoding.{ProperEffect, ProperAction}
-use Rattle.sheet.proofs.ListFacts.{all-map}
+use Rattle.sheet.proofs.base.ListFacts.{all-map}
 use Rattle.sheet.proofs.LiteralSets.{proper-consistent}
 use Rattle.table.specs.declared.slots.Grown.{Grown}
 use Rattle.table.specs.declared.slots.Grown.the-variants as grown

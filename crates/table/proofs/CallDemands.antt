@@ -18,7 +18,7 @@ use Rattle.sheet.specs.Problem.{Action, Problem, Statement}
 use Rattle.sheet.specs.Format.{sheetOf}
 use Rattle.sheet.specs.Faults.{Says}
 use Rattle.sheet.specs.Encoding.{ProperAction, ProperProblem}
-use Rattle.sheet.proofs.Bools.{test}
+use Rattle.sheet.proofs.base.Bools.{test}
 use Rattle.sheet.proofs.Demands.{statement-proper}
 use Rattle.table.specs.declared.Table.{Table}
 use Rattle.table.specs.declared.PictureAnswer.{PictureAnswer}

@@ -9,8 +9,8 @@ use lib.Dec.{T}
 use Rattle.sheet.specs.declared.Literals.{Literals}
 use Rattle.sheet.specs.Literals.{within, join, flip, single, sign, literal, contains, state, below, members, Proper}
 use Rattle.sheet.specs.Lists.{Any, All}
-use Rattle.sheet.proofs.Bools.{T-true, T-false, true-T, false-T}
-use Rattle.sheet.proofs.ListFacts.{any-map, all-map, any-with, any-out, all-append, all-parts, any-image, any-imaged, all-imaged, any-collect, any-collected, all-collected}
+use Rattle.sheet.proofs.base.Bools.{T-true, T-false, true-T, false-T}
+use Rattle.sheet.proofs.base.ListFacts.{any-map, all-map, any-with, any-out, all-append, all-parts, any-image, any-imaged, all-imaged, any-collect, any-collected, all-collected}
 use Rattle.sheet.proofs.LiteralSets.{both, within-single, below-of, below-join, below-single, proper-below}
 use Rattle.sheet.proofs.Worlds.{fails-at, fails-here}
 use Rattle.sheet.proofs.Members.{within-trans, within-join-l, within-join-r, join-within, members-all, members-any, flip-literal, flip-byte}

@@ -12,7 +12,7 @@ use Rattle.sheet.specs.declared.Literals.{Literals}
 use Rattle.sheet.specs.declared.Effect.{Effect}
 use Rattle.sheet.specs.Literals.{noLiteral, mem, within, clash, consistent, join, flip, replace, single, sign, literal, contains}
 use Rattle.sheet.specs.Lists.{All}
-use Rattle.sheet.proofs.ListFacts.{all-parts}
+use Rattle.sheet.proofs.base.ListFacts.{all-parts}
 use Rattle.sheet.proofs.LiteralSets.{or-right, not-not, within-of, within-refl, within-trans, within-join-l, within-join-r, join-comm, join-assoc, clash-here, clash-sym, clash-within, clash-single, consistent-clash, consistent-join, consistent-single, mem-self}
 use Rattle.sheet.proofs.Bytes.{next-found}
 use Rattle.sheet.proofs.Members.{flip-literal}

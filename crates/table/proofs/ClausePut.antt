@@ -9,8 +9,8 @@ use lib.Dec.{T}
 use Rattle.sheet.specs.declared.Literals.{Literals}
 use Rattle.sheet.specs.Literals.{within, join, consistent}
 use Rattle.sheet.specs.Lists.{Any, All, keep, collect}
-use Rattle.sheet.proofs.Bools.{both, T-true, not-not}
-use Rattle.sheet.proofs.ListFacts.{any-map, any-append-l, any-append-r, any-test, any-kept, any-collect, any-collected, all-keep}
+use Rattle.sheet.proofs.base.Bools.{both, T-true, not-not}
+use Rattle.sheet.proofs.base.ListFacts.{any-map, any-append-l, any-append-r, any-test, any-kept, any-collect, any-collected, all-keep}
 use Rattle.sheet.proofs.LiteralSets.{within-antisym}
 use Rattle.sheet.proofs.Members.{any-member, all-members, any-passed, within-refl, within-trans}
 use Rattle.table.specs.Worlds.{andThen}

@@ -9,8 +9,8 @@ use lib.ListN.{length}
 use Rattle.sheet.specs.declared.Literals.{Literals}
 use Rattle.sheet.specs.Literals.{within, consistent, below, Proper}
 use Rattle.sheet.specs.Lists.{allOf}
-use Rattle.sheet.proofs.Bools.{both, T-true, true-T, and-l, and-r, and-in, or-out, or-not-l, or-not-r, not-in}
-use Rattle.sheet.proofs.ListFacts.{all-map, all-test, all-tested}
+use Rattle.sheet.proofs.base.Bools.{both, T-true, true-T, and-l, and-r, and-in, or-out, or-not-l, or-not-r, not-in}
+use Rattle.sheet.proofs.base.ListFacts.{all-map, all-test, all-tested}
 use Rattle.sheet.proofs.LiteralSets.{proper-of, proper-below}
 use Rattle.table.specs.Minimal.{Antichain, Described, proper, apart, antichain, described}
 

@@ -12,7 +12,7 @@ use Rattle.sheet.specs.declared.Literals.{Literals}
 use Rattle.sheet.specs.declared.Answer.the-variants.{Accepted}
 use Rattle.sheet.specs.Format.{Judgement, accepted, refused, sheetOf}
 use Rattle.sheet.specs.Problem.{Statement}
-use Rattle.sheet.proofs.Bools.{cond-true, cond-false}
+use Rattle.sheet.proofs.base.Bools.{cond-true, cond-false}
 use Rattle.table.specs.declared.Table.{Table}
 use Rattle.table.specs.declared.PictureAnswer.{PictureAnswer}
 use Rattle.table.specs.declared.picture_clauses.Clauses.{Clauses}

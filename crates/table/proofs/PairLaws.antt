@@ -10,8 +10,8 @@ use Rattle.sheet.specs.declared.Effect.{Effect}
 use Rattle.sheet.specs.Literals.{noLiteral, within, join, clash, consistent, state, Proper}
 use Rattle.sheet.specs.Lists.{All, anyOf, allOf}
 use Rattle.sheet.specs.Encoding.{ProperEffect}
-use Rattle.sheet.proofs.Bools.{test, both, T-true, T-false, true-T, false-T, T-ext, and-l, and-r, and-in, or-l, or-r, or-out, not-in}
-use Rattle.sheet.proofs.ListFacts.{all-map, any-with, all-with, any-out, any-choose, any-test, all-test, all-fails, any-tested}
+use Rattle.sheet.proofs.base.Bools.{test, both, T-true, T-false, true-T, false-T, T-ext, and-l, and-r, and-in, or-l, or-r, or-out, not-in}
+use Rattle.sheet.proofs.base.ListFacts.{all-map, any-with, all-with, any-out, any-choose, any-test, all-test, all-fails, any-tested}
 use Rattle.sheet.proofs.LiteralSets.{of-apart, clash-sym, clash-join, of-consistent, consistent-join, consistent-within, below-join, proper-of, proper-below}
 use Rattle.sheet.proofs.Ascending.{mem-none}
 use Rattle.sheet.proofs.Members.{within-trans, within-join-l, within-join-r, join-within, some-world}

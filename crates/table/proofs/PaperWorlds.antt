@@ -12,7 +12,7 @@ use Rattle.sheet.specs.Literals.{noLiteral, mem, within, consistent, join, stat
 use Rattle.sheet.specs.Lists.{Any}
 use Rattle.sheet.specs.Problem.{Action}
 use Rattle.sheet.specs.Encoding.{ProperAction}
-use Rattle.sheet.proofs.Bools.{test, true-T, and-l, and-r, and-in, or-l, or-r, or-out}
+use Rattle.sheet.proofs.base.Bools.{test, true-T, and-l, and-r, and-in, or-l, or-r, or-out}
 use Rattle.sheet.proofs.Ascending.{mem-none}
 use Rattle.sheet.proofs.LiteralSets.{mem-join, mem-replace, set-ext}
 use Rattle.table.specs.Worlds.{addResult, results, takes, worldAfter, stepWorld}

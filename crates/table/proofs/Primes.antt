@@ -13,8 +13,8 @@ use borrow.Author.Tests.{not-true}
 use Rattle.sheet.specs.declared.Literals.{Literals}
 use Rattle.sheet.specs.Literals.{noLiteral, mem, within, clash, consistent, join, flip, sign, byte, literal, contains, state, meets, Proper, membersFrom, members}
 use Rattle.sheet.specs.Lists.{All, anyOf}
-use Rattle.sheet.proofs.Bools.{test, both, T-true, true-T, and-l, and-r, not-in}
-use Rattle.sheet.proofs.ListFacts.{any-test, any-none, any-out, all-map, all-imaged}
+use Rattle.sheet.proofs.base.Bools.{test, both, T-true, true-T, and-l, and-r, not-in}
+use Rattle.sheet.proofs.base.ListFacts.{any-test, any-none, any-out, all-map, all-imaged}
 use Rattle.sheet.proofs.LiteralSets.{of-within, within-of, of-consistent, consistent-within, consistent-clash, mem-self, single-is, consistent-single, consistent-flip, meet-at, meet-here, below-within, below-join, below-flip, proper-of, proper-consistent, proper-below}
 use Rattle.sheet.proofs.Bytes.{byte-of, contains-byte, contains-lt, within-literal, down, members-end, members-here, members-step, of-member, member-of}
 use Rattle.sheet.proofs.Worlds.{state-below, state-consistent, within-state, state-within, implied-clause}

@@ -11,7 +11,7 @@ use borrow.Author.Tests.{eq-eqb, ne-eqb}
 use Rattle.sheet.specs.declared.Literals.{Literals}
 use Rattle.sheet.specs.Literals.{within}
 use Rattle.sheet.specs.Lists.{anyOf}
-use Rattle.sheet.proofs.Bools.{true-T}
+use Rattle.sheet.proofs.base.Bools.{true-T}
 use Rattle.table.specs.declared.slots.Fate.{Fate}
 use Rattle.table.specs.declared.slots.Fate.the-variants.{Dropped, Added, Full}
 use Rattle.table.specs.declared.slots.Grown.{Grown}

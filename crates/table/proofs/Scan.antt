@@ -16,8 +16,8 @@ use Rattle.sheet.specs.Lists.{All, anyOf, pad}
 use Rattle.table.specs.Slots.{shifted, lastOf, lastWithin, pairs, entriesOf}
 use Rattle.table.specs.Moves.{slot, fourWithin}
 use Rattle.sheet.specs.Literals.{within, noLiteral}
-use Rattle.sheet.proofs.Bools.{T-true, T-false, true-T, false-T, or-not-l, or-not-r}
-use Rattle.sheet.proofs.ListFacts.{all-at, all-places, any-none}
+use Rattle.sheet.proofs.base.Bools.{T-true, T-false, true-T, false-T, or-not-l, or-not-r}
+use Rattle.sheet.proofs.base.ListFacts.{all-at, all-places, any-none}
 use Rattle.table.proofs.Pads.{length-entriesOf, getD-entriesOf, take-entriesOf}
 
 -- one member more at the end

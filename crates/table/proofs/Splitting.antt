@@ -10,8 +10,8 @@ use Rattle.sheet.specs.declared.Effect.{Effect}
 use Rattle.sheet.specs.Literals.{mem, within, clash, join, flip, single, sign, byte, literal, contains, state, members, Proper}
 use Rattle.sheet.specs.Lists.{All}
 use Rattle.sheet.specs.Encoding.{ProperEffect}
-use Rattle.sheet.proofs.Bools.{test, both, T-true, T-false, true-T, false-T, T-ext, or-out, or-not-r}
-use Rattle.sheet.proofs.ListFacts.{all-map, any-with, any-out, all-keep, any-imaged, all-imaged, any-collected, all-collected}
+use Rattle.sheet.proofs.base.Bools.{test, both, T-true, T-false, true-T, false-T, T-ext, or-out, or-not-r}
+use Rattle.sheet.proofs.base.ListFacts.{all-map, any-with, any-out, all-keep, any-imaged, all-imaged, any-collected, all-collected}
 use Rattle.sheet.proofs.LiteralSets.{within-of, mem-self, clash-at, clash-here, clash-sym, clash-within, below-of, proper-below}
 use Rattle.sheet.proofs.LiteralSets as sets
 use Rattle.sheet.proofs.Worlds.{fails-here, split-world}

@@ -14,7 +14,7 @@ use Rattle.sheet.specs.Format.{refused as faulty, sheetOf}
 use Rattle.sheet.specs.Lists.{keep, collect, pad}
 use Rattle.sheet.specs.Problem.{Problem}
 use Rattle.sheet.specs.Encoding.{ProperAction, ProperProblem}
-use Rattle.sheet.proofs.ListFacts.{all-at}
+use Rattle.sheet.proofs.base.ListFacts.{all-at}
 use Rattle.sheet.proofs.SlotLaws.{not-both}
 use Rattle.table.specs.declared.slots.Grown.{Grown}
 use Rattle.table.specs.declared.slots.Grown.the-variants as grown

@@ -12,8 +12,8 @@ use Rattle.sheet.specs.Literals.{within, consistent, state, Proper}
 use Rattle.sheet.specs.Lists.{Any, All, keep, collect}
 use Rattle.sheet.specs.Problem.{Problem}
 use Rattle.sheet.specs.Encoding.{ProperList, ProperClause, ProperProblem}
-use Rattle.sheet.proofs.Bools.{T-true, true-T}
-use Rattle.sheet.proofs.ListFacts.{any-map, all-map, all-append, all-parts, all-imaged, any-keep, all-keep, any-collect, any-collected, all-collected}
+use Rattle.sheet.proofs.base.Bools.{T-true, true-T}
+use Rattle.sheet.proofs.base.ListFacts.{any-map, all-map, all-append, all-parts, all-imaged, any-keep, all-keep, any-collect, any-collected, all-collected}
 use Rattle.sheet.proofs.LiteralSets.{consistent-within, proper-of, proper-below}
 use Rattle.sheet.proofs.Worlds.{state-consistent}
 use Rattle.sheet.proofs.Members.{any-passed, some-world}

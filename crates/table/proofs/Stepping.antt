@@ -15,8 +15,8 @@ use Rattle.sheet.specs.Literals.{within, consistent, replace, state, below, Pro
 use Rattle.sheet.specs.Lists.{All, allOf, collect}
 use Rattle.sheet.specs.Problem.{Action}
 use Rattle.sheet.specs.Encoding.{ProperEffect, ProperAction}
-use Rattle.sheet.proofs.Bools.{test, both, T-true, T-false, true-T, false-T, and-l, and-r, and-in, not-in}
-use Rattle.sheet.proofs.ListFacts.{all-map, any-with, all-with, any-out, any-image, any-imaged, all-imaged, any-collect, any-collected, all-collected, any-choose, all-test, all-fails}
+use Rattle.sheet.proofs.base.Bools.{test, both, T-true, T-false, true-T, false-T, and-l, and-r, and-in, not-in}
+use Rattle.sheet.proofs.base.ListFacts.{all-map, any-with, all-with, any-out, any-image, any-imaged, all-imaged, any-collect, any-collected, all-collected, any-choose, all-test, all-fails}
 use Rattle.sheet.proofs.LiteralSets.{below-join, proper-consistent, proper-below}
 use Rattle.sheet.proofs.Results.{replace-mono}
 use Rattle.sheet.proofs.Worlds.{after-lt, replace-state, before-world}

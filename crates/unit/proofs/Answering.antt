@@ -12,7 +12,7 @@ use Rattle.sheet.specs.Calls.{judgeOf}
 use Rattle.table.specs.declared.Table.{Table}
 use Rattle.table.specs.declared.TableAnswer.{TableAnswer}
 use Rattle.table.specs.declared.PictureAnswer.{PictureAnswer}
-use Rattle.sheet.proofs.Bools.{cond-false}
+use Rattle.sheet.proofs.base.Bools.{cond-false}
 use Rattle.table.specs.Calls.{startOf, stepOf}
 use Rattle.table.specs.PictureCalls.{pictureOf}
 use Rattle.plan.specs.declared.SearchAnswer.{SearchAnswer}

@@ -1,5 +1,5 @@
 -- `krepuskilo_run` meets its contract: the answer of the run in numbers, its rows and its last table, or 255. Assumes nothing.
-use Rattle.sheet.proofs.Bools.{cond-true}
+use Rattle.sheet.proofs.base.Bools.{cond-true}
 use Rattle.unit.proofs.Answering.{second, lacks-first, lacks-info, lacks-none, byte, tables, numbers, run-told, run-table}
 use Rattle.unit.proofs.Sizes.{run-fits}
 use Rattle.unit.proofs.RowNumbers.{rows-room, rows-out}

@@ -2,7 +2,7 @@
 use mathlib.Core.Path.{ap}
 use borrow.Author.Needs.{needs}
 use Rattle.table.specs.declared.TableAnswer.{TableAnswer}
-use Rattle.sheet.proofs.Bools.{cond-true}
+use Rattle.sheet.proofs.base.Bools.{cond-true}
 use Rattle.unit.proofs.Answering.{lacks-first, lacks-info, lacks-none, byte, tables, numbers, start-told}
 use Rattle.unit.proofs.Sizes.{start-fits}
 use Rattle.unit.proofs.krepuskilo_start.Statement.{statement}

@@ -1,6 +1,6 @@
 -- `krepuskilo_step` meets its contract: the answer of `step` in numbers and its table, or 255. Assumes nothing.
 use mathlib.Core.Path.{ap}
-use Rattle.sheet.proofs.Bools.{cond-true}
+use Rattle.sheet.proofs.base.Bools.{cond-true}
 use Rattle.table.specs.declared.TableAnswer.{TableAnswer}
 use Rattle.unit.proofs.Answering.{lacks-first, lacks-info, lacks-none, byte, tables, numbers, step-told}
 use Rattle.unit.proofs.Sizes.{step-fits}

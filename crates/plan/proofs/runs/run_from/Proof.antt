@@ -5,7 +5,7 @@ use Prim.Native.Nat.{_-_}
 use native.Mathlib.Omega.{arith}
 use borrow.Author.Needs.{needs}
 use lib.ListN.{length}
-use Rattle.sheet.proofs.Prefixes.{length-mapped}
+use Rattle.sheet.proofs.base.Prefixes.{length-mapped}
 use Rattle.sheet.specs.Packed.{setsIn}
 use Rattle.table.specs.Slots.{entries}
 use Rattle.table.specs.Moves.{lent}

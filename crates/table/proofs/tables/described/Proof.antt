@@ -8,7 +8,7 @@ use borrow.Author.Tests.{le-leb, lt-leb, not-true, not-false}
 use lib.Dec.{leb}
 use lib.ListN.{length}
 use Rattle.sheet.specs.Lists.{allOf}
-use Rattle.sheet.proofs.Bools.{kept, and-no}
+use Rattle.sheet.proofs.base.Bools.{kept, and-no}
 use Rattle.table.specs.Minimal.{described, proper, antichain}
 use Rattle.table.specs.Slots.{entriesOf}
 use Rattle.table.proofs.Pads.{length-entriesOf}

@@ -10,7 +10,7 @@ use native.Mathlib.Omega.{arith}
 use lib.Dec.{T}
 use lib.ListN.{length, getD, take, drop}
 use Rattle.sheet.specs.Lists.{Any, All, anyOf, allOf, addIf, keep, collect}
-use Rattle.sheet.proofs.Bools.{T-false, true-T, false-T, and-l, and-r, and-in, and-not, or-l, or-r, or-out, or-not-l, or-not-r}
+use Rattle.sheet.proofs.base.Bools.{T-false, true-T, false-T, and-l, and-r, and-in, and-not, or-l, or-r, or-out, or-not-l, or-not-r}
 
 module _ {A : Type 0} where
   pub any-map : (P Q : A → Type 0) → ((x : A) → P x → Q x) → (xs : List A) → Any P xs → Any Q xs
