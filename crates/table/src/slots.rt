@@ -1,6 +1,7 @@
 // A list of literal sets in two lent slices of masks, none within another: slot i of both is one set. The slices' length is the capacity.
 use crate::tables::entry_at;
 use sheet::Literals;
+use sheet::masks::consistent;
 use sheet::masks::within;
 ghost use mathlib.Core.Path.{_≡_};
 ghost use mathlib.Core.Bool.{true, false};
@@ -9,7 +10,7 @@ ghost use Prim.Native.Nat.{_≤_, _+_};
 ghost use lib.Seq.{paste};
 ghost use lib.ListN.{length};
 ghost use Rattle.sheet.specs.Literals as L;
-ghost use Rattle.sheet.specs.Lists.{anyOf};
+ghost use Rattle.sheet.specs.Lists.{anyOf, keep};
 ghost use Rattle.table.specs.Slots.{entriesOf, Holds, Held, lastWithin, left, listAfter, fateOf, Puts};
 ghost use Rattle.table.specs.declared.slots.Found.the-variants as found;
 ghost use Rattle.table.specs.Moves.{fourWithin};
@@ -224,6 +225,17 @@ pub(crate) fn offer_by_newest(trues: &mut [u32], falses: &mut [u32], n: usize, l
         }
     }
     offer(trues, falses, n, l)
+}
+
+// Puts a candidate if it is consistent.
+pub(crate) fn admit(trues: &mut [u32], falses: &mut [u32], n: usize, l: Literals) -> Grown
+    requires { ⌜ Held (length (now trues)) n (now trues) (now falses) ⌝ }
+    ensures { λ r. ⌜ Puts (keep L.consistent (l ∷ [])) n (now (trues .entry)) (now (falses .entry)) r (now (trues .exit)) (now (falses .exit)) ⌝ }
+{
+    if consistent(l) {
+        return offer(trues, falses, n, l);
+    }
+    Grown::To(n)
 }
 
 // Masks copied into others from `at` on. The others are kept.

@@ -2,8 +2,8 @@
 use crate::Table;
 use crate::TableAnswer;
 use crate::slots::Grown;
+use crate::slots::admit;
 use crate::slots::copy_masks;
-use crate::slots::offer;
 use crate::slots::offer_by_newest;
 use crate::steps::Stepped;
 use crate::steps::lacking;
@@ -32,17 +32,6 @@ ghost use Rattle.table.specs.Slots.{entriesOf, Held, Puts, tableOf};
 ghost use Rattle.table.specs.Calls.{orGiven};
 ghost use Rattle.table.specs.Reads.{clauseOf, others};
 ghost use Rattle.table.specs.Moves.{tabled};
-
-// Puts a candidate if it is consistent.
-pub(crate) fn admit(trues: &mut [u32], falses: &mut [u32], k: usize, c: Literals) -> Grown
-    requires { ⌜ Held (length (now trues)) k (now trues) (now falses) ⌝ }
-    ensures { λ r. ⌜ Puts (keep L.consistent (c ∷ [])) k (now (trues .entry)) (now (falses .entry)) r (now (trues .exit)) (now (falses .exit)) ⌝ }
-{
-    if consistent(c) {
-        return offer(trues, falses, k, c);
-    }
-    Grown::To(k)
-}
 
 // The entry with each alternative of an or-clause, in order.
 pub(crate) fn widen_or(
