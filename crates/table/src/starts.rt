@@ -27,7 +27,7 @@ ghost use Rattle.sheet.specs.Literals as L;
 ghost use Rattle.sheet.specs.Lists.{All, keep, collect};
 ghost use Rattle.sheet.specs.Packed as R;
 ghost use Rattle.table.specs.Start as spec;
-ghost use Rattle.table.specs.Slots.{entriesOf, Held, Puts, tableOf};
+ghost use Rattle.table.specs.Slots.{entriesOf, Room, Held, Puts, tableOf};
 ghost use Rattle.table.specs.Calls.{orGiven};
 ghost use Rattle.table.specs.Reads.{clauseOf, others, startAnswer};
 
@@ -193,36 +193,35 @@ pub(crate) fn widen(
     widen_or(alts, entry, trues, falses, k)
 }
 
-// The candidates of the first m entries of ts and fs, put after the k that are there.
+// The candidates of all entries, put into other arrays.
 pub(crate) fn widen_all<'a, 'b, 'c>(
     exclusive: bool,
     alts: &'c [u32],
-    ts: &'a [u32],
-    fs: &'a [u32],
-    m: usize,
-    trues: &'b mut [u32],
-    falses: &'b mut [u32],
-    k: usize,
+    trues: &'a [u32],
+    falses: &'a [u32],
+    count: usize,
+    to_trues: &'b mut [u32],
+    to_falses: &'b mut [u32],
 ) -> Grown
     requires { ⌜ R.SetsFit (now alts) ⌝ }
-    requires { ⌜ (m ≤ length (now ts)) × (m ≤ length (now fs)) ⌝ }
-    requires { ⌜ Held (length (now trues)) k (now trues) (now falses) ⌝ }
-    ensures { λ r. ⌜ Puts (keep L.consistent (collect (spec.candidates (clauseOf exclusive (R.setsIn (now (alts .entry))))) (entriesOf m (now (ts .entry)) (now (fs .entry))))) k (now (trues .entry)) (now (falses .entry)) r (now (trues .exit)) (now (falses .exit)) ⌝ }
+    requires { ⌜ Room count (now trues) (now falses) ⌝ }
+    requires { ⌜ Held (length (now «to_trues»)) 0 (now «to_trues») (now «to_falses») ⌝ }
+    ensures { λ r. ⌜ Puts (keep L.consistent (collect (spec.candidates (clauseOf exclusive (R.setsIn (now (alts .entry))))) (entriesOf count (now (trues .entry)) (now (falses .entry))))) 0 (now («to_trues» .entry)) (now («to_falses» .entry)) r (now («to_trues» .exit)) (now («to_falses» .exit)) ⌝ }
 {
-    let mut sum = k;
+    let mut filled: usize = 0;
     let mut i: usize = 0;
-    while i < m {
+    while i < count {
         let entry = Literals {
-            trues: ts[i],
-            falses: fs[i],
+            trues: trues[i],
+            falses: falses[i],
         };
-        let Grown::To(j) = widen(exclusive, alts, entry, trues, falses, sum) else {
+        let Grown::To(more) = widen(exclusive, alts, entry, to_trues, to_falses, filled) else {
             return Grown::Full;
         };
-        sum = j;
+        filled = more;
         i += 1;
     }
-    Grown::To(sum)
+    Grown::To(filled)
 }
 
 // No table.
@@ -264,7 +263,7 @@ pub(crate) fn grow(
 {
     let mut us = [0u32; 128];
     let mut gs = [0u32; 128];
-    match widen_all(exclusive, alts, trues, falses, m, &mut us, &mut gs, 0) {
+    match widen_all(exclusive, alts, trues, falses, m, &mut us, &mut gs) {
         Grown::To(k) => {
             if k == 0 {
                 return Started::Refused(20);

@@ -21,7 +21,7 @@ widen-all-requires c κs =
     let s = c .before .before .before .before .before .before .before in
     let t : s .args .m ≤ length (s .args .trues .now) = omega (arith, s .pre .1 .room, holds-trues-long _ _ _ _ _ (s .pre .1)) in
     let f : s .args .m ≤ length (s .args .falses .now) = omega (arith, s .pre .1 .room, holds-falses-long _ _ _ _ _ (s .pre .1)) in
-    (s .pre .0, ((t, f), fresh 128))
+    (s .pre .0, (record { trues = t; falses = f }, fresh 128))
 
 enum-known-k : tie.Need-enum-known-k
 enum-known-k c = search needs
