@@ -10,7 +10,7 @@ use Rattle.sheet.specs.declared.Literals.{Literals}
 use Rattle.sheet.specs.Literals.{noLiteral}
 use Rattle.sheet.specs.Lists.{pad}
 use Rattle.sheet.proofs.Reading.{pad-set}
-use Rattle.table.specs.Slots.{pairs, trues-of, falses-of, entriesOf, Holds, Held}
+use Rattle.table.specs.Slots.{pairs, trues-of, falses-of, entriesOf, Room, Holds, Held}
 
 module _ {A : Type 0} where
   pub length-pad : (n : ℕ) (d : A) (xs : List A) → length (pad n d xs) ≡ n
@@ -132,6 +132,13 @@ holds-trues-long cap es n ts fs h = ap length (h .trues-are) ∙ length-pad cap 
 
 pub holds-falses-long : (cap : ℕ) (es : List Literals) (n : ℕ) (ts fs : List ℕ) → Holds cap es n ts fs → length fs ≡ cap
 holds-falses-long cap es n ts fs h = ap length (h .falses-are) ∙ length-pad cap 0 (falses-of es)
+
+-- there is room for what is held
+pub holds-room : (cap : ℕ) (es : List Literals) (n : ℕ) (ts fs : List ℕ) → Holds cap es n ts fs → Room n ts fs
+holds-room cap es n ts fs h = record {
+  trues = omega (arith, h .room, holds-trues-long cap es n ts fs h);
+  falses = omega (arith, h .room, holds-falses-long cap es n ts fs h);
+}
 
 -- one entry more
 pub holds-push : (cap : ℕ) (es : List Literals) (n : ℕ) (ts fs : List ℕ) → Holds cap es n ts fs → n < cap → (l : Literals)

@@ -24,7 +24,7 @@ use Rattle.table.specs.declared.Table.{Table}
 use Rattle.table.specs.declared.TableAnswer.{TableAnswer}
 use Rattle.table.specs.Minimal.{putAll, Outcome, refused, table}
 use Rattle.table.specs.Start.{Clause, candidates, fresh, grow, onTable, growAll}
-use Rattle.table.specs.Slots.{pairs, entriesOf, Holds, Held, tableOf, Grew, Puts}
+use Rattle.table.specs.Slots.{pairs, entriesOf, Fresh, Holds, Held, tableOf, Grew, Puts}
 use Rattle.table.specs.Moves.{lent}
 use Rattle.table.specs.Reads.{startAnswer}
 use Rattle.table.specs.Calls.{orGiven, startOf, actionAt}
@@ -218,10 +218,10 @@ growAll-small (c ∷ cs) t h u e = at (grow 128 c t) refl e (λ v l. growAll-sma
     at (table v) q f rec = rec v (grow-small c t v q) f
 
 -- the table of one entry, in arrays that were zero
-module _ (known : Literals) (ts fs : List ℕ) (p : ts ≡ replicate 128 0) (q : fs ≡ replicate 128 0) where
+module _ (known : Literals) (ts fs : List ℕ) (zeros : Fresh ts fs) where
   one : Holds 128 (known ∷ []) 1 (set ts 0 (known .trues)) (set fs 0 (known .falses))
   unfolding pad
-  one = record { count-is = refl; room = omega arith; trues-are = ap (λ (x : List ℕ). set x 0 (known .trues)) p; falses-are = ap (λ (x : List ℕ). set x 0 (known .falses)) q }
+  one = record { count-is = refl; room = omega arith; trues-are = ap (λ (x : List ℕ). set x 0 (known .trues)) (zeros .trues); falses-are = ap (λ (x : List ℕ). set x 0 (known .falses)) (zeros .falses) }
 
   pub first-held : Held 128 1 (set ts 0 (known .trues)) (set fs 0 (known .falses))
   first-held = held-of _ _ _ _ _ one

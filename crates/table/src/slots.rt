@@ -11,7 +11,7 @@ ghost use lib.Seq.{paste};
 ghost use lib.ListN.{length};
 ghost use Rattle.sheet.specs.Literals as L;
 ghost use Rattle.sheet.specs.Lists.{anyOf, keep};
-ghost use Rattle.table.specs.Slots.{entriesOf, Holds, Held, lastWithin, left, listAfter, fateOf, Puts};
+ghost use Rattle.table.specs.Slots.{entriesOf, Room, Holds, Held, lastWithin, left, listAfter, fateOf, Puts};
 ghost use Rattle.table.specs.declared.slots.Found.the-variants as found;
 ghost use Rattle.table.specs.Moves.{fourWithin};
 
@@ -36,7 +36,7 @@ pub enum Grown {
 
 // Some of the four entries from `from` on lies in l. There is no branch, so that the compiler compares the four at once.
 pub(crate) fn some_of_four(trues: &[u32], falses: &[u32], from: usize, l: Literals) -> bool
-    requires { ⌜ (from + 4 ≤ length (now trues)) × (from + 4 ≤ length (now falses)) ⌝ }
+    requires { ⌜ Room (from + 4) (now trues) (now falses) ⌝ }
     ensures { λ r. ⌜ r ≡ fourWithin (now (trues .entry)) (now (falses .entry)) from l ⌝ }
 {
     let a = within(entry_at(trues, falses, from), l);
@@ -48,7 +48,7 @@ pub(crate) fn some_of_four(trues: &[u32], falses: &[u32], from: usize, l: Litera
 
 // The last of the four entries from `from` on that lies in l: one does.
 pub(crate) fn last_of_four(trues: &[u32], falses: &[u32], from: usize, l: Literals) -> usize
-    requires { ⌜ (from + 4 ≤ length (now trues)) × (from + 4 ≤ length (now falses)) ⌝ }
+    requires { ⌜ Room (from + 4) (now trues) (now falses) ⌝ }
     requires { ⌜ fourWithin (now trues) (now falses) from l ≡ true ⌝ }
     ensures { λ r. ⌜ found.At r ≡ lastWithin (entriesOf (from + 4) (now (trues .entry)) (now (falses .entry))) l ⌝ }
 {
@@ -66,7 +66,7 @@ pub(crate) fn last_of_four(trues: &[u32], falses: &[u32], from: usize, l: Litera
 
 // The last of the first n entries whose literals all lie in l, looked for one by one: n is what blocks of four leave.
 pub(crate) fn last_singly(trues: &[u32], falses: &[u32], n: usize, l: Literals) -> Found
-    requires { ⌜ (n ≤ length (now trues)) × (n ≤ length (now falses)) ⌝ }
+    requires { ⌜ Room n (now trues) (now falses) ⌝ }
     ensures { λ r. ⌜ r ≡ lastWithin (entriesOf n (now (trues .entry)) (now (falses .entry))) l ⌝ }
 {
     let mut i = n;
@@ -81,7 +81,7 @@ pub(crate) fn last_singly(trues: &[u32], falses: &[u32], n: usize, l: Literals) 
 
 // The last of the first n entries whose literals all lie in l, looked for by blocks of four.
 pub(crate) fn last_within(trues: &[u32], falses: &[u32], n: usize, l: Literals) -> Found
-    requires { ⌜ (n ≤ length (now trues)) × (n ≤ length (now falses)) ⌝ }
+    requires { ⌜ Room n (now trues) (now falses) ⌝ }
     ensures { λ r. ⌜ r ≡ lastWithin (entriesOf n (now (trues .entry)) (now (falses .entry))) l ⌝ }
 {
     let mut i = n;
@@ -96,7 +96,7 @@ pub(crate) fn last_within(trues: &[u32], falses: &[u32], n: usize, l: Literals) 
 
 // Some of the first n entries lies in l. Unlike `last_within` it has no way out before its end: it is for short lists.
 pub(crate) fn some_within(trues: &[u32], falses: &[u32], n: usize, l: Literals) -> bool
-    requires { ⌜ (n ≤ length (now trues)) × (n ≤ length (now falses)) ⌝ }
+    requires { ⌜ Room n (now trues) (now falses) ⌝ }
     ensures { λ r. ⌜ r ≡ anyOf (λ e. L.within e l) (entriesOf n (now (trues .entry)) (now (falses .entry))) ⌝ }
 {
     let mut some = false;
@@ -113,7 +113,7 @@ pub(crate) fn some_within(trues: &[u32], falses: &[u32], n: usize, l: Literals) 
 
 // Some of the first n entries contains l. The scan has no way out before its end, so that the compiler can compare several at a time.
 pub(crate) fn some_above(trues: &[u32], falses: &[u32], n: usize, l: Literals) -> bool
-    requires { ⌜ (n ≤ length (now trues)) × (n ≤ length (now falses)) ⌝ }
+    requires { ⌜ Room n (now trues) (now falses) ⌝ }
     ensures { λ r. ⌜ r ≡ anyOf (λ e. L.within l e) (entriesOf n (now (trues .entry)) (now (falses .entry))) ⌝ }
 {
     let mut found = false;
@@ -133,7 +133,7 @@ pub(crate) fn some_above(trues: &[u32], falses: &[u32], n: usize, l: Literals) -
 
 // The first of the n entries that contains l, n if there is none. The contract says what `remove` needs: none before it does.
 pub(crate) fn first_above(trues: &[u32], falses: &[u32], n: usize, l: Literals) -> usize
-    requires { ⌜ (n ≤ length (now trues)) × (n ≤ length (now falses)) ⌝ }
+    requires { ⌜ Room n (now trues) (now falses) ⌝ }
     ensures { λ r. ⌜ (r ≤ n) × (anyOf (λ e. L.within l e) (entriesOf r (now (trues .entry)) (now (falses .entry))) ≡ false) ⌝ }
 {
     let mut i: usize = 0;

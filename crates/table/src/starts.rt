@@ -19,17 +19,17 @@ use sheet::packed::set_at;
 use sheet::packed::set_from;
 ghost use mathlib.Core.Path.{_≡_};
 ghost use mathlib.Core.Bool.{true};
-ghost use mathlib.Core.List.{List, [], _∷_, _++_, map};
+ghost use mathlib.Core.List.{[], _∷_, _++_, map};
 ghost use Prim.Native.Nat.{_≤_, _<_, _*_};
-ghost use lib.ListN.{length, drop, getD, replicate};
+ghost use lib.ListN.{length, drop, getD};
 ghost use Rattle.sheet.specs.declared.Answer.the-variants.{Refused};
 ghost use Rattle.sheet.specs.Literals as L;
-ghost use Rattle.sheet.specs.Lists.{All, keep, collect};
+ghost use Rattle.sheet.specs.Lists.{keep, collect};
 ghost use Rattle.sheet.specs.Packed as R;
 ghost use Rattle.table.specs.Start as spec;
-ghost use Rattle.table.specs.Slots.{entriesOf, Room, Held, Puts, tableOf};
+ghost use Rattle.table.specs.Slots.{entriesOf, Room, Fresh, Held, Puts, tableOf};
 ghost use Rattle.table.specs.Calls.{orGiven};
-ghost use Rattle.table.specs.Reads.{clauseOf, others, startAnswer};
+ghost use Rattle.table.specs.Reads.{clauseOf, others, ClausesFit, startAnswer};
 
 // What a start gives: so many entries in the lent arrays, or the number of a refusal.
 pub enum Started {
@@ -286,7 +286,7 @@ pub(crate) fn grow_all<'a, 'b>(
     falses: &'b mut [u32],
     m: usize,
 ) -> Started
-    requires { ⌜ (count * 17 ≤ length (now clauses)) × All (λ (c : List Literals). length c ≤ 8) (R.clausesAt count (now clauses)) ⌝ }
+    requires { ⌜ ClausesFit count (now clauses) ⌝ }
     requires { ⌜ Held 128 m (now trues) (now falses) ⌝ }
     ensures { λ r. ⌜ startAnswer r (now (trues .exit)) (now (falses .exit)) ≡ orGiven (tableOf []) (spec.growAll 128 (map (clauseOf exclusive) (R.clausesAt count (now (clauses .entry)))) (entriesOf m (now (trues .entry)) (now (falses .entry)))) ⌝ }
 {
@@ -317,9 +317,9 @@ pub fn first_into<'a, 'b>(
     trues: &'b mut [u32],
     falses: &'b mut [u32],
 ) -> Started
-    requires { ⌜ (i * 17 ≤ length (now ors)) × All (λ (c : List Literals). length c ≤ 8) (R.clausesAt i (now ors)) ⌝ }
-    requires { ⌜ (j * 17 ≤ length (now oneofs)) × All (λ (c : List Literals). length c ≤ 8) (R.clausesAt j (now oneofs)) ⌝ }
-    requires { ⌜ (now trues ≡ replicate 128 0) × (now falses ≡ replicate 128 0) ⌝ }
+    requires { ⌜ ClausesFit i (now ors) ⌝ }
+    requires { ⌜ ClausesFit j (now oneofs) ⌝ }
+    requires { ⌜ Fresh (now trues) (now falses) ⌝ }
     ensures { λ r. ⌜ startAnswer r (now (trues .exit)) (now (falses .exit)) ≡ orGiven (tableOf []) (spec.growAll 128 (map spec.orOf (R.clausesAt i (now (ors .entry))) ++ map spec.oneOf (R.clausesAt j (now (oneofs .entry)))) (known ∷ [])) ⌝ }
 {
     trues[0] = known.trues;
@@ -332,8 +332,8 @@ pub fn first_into<'a, 'b>(
 
 // The first table of a sheet that was read.
 pub(crate) fn first_table<'a>(sheet: Sheet, ors: &'a [u32], oneofs: &'a [u32]) -> TableAnswer
-    requires { ⌜ (sheet .ors * 17 ≤ length (now ors)) × All (λ (c : List Literals). length c ≤ 8) (R.clausesAt (sheet .ors) (now ors)) ⌝ }
-    requires { ⌜ (sheet .oneofs * 17 ≤ length (now oneofs)) × All (λ (c : List Literals). length c ≤ 8) (R.clausesAt (sheet .oneofs) (now oneofs)) ⌝ }
+    requires { ⌜ ClausesFit (sheet .ors) (now ors) ⌝ }
+    requires { ⌜ ClausesFit (sheet .oneofs) (now oneofs) ⌝ }
     ensures { λ r. ⌜ r ≡ orGiven (tableOf []) (spec.growAll 128 (map spec.orOf (R.clausesAt (sheet .ors) (now (ors .entry))) ++ map spec.oneOf (R.clausesAt (sheet .oneofs) (now (oneofs .entry)))) (sheet .known ∷ [])) ⌝ }
 {
     let mut trues = [0u32; 128];

@@ -22,7 +22,7 @@ sub-i : tie.Need-sub-i Inv-loop μ-loop
 sub-i c = search needs
 
 entry-at-requires : tie.Need-entry-at-requires Inv-loop μ-loop
-entry-at-requires c κs = (omega arith, omega arith)
+entry-at-requires c κs = search needs
 
 within-requires : tie.Need-within-requires Inv-loop μ-loop
 within-requires c κs = search needs

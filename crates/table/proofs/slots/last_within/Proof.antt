@@ -2,6 +2,7 @@
 use mathlib.Core.Path.{_≡_, refl, sym, _∙_}
 use Prim.Native.Nat.{_≤_, _-_}
 use native.Mathlib.Omega.{arith}
+use borrow.Author.Needs.{needs}
 use Rattle.table.specs.Slots.{lastWithin, entriesOf}
 use Rattle.table.proofs.Scan.{turn-found, turn-none}
 use Rattle.table.proofs.slots.last_within.Statement.{statement}
@@ -17,10 +18,10 @@ loop-holds : tie.Need-loop-holds Inv-loop μ-loop
 loop-holds c = (omega arith, refl)
 
 some-of-four-requires : tie.Need-some-of-four-requires Inv-loop μ-loop
-some-of-four-requires c κs = (omega arith, omega arith)
+some-of-four-requires c κs = search needs
 
 last-of-four-requires : tie.Need-last-of-four-requires Inv-loop μ-loop
-last-of-four-requires c κs = ((omega arith, omega arith), sym (c .before .some-of-four .ensures) ∙ c .if1 .taken)
+last-of-four-requires c κs = (search needs, sym (c .before .some-of-four .ensures) ∙ c .if1 .taken)
 
 returns : tie.Need-returns Inv-loop μ-loop
 returns c =
@@ -38,7 +39,7 @@ loop-again c =
     (omega arith, turn-none (s .trues .now) (s .falses .now) (g .i) (g .i - 4) (s .l) (omega arith) (sym (c .before .some-of-four .ensures) ∙ c .if1 .left) ∙ g .inv .1)
 
 last-singly-requires : tie.Need-last-singly-requires Inv-loop μ-loop
-last-singly-requires c κs = (omega arith, omega arith)
+last-singly-requires c κs = search needs
 
 returns-2 : tie.Need-returns-2 Inv-loop μ-loop
 returns-2 c = c .last-singly .ensures ∙ c .before .before .loop .inv .1

@@ -4,7 +4,7 @@ use Prim.Native.Nat.{_-_}
 use native.Mathlib.Omega.{arith}
 use borrow.Author.Needs.{needs}
 use Rattle.sheet.specs.Literals.{within}
-use Rattle.table.proofs.Pads.{holds-falses-long}
+use Rattle.table.proofs.Pads.{holds-room}
 use Rattle.table.proofs.Scan.{tested, hit, found-some}
 use Rattle.table.proofs.PutSlots.{dropped, offered}
 use Rattle.table.proofs.slots.offer_by_newest.Statement.{statement}
@@ -15,8 +15,8 @@ sub-entry-at c = search needs
 
 entry-at-requires : tie.Need-entry-at-requires
 entry-at-requires c κs =
-    let z = c .before .before .before .before .before in
-    (omega (arith, z .pre .room), omega (arith, z .pre .room, holds-falses-long _ _ _ _ _ (z .pre)))
+    let room = holds-room _ _ _ _ _ (c .before .before .before .before .before .pre) in
+    record { trues = omega (arith, room .trues); falses = omega (arith, room .falses) }
 
 within-requires : tie.Need-within-requires
 within-requires c κs = search needs

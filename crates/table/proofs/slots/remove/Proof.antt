@@ -11,7 +11,7 @@ use borrow.Author.Tests.{not-true}
 use Rattle.sheet.specs.declared.Literals.{Literals}
 use Rattle.sheet.specs.Literals.{within}
 use Rattle.table.specs.Slots.{Holds}
-use Rattle.table.proofs.Pads.{holds-falses-long}
+use Rattle.table.proofs.Pads.{holds-falses-long, holds-room}
 use Rattle.table.proofs.Compact.{none-goes, Moved, moved-is, moved-start, moved-gone, moved-kept, moved-end}
 use Rattle.table.proofs.slots.remove.Statement.{statement}
 use Rattle.table.proofs.slots.remove.Tie as tie
@@ -23,10 +23,7 @@ abbrev μ-loop : tie.MeasureT-loop
 μ-loop trues₀ falses₀ n l first i₀ k₀ trues falses i k = n - i
 
 some-above-requires : tie.Need-some-above-requires Inv-loop μ-loop
-some-above-requires c κs =
-    let h = c .before .before .before .before .pre in
-    let q = holds-falses-long _ _ _ _ _ h in
-    (h .room, omega (arith, h .room))
+some-above-requires c κs = holds-room _ _ _ _ _ (c .before .before .before .before .pre)
 
 same-length : tie.Need-same-length Inv-loop μ-loop
 same-length c = search needs
@@ -42,10 +39,7 @@ returns c =
     (sym (none-goes (λ e. within (a .l) e) _ (sym (c .before .some-above .ensures) ∙ not-true _ (c .if1 .taken)))) (o .pre)
 
 first-above-requires : tie.Need-first-above-requires Inv-loop μ-loop
-first-above-requires c κs =
-    let h = c .before .before .before .before .before .before .before .before .pre in
-    let q = holds-falses-long _ _ _ _ _ h in
-    (h .room, omega (arith, h .room))
+first-above-requires c κs = holds-room _ _ _ _ _ (c .before .before .before .before .before .before .before .before .pre)
 
 loop-holds : tie.Need-loop-holds Inv-loop μ-loop
 loop-holds c =

@@ -1,10 +1,8 @@
 -- `table::starts::grow` meets its contract. Assumes nothing.
 use mathlib.Core.Path.{sym}
 use mathlib.Core.List.{[]}
-use Prim.Native.Nat.{_≤_}
 use native.Mathlib.Omega.{arith}
-use lib.ListN.{length}
-use Rattle.table.proofs.Pads.{fresh, holds-trues-long, holds-falses-long}
+use Rattle.table.proofs.Pads.{fresh, holds-trues-long, holds-falses-long, holds-room}
 use Rattle.table.proofs.Started.{right-refused, put-held, trues-front, falses-front, grown-full, grown-empty, grown-copied}
 use borrow.Author.Needs.{needs}
 use Rattle.table.proofs.starts.grow.Statement.{statement}
@@ -19,9 +17,7 @@ slice-aggregate-widen-all-2 c = search needs
 widen-all-requires : tie.Need-widen-all-requires
 widen-all-requires c κs =
     let s = c .before .before .before .before .before .before .before in
-    let t : s .args .m ≤ length (s .args .trues .now) = omega (arith, s .pre .1 .room, holds-trues-long _ _ _ _ _ (s .pre .1)) in
-    let f : s .args .m ≤ length (s .args .falses .now) = omega (arith, s .pre .1 .room, holds-falses-long _ _ _ _ _ (s .pre .1)) in
-    (s .pre .0, (record { trues = t; falses = f }, fresh 128))
+    (s .pre .0, (holds-room _ _ _ _ _ (s .pre .1), fresh 128))
 
 enum-known-k : tie.Need-enum-known-k
 enum-known-k c = search needs

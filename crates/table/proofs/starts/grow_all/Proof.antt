@@ -49,7 +49,7 @@ part-grow-end c = omega arith
 grow-requires : tie.Need-grow-requires Inv-loop μ-loop
 grow-requires c κs =
     let s = c .before .before .before .before .before .before .before .before in
-    (clause-fits (s .args .count) (s .args .clauses .now) (c .before .before .before .before .loop .i) (s .pre .0 .0) (s .pre .0 .1) (c .before .before .before .loop-test .taken), c .before .before .before .before .loop .inv .1 .held)
+    (clause-fits (s .args .count) (s .args .clauses .now) (c .before .before .before .before .loop .i) (s .pre .0) (c .before .before .before .loop-test .taken), c .before .before .before .before .loop .inv .1 .held)
 
 enum-known-k : tie.Need-enum-known-k Inv-loop μ-loop
 enum-known-k c = search needs
