@@ -31,9 +31,9 @@ returns : tie.Need-returns
 returns c =
     let z = c .before .before .before .before .before .before .before .before in
     let a = z .args in
-    let newest = hit (λ e. within e (a .l)) (a .trues .now) (a .falses .now) (a .n) (a .n - 1) (omega arith) (sym (tested (a .l) (c .before .within .ensures) (c .before .before .entry-at .ensures)) ∙ c .if2 .taken) in
-    let d = dropped _ (a .n) (a .trues .now) (a .falses .now) (a .l) (z .pre) (found-some _ _ _ _ (sym newest) refl) in
-    offered (a .n) (a .trues .now) (a .falses .now) (a .l) _ _ _ _ (d .0) refl (d .1)
+    let newest = hit (λ e. within e (a .candidate)) (a .trues .now) (a .falses .now) (a .count) (a .count - 1) (omega arith) (sym (tested (a .candidate) (c .before .within .ensures) (c .before .before .entry-at .ensures)) ∙ c .if2 .taken) in
+    let d = dropped _ (a .count) (a .trues .now) (a .falses .now) (a .candidate) (z .pre) (found-some _ _ _ _ (sym newest) refl) in
+    offered (a .count) (a .trues .now) (a .falses .now) (a .candidate) _ _ _ _ (d .0) refl (d .1)
 
 offer-requires : tie.Need-offer-requires
 offer-requires c κs = search needs
