@@ -220,8 +220,8 @@ pub(crate) fn offer(
         Fate::Dropped => Grown::To(count),
         Fate::Added {
             removed: _,
-            count: more,
-        } => Grown::To(more),
+            count: grown,
+        } => Grown::To(grown),
         Fate::Full => Grown::Full,
     }
 }

@@ -41,26 +41,26 @@ pub enum Started {
 pub(crate) fn widen_or(
     alts: &[u32],
     entry: Literals,
-    trues: &mut [u32],
-    falses: &mut [u32],
-    k: usize,
+    to_trues: &mut [u32],
+    to_falses: &mut [u32],
+    count: usize,
 ) -> Grown
     requires { ⌜ R.SetsFit (now alts) ⌝ }
-    requires { ⌜ Held (length (now trues)) k (now trues) (now falses) ⌝ }
-    ensures { λ r. ⌜ Puts (keep L.consistent (spec.candidates (spec.orOf (R.setsIn (now (alts .entry)))) entry)) k (now (trues .entry)) (now (falses .entry)) r (now (trues .exit)) (now (falses .exit)) ⌝ }
+    requires { ⌜ Held (length (now «to_trues»)) count (now «to_trues») (now «to_falses») ⌝ }
+    ensures { λ r. ⌜ Puts (keep L.consistent (spec.candidates (spec.orOf (R.setsIn (now (alts .entry)))) entry)) count (now («to_trues» .entry)) (now («to_falses» .entry)) r (now («to_trues» .exit)) (now («to_falses» .exit)) ⌝ }
 {
-    let count = count_of(alts);
-    let mut sum = k;
+    let size = count_of(alts);
+    let mut filled = count;
     let mut i: usize = 0;
-    while i < count {
+    while i < size {
         let a = set_at(alts, i);
-        let Grown::To(m) = admit(trues, falses, sum, join(entry, a)) else {
+        let Grown::To(grown) = admit(to_trues, to_falses, filled, join(entry, a)) else {
             return Grown::Full;
         };
-        sum = m;
+        filled = grown;
         i += 1;
     }
-    Grown::To(sum)
+    Grown::To(filled)
 }
 
 // The alternatives but the one of number i, laid out, two masks to each. The result is how many.
@@ -68,19 +68,19 @@ pub(crate) fn lay_others(alts: &[u32], i: usize, row: &mut [u32]) -> usize
     requires { ⌜ R.SetsFit (now alts) × (length (now row) ≡ 16) ⌝ }
     ensures { λ r. ⌜ (2 * r ≤ length (now (row .exit))) × (R.setsAt r (now (row .exit)) ≡ others i 0 (R.setsIn (now (alts .entry)))) ⌝ }
 {
-    let count = count_of(alts);
-    let mut k: usize = 0;
+    let size = count_of(alts);
+    let mut filled: usize = 0;
     let mut j: usize = 0;
-    while j < count {
+    while j < size {
         if j != i {
             let a = set_at(alts, j);
-            row[2 * k] = a.trues;
-            row[2 * k + 1] = a.falses;
-            k += 1;
+            row[2 * filled] = a.trues;
+            row[2 * filled + 1] = a.falses;
+            filled += 1;
         }
         j += 1;
     }
-    k
+    filled
 }
 
 // Each alternative from `at` on is made false in every way: by each of its literals that the piece lacks. One that the piece has would make
@@ -90,40 +90,41 @@ pub(crate) fn choose<'a, 'b>(
     size: usize,
     at: usize,
     piece: Literals,
-    trues: &'b mut [u32],
-    falses: &'b mut [u32],
-    k: usize,
+    to_trues: &'b mut [u32],
+    to_falses: &'b mut [u32],
+    count: usize,
 ) -> Grown
     requires { ⌜ 2 * size ≤ length (now row) ⌝ }
     requires { ⌜ L.consistent piece ≡ true ⌝ }
-    requires { ⌜ Held (length (now trues)) k (now trues) (now falses) ⌝ }
-    ensures { λ r. ⌜ Puts (keep L.consistent (spec.falsify (drop at (R.setsAt size (now (row .entry)))) piece)) k (now (trues .entry)) (now (falses .entry)) r (now (trues .exit)) (now (falses .exit)) ⌝ }
+    requires { ⌜ Held (length (now «to_trues»)) count (now «to_trues») (now «to_falses») ⌝ }
+    ensures { λ r. ⌜ Puts (keep L.consistent (spec.falsify (drop at (R.setsAt size (now (row .entry)))) piece)) count (now («to_trues» .entry)) (now («to_falses» .entry)) r (now («to_trues» .exit)) (now («to_falses» .exit)) ⌝ }
 {
     if size <= at {
-        return offer_by_newest(trues, falses, k, piece);
+        return offer_by_newest(to_trues, to_falses, count, piece);
     }
     let after = at + 1;
     let mut rest = lacking(set_from(row, 2 * at), piece);
-    let mut sum = k;
+    let mut filled = count;
     let mut l = next(rest, 0);
     while l < 64 {
         let one = literal(l);
         let chosen = join(piece, flip(one));
         if after < size {
-            let Grown::To(m) = choose(row, size, after, chosen, trues, falses, sum) else {
+            let Grown::To(grown) = choose(row, size, after, chosen, to_trues, to_falses, filled)
+            else {
                 return Grown::Full;
             };
-            sum = m;
+            filled = grown;
         } else {
-            let Grown::To(m) = offer_by_newest(trues, falses, sum, chosen) else {
+            let Grown::To(grown) = offer_by_newest(to_trues, to_falses, filled, chosen) else {
                 return Grown::Full;
             };
-            sum = m;
+            filled = grown;
         }
         rest = lacking(rest, one);
         l = next(rest, 0);
     }
-    Grown::To(sum)
+    Grown::To(filled)
 }
 
 // The entry with the alternative of number i, and the others made false.
@@ -131,47 +132,47 @@ pub(crate) fn widen_one(
     alts: &[u32],
     i: usize,
     entry: Literals,
-    trues: &mut [u32],
-    falses: &mut [u32],
-    k: usize,
+    to_trues: &mut [u32],
+    to_falses: &mut [u32],
+    count: usize,
 ) -> Grown
     requires { ⌜ R.SetsFit (now alts) × (i < getD (now alts) 0 0) ⌝ }
-    requires { ⌜ Held (length (now trues)) k (now trues) (now falses) ⌝ }
-    ensures { λ r. ⌜ Puts (keep L.consistent (spec.falsify (others i 0 (R.setsIn (now (alts .entry)))) (L.join entry (getD (R.setsIn (now (alts .entry))) i L.noLiteral)))) k (now (trues .entry)) (now (falses .entry)) r (now (trues .exit)) (now (falses .exit)) ⌝ }
+    requires { ⌜ Held (length (now «to_trues»)) count (now «to_trues») (now «to_falses») ⌝ }
+    ensures { λ r. ⌜ Puts (keep L.consistent (spec.falsify (others i 0 (R.setsIn (now (alts .entry)))) (L.join entry (getD (R.setsIn (now (alts .entry))) i L.noLiteral)))) count (now («to_trues» .entry)) (now («to_falses» .entry)) r (now («to_trues» .exit)) (now («to_falses» .exit)) ⌝ }
 {
     let a = set_at(alts, i);
     let first = join(entry, a);
     if !consistent(first) {
-        return Grown::To(k);
+        return Grown::To(count);
     }
     let mut row = [0u32; 16];
     let size = lay_others(alts, i, &mut row);
-    choose(&row, size, 0, first, trues, falses, k)
+    choose(&row, size, 0, first, to_trues, to_falses, count)
 }
 
 // The entry with each alternative of a oneof-clause, in order, and the others made false.
 pub(crate) fn widen_oneof(
     alts: &[u32],
     entry: Literals,
-    trues: &mut [u32],
-    falses: &mut [u32],
-    k: usize,
+    to_trues: &mut [u32],
+    to_falses: &mut [u32],
+    count: usize,
 ) -> Grown
     requires { ⌜ R.SetsFit (now alts) ⌝ }
-    requires { ⌜ Held (length (now trues)) k (now trues) (now falses) ⌝ }
-    ensures { λ r. ⌜ Puts (keep L.consistent (spec.candidates (spec.oneOf (R.setsIn (now (alts .entry)))) entry)) k (now (trues .entry)) (now (falses .entry)) r (now (trues .exit)) (now (falses .exit)) ⌝ }
+    requires { ⌜ Held (length (now «to_trues»)) count (now «to_trues») (now «to_falses») ⌝ }
+    ensures { λ r. ⌜ Puts (keep L.consistent (spec.candidates (spec.oneOf (R.setsIn (now (alts .entry)))) entry)) count (now («to_trues» .entry)) (now («to_falses» .entry)) r (now («to_trues» .exit)) (now («to_falses» .exit)) ⌝ }
 {
-    let count = count_of(alts);
-    let mut sum = k;
+    let size = count_of(alts);
+    let mut filled = count;
     let mut i: usize = 0;
-    while i < count {
-        let Grown::To(m) = widen_one(alts, i, entry, trues, falses, sum) else {
+    while i < size {
+        let Grown::To(grown) = widen_one(alts, i, entry, to_trues, to_falses, filled) else {
             return Grown::Full;
         };
-        sum = m;
+        filled = grown;
         i += 1;
     }
-    Grown::To(sum)
+    Grown::To(filled)
 }
 
 // The candidates of one entry.
@@ -179,18 +180,18 @@ pub(crate) fn widen(
     exclusive: bool,
     alts: &[u32],
     entry: Literals,
-    trues: &mut [u32],
-    falses: &mut [u32],
-    k: usize,
+    to_trues: &mut [u32],
+    to_falses: &mut [u32],
+    count: usize,
 ) -> Grown
     requires { ⌜ R.SetsFit (now alts) ⌝ }
-    requires { ⌜ Held (length (now trues)) k (now trues) (now falses) ⌝ }
-    ensures { λ r. ⌜ Puts (keep L.consistent (spec.candidates (clauseOf exclusive (R.setsIn (now (alts .entry)))) entry)) k (now (trues .entry)) (now (falses .entry)) r (now (trues .exit)) (now (falses .exit)) ⌝ }
+    requires { ⌜ Held (length (now «to_trues»)) count (now «to_trues») (now «to_falses») ⌝ }
+    ensures { λ r. ⌜ Puts (keep L.consistent (spec.candidates (clauseOf exclusive (R.setsIn (now (alts .entry)))) entry)) count (now («to_trues» .entry)) (now («to_falses» .entry)) r (now («to_trues» .exit)) (now («to_falses» .exit)) ⌝ }
 {
     if exclusive {
-        return widen_oneof(alts, entry, trues, falses, k);
+        return widen_oneof(alts, entry, to_trues, to_falses, count);
     }
-    widen_or(alts, entry, trues, falses, k)
+    widen_or(alts, entry, to_trues, to_falses, count)
 }
 
 // The candidates of all entries, put into other arrays.
@@ -215,10 +216,10 @@ pub(crate) fn widen_all<'a, 'b, 'c>(
             trues: trues[i],
             falses: falses[i],
         };
-        let Grown::To(more) = widen(exclusive, alts, entry, to_trues, to_falses, filled) else {
+        let Grown::To(grown) = widen(exclusive, alts, entry, to_trues, to_falses, filled) else {
             return Grown::Full;
         };
-        filled = more;
+        filled = grown;
         i += 1;
     }
     Grown::To(filled)
@@ -255,23 +256,31 @@ pub(crate) fn grow(
     alts: &[u32],
     trues: &mut [u32],
     falses: &mut [u32],
-    m: usize,
+    count: usize,
 ) -> Started
     requires { ⌜ R.SetsFit (now alts) ⌝ }
-    requires { ⌜ Held 128 m (now trues) (now falses) ⌝ }
-    ensures { λ r. ⌜ startAnswer r (now (trues .exit)) (now (falses .exit)) ≡ orGiven (tableOf []) (spec.grow 128 (clauseOf exclusive (R.setsIn (now (alts .entry)))) (entriesOf m (now (trues .entry)) (now (falses .entry)))) ⌝ }
+    requires { ⌜ Held 128 count (now trues) (now falses) ⌝ }
+    ensures { λ r. ⌜ startAnswer r (now (trues .exit)) (now (falses .exit)) ≡ orGiven (tableOf []) (spec.grow 128 (clauseOf exclusive (R.setsIn (now (alts .entry)))) (entriesOf count (now (trues .entry)) (now (falses .entry)))) ⌝ }
 {
-    let mut us = [0u32; 128];
-    let mut gs = [0u32; 128];
-    match widen_all(exclusive, alts, trues, falses, m, &mut us, &mut gs) {
-        Grown::To(k) => {
-            if k == 0 {
+    let mut to_trues = [0u32; 128];
+    let mut to_falses = [0u32; 128];
+    match widen_all(
+        exclusive,
+        alts,
+        trues,
+        falses,
+        count,
+        &mut to_trues,
+        &mut to_falses,
+    ) {
+        Grown::To(filled) => {
+            if filled == 0 {
                 return Started::Refused(20);
             }
-            let top = longer(m, k);
-            copy_masks(trues, 0, &us[..top]);
-            copy_masks(falses, 0, &gs[..top]);
-            Started::To(k)
+            let top = longer(count, filled);
+            copy_masks(trues, 0, &to_trues[..top]);
+            copy_masks(falses, 0, &to_falses[..top]);
+            Started::To(filled)
         }
         Grown::Full => Started::Refused(21),
     }
@@ -281,22 +290,22 @@ pub(crate) fn grow(
 pub(crate) fn grow_all<'a, 'b>(
     exclusive: bool,
     clauses: &'a [u32],
-    count: usize,
+    size: usize,
     trues: &'b mut [u32],
     falses: &'b mut [u32],
-    m: usize,
+    count: usize,
 ) -> Started
-    requires { ⌜ ClausesFit count (now clauses) ⌝ }
-    requires { ⌜ Held 128 m (now trues) (now falses) ⌝ }
-    ensures { λ r. ⌜ startAnswer r (now (trues .exit)) (now (falses .exit)) ≡ orGiven (tableOf []) (spec.growAll 128 (map (clauseOf exclusive) (R.clausesAt count (now (clauses .entry)))) (entriesOf m (now (trues .entry)) (now (falses .entry)))) ⌝ }
+    requires { ⌜ ClausesFit size (now clauses) ⌝ }
+    requires { ⌜ Held 128 count (now trues) (now falses) ⌝ }
+    ensures { λ r. ⌜ startAnswer r (now (trues .exit)) (now (falses .exit)) ≡ orGiven (tableOf []) (spec.growAll 128 (map (clauseOf exclusive) (R.clausesAt size (now (clauses .entry)))) (entriesOf count (now (trues .entry)) (now (falses .entry)))) ⌝ }
 {
-    let mut sum = m;
+    let mut filled = count;
     let mut i: usize = 0;
-    while i < count {
+    while i < size {
         let at = i * 17;
-        match grow(exclusive, &clauses[at..at + 17], trues, falses, sum) {
-            Started::To(k) => {
-                sum = k;
+        match grow(exclusive, &clauses[at..at + 17], trues, falses, filled) {
+            Started::To(grown) => {
+                filled = grown;
             }
             Started::Refused(number) => {
                 return Started::Refused(number);
@@ -304,7 +313,7 @@ pub(crate) fn grow_all<'a, 'b>(
         }
         i += 1;
     }
-    Started::To(sum)
+    Started::To(filled)
 }
 
 // The first table, of the known literals, i or-clauses and j oneof-clauses, into arrays of zeros.
@@ -314,18 +323,18 @@ pub fn first_into<'a, 'b>(
     i: usize,
     oneofs: &'a [u32],
     j: usize,
-    trues: &'b mut [u32],
-    falses: &'b mut [u32],
+    to_trues: &'b mut [u32],
+    to_falses: &'b mut [u32],
 ) -> Started
     requires { ⌜ ClausesFit i (now ors) ⌝ }
     requires { ⌜ ClausesFit j (now oneofs) ⌝ }
-    requires { ⌜ Fresh (now trues) (now falses) ⌝ }
-    ensures { λ r. ⌜ startAnswer r (now (trues .exit)) (now (falses .exit)) ≡ orGiven (tableOf []) (spec.growAll 128 (map spec.orOf (R.clausesAt i (now (ors .entry))) ++ map spec.oneOf (R.clausesAt j (now (oneofs .entry)))) (known ∷ [])) ⌝ }
+    requires { ⌜ Fresh (now «to_trues») (now «to_falses») ⌝ }
+    ensures { λ r. ⌜ startAnswer r (now («to_trues» .exit)) (now («to_falses» .exit)) ≡ orGiven (tableOf []) (spec.growAll 128 (map spec.orOf (R.clausesAt i (now (ors .entry))) ++ map spec.oneOf (R.clausesAt j (now (oneofs .entry)))) (known ∷ [])) ⌝ }
 {
-    trues[0] = known.trues;
-    falses[0] = known.falses;
-    match grow_all(false, ors, i, trues, falses, 1) {
-        Started::To(k) => grow_all(true, oneofs, j, trues, falses, k),
+    to_trues[0] = known.trues;
+    to_falses[0] = known.falses;
+    match grow_all(false, ors, i, to_trues, to_falses, 1) {
+        Started::To(count) => grow_all(true, oneofs, j, to_trues, to_falses, count),
         Started::Refused(number) => Started::Refused(number),
     }
 }

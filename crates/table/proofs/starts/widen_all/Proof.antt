@@ -43,8 +43,8 @@ shared-slice-read-t18 c = omega arith
 widen-requires : tie.Need-widen-requires Inv-loop μ-loop
 widen-requires c κs = (c .before .before .before .before .before .before .before .before .before .before .before .pre .0, held-own _ _ _ _ (c .before .before .before .before .before .loop .inv .1 .held))
 
-enum-known-more : tie.Need-enum-known-more Inv-loop μ-loop
-enum-known-more c = search needs
+enum-known-grown : tie.Need-enum-known-grown Inv-loop μ-loop
+enum-known-grown c = search needs
 
 enum-told : tie.Need-enum-told Inv-loop μ-loop
 enum-told c = search needs
@@ -78,7 +78,7 @@ loop-again c =
     let lt : i < length es = omega (arith, c .before .before .before .before .before .before .before .before .before .before .before .before .loop-test .taken, length-entriesOf (s .args .count) (s .args .trues .now) (s .args .falses .now)) in
     let q = entries-step (candidates (clauseOf (s .args .exclusive) (setsIn (s .args .alts .now)))) es _ i lt (getD-entriesOf (s .args .count) (s .args .trues .now) (s .args .falses .now) i (c .before .before .before .before .before .before .before .before .before .before .before .before .loop-test .taken)) in
     let le : i + 1 ≤ s .args .count = omega arith in
-    (le, going-on _ _ _ _ _ _ _ _ _ _ _ _ _ (c .before .before .before .before .before .before .before .before .before .before .before .before .before .loop .inv .1) q (c .before .before .before .before .before .before .before .widen .ensures) _ (c .before .more .given .1))
+    (le, going-on _ _ _ _ _ _ _ _ _ _ _ _ _ (c .before .before .before .before .before .before .before .before .before .before .before .before .before .loop .inv .1) q (c .before .before .before .before .before .before .before .widen .ensures) _ (c .before .grown .given .1))
 
 same-length-3 : tie.Need-same-length-3 Inv-loop μ-loop
 same-length-3 c = holds-trues-long _ _ _ _ _ (c .before .loop .inv .1 .held)
@@ -104,7 +104,7 @@ widen-all-spec =
     mul-t16
     shared-slice-read-t18
     widen-requires
-    enum-known-more
+    enum-known-grown
     enum-told
     same-length
     same-length-2
