@@ -25,10 +25,9 @@ use Rattle.table.specs.declared.TableAnswer.{TableAnswer}
 use Rattle.table.specs.Minimal.{putAll, Outcome, refused, table}
 use Rattle.table.specs.Start.{Clause, candidates, fresh, grow, onTable, growAll}
 use Rattle.table.specs.Slots.{pairs, entriesOf, Fresh, Holds, Held, tableOf, Grew, Puts}
-use Rattle.table.specs.Moves.{lent}
 use Rattle.table.specs.Reads.{startAnswer}
 use Rattle.table.specs.Calls.{orGiven, startOf, actionAt}
-use Rattle.table.proofs.Pads.{length-pad, length-entriesOf, holds-trues-long, holds-falses-long, holds-entries, held as held-of}
+use Rattle.table.proofs.Pads.{length-pad, length-entriesOf, holds-trues-long, holds-falses-long, holds-entries, held as held-of, holds-table, table-holds}
 use Rattle.table.proofs.PutLaws.{put-all-size}
 
 -- the moves of a problem are proper
@@ -52,31 +51,22 @@ unfolding orGiven
 right-refused o k ts fs e = sym (ap (orGiven (tableOf [])) e)
 
 pub right-table : (o : Outcome) (k : ℕ) (ts fs : List ℕ) → Readied o k ts fs → Right o (started.To k) ts fs
-unfolding orGiven tableOf
+unfolding orGiven
 right-table o k ts fs m =
-    let h = m .held in
-    (λ j. record { answer = Accepted; table = record { count = h .count-is j; trues = h .trues-are j; falses = h .falses-are j } })
-    ∙ sym (ap (orGiven (tableOf [])) (m .is))
+    ap (λ (t : Table). record { answer = Accepted; table = t }) (holds-table _ k ts fs (m .held)) ∙ sym (ap (orGiven (tableOf [])) (m .is))
 
 -- the table of an outcome has room
 abbrev pub Small : Outcome → Type 0
 Small o = (u : List Literals) → o ≡ table u → length u ≤ 128
 
 pub ready : (o : Outcome) (r : Started) (k : ℕ) (ts fs : List ℕ) → Small o → Right o r ts fs → r ≡ started.To k → Readied o k ts fs
-unfolding orGiven tableOf
+unfolding orGiven
 ready o r k ts fs small w e = at o refl (subst (λ (x : Started). Right o x ts fs) e w)
   where
     at : (x : Outcome) → o ≡ x → Right x (started.To k) ts fs → Readied o k ts fs
     at (refused j) q v = not-both Accepted j 0 refl (ap (λ (y : TableAnswer). y .answer) v)
     at (table u) q v =
-        let t : lent k ts fs ≡ tableOf u = ap (λ (y : TableAnswer). y .table) v in
-        let n : k ≡ length u = ap (λ (y : Table). y .count) t in
-        let h : Holds 128 u k ts fs = record {
-          count-is = n;
-          room = omega (arith, small u q);
-          trues-are = ap (λ (y : Table). y .trues) t;
-          falses-are = ap (λ (y : Table). y .falses) t;
-        } in
+        let h = table-holds u k ts fs (small u q) (ap (λ (y : TableAnswer). y .table) v) in
         record { held = held-of _ _ _ _ _ h; is = q ∙ sym (ap table (holds-entries _ _ _ _ _ h)) }
 
 -- a refusal stays
@@ -243,8 +233,7 @@ module _ (known : Literals) (ts fs : List ℕ) (zeros : Fresh ts fs) where
     first-on e = sym (ap (λ (y : Outcome). onTable y (λ u. growAll 128 ds u)) (first-ready e .is)) ∙ whole
 
 -- ---- the first table by value, and the call on bytes
-pub first-given : (o : Outcome) (r : Started) (ts fs : List ℕ) → Right o r ts fs → (k : ℕ) → r ≡ started.To k
-    → record { answer = Accepted; table = record { count = k; trues = ts; falses = fs } } ≡ orGiven (tableOf []) o
+pub first-given : (o : Outcome) (r : Started) (ts fs : List ℕ) → Right o r ts fs → (k : ℕ) → r ≡ started.To k → Right o (started.To k) ts fs
 first-given o r ts fs e k q = sym (ap (λ (x : Started). startAnswer x ts fs) q) ∙ e
 
 -- no table
