@@ -7,8 +7,8 @@ use lib.ListN.{length, getD, take, drop, length-drop}
 use lib.Seq.{length-take-le, getD-drop}
 use Rattle.sheet.specs.declared.Literals.{Literals}
 use Rattle.sheet.specs.Literals.{noLiteral}
-use Rattle.sheet.specs.Lists.{All}
-use Rattle.sheet.specs.Packed.{setFrom, setsIn, SetsFit, itemAt, clausesAt}
+use Rattle.sheet.specs.Packed.{setFrom, setsIn, SetsFit, itemAt}
+use Rattle.table.specs.Reads.{ClausesFit}
 use Rattle.sheet.proofs.PackedLaws.{sets-long, sets-step, sets-end, item-of-all}
 
 -- ---- the alternatives
@@ -47,11 +47,11 @@ pub clause-is : (xs : List ℕ) (i : ℕ) → setsIn (clauseItem xs i) ≡ claus
 unfolding itemAt
 clause-is xs i = let e : i * 17 + 17 - i * 17 ≡ 17 = omega arith in ap (λ (k : ℕ). setsIn (take k (drop (i * 17) xs))) e
 
-pub clause-fits : (n : ℕ) (xs : List ℕ) (i : ℕ) → n * 17 ≤ length xs → All (λ (c : List Literals). length c ≤ 8) (clausesAt n xs) → i < n → SetsFit (clauseItem xs i)
-clause-fits n xs i long few h =
+pub clause-fits : (n : ℕ) (xs : List ℕ) (i : ℕ) → ClausesFit n xs → i < n → SetsFit (clauseItem xs i)
+clause-fits n xs i fit h =
     let e : i * 17 + 17 - i * 17 ≡ 17 = omega arith in
-    let l : 17 ≤ length (drop (i * 17) xs) = omega (arith, length-drop (i * 17) xs) in
-    let p = item-of-all 17 setsIn (λ (c : List Literals). length c ≤ 8) n xs i h few in (
+    let l : 17 ≤ length (drop (i * 17) xs) = omega (arith, fit .room, length-drop (i * 17) xs) in
+    let p = item-of-all 17 setsIn (λ (c : List Literals). length c ≤ 8) n xs i h (fit .few) in (
       ap (λ (k : ℕ). length (take k (drop (i * 17) xs))) e ∙ length-take-le 17 (drop (i * 17) xs) l,
       omega (arith, p, ap length (clause-is xs i), length-alts (clauseItem xs i)),
     )

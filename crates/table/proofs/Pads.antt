@@ -10,7 +10,9 @@ use Rattle.sheet.specs.declared.Literals.{Literals}
 use Rattle.sheet.specs.Literals.{noLiteral}
 use Rattle.sheet.specs.Lists.{pad}
 use Rattle.sheet.proofs.Reading.{pad-set}
-use Rattle.table.specs.Slots.{pairs, trues-of, falses-of, entriesOf, Holds, Held}
+use Rattle.table.specs.declared.Table.{Table}
+use Rattle.table.specs.Slots.{pairs, trues-of, falses-of, entriesOf, Room, Holds, Held, tableOf}
+use Rattle.table.specs.Moves.{lent}
 
 module _ {A : Type 0} where
   pub length-pad : (n : ℕ) (d : A) (xs : List A) → length (pad n d xs) ≡ n
@@ -133,6 +135,13 @@ holds-trues-long cap es n ts fs h = ap length (h .trues-are) ∙ length-pad cap 
 pub holds-falses-long : (cap : ℕ) (es : List Literals) (n : ℕ) (ts fs : List ℕ) → Holds cap es n ts fs → length fs ≡ cap
 holds-falses-long cap es n ts fs h = ap length (h .falses-are) ∙ length-pad cap 0 (falses-of es)
 
+-- there is room for what is held
+pub holds-room : (cap : ℕ) (es : List Literals) (n : ℕ) (ts fs : List ℕ) → Holds cap es n ts fs → Room n ts fs
+holds-room cap es n ts fs h = record {
+  trues = omega (arith, h .room, holds-trues-long cap es n ts fs h);
+  falses = omega (arith, h .room, holds-falses-long cap es n ts fs h);
+}
+
 -- one entry more
 pub holds-push : (cap : ℕ) (es : List Literals) (n : ℕ) (ts fs : List ℕ) → Holds cap es n ts fs → n < cap → (l : Literals)
     → Holds cap (es ++ l ∷ []) (n + 1) (set ts n (l .trues)) (set fs n (l .falses))
@@ -159,6 +168,19 @@ held cap es n ts fs h = subst (λ (x : List Literals). Holds cap x n ts fs) (sym
 -- what is held in slices, at their own length
 pub held-own : (cap n : ℕ) (ts fs : List ℕ) → Held cap n ts fs → Held (length ts) n ts fs
 held-own cap n ts fs h = subst (λ (k : ℕ). Held k n ts fs) (sym (holds-trues-long _ _ _ _ _ h)) h
+
+-- ---- a table in lent arrays: the table of the list that they hold
+
+module _ (es : List Literals) (n : ℕ) (ts fs : List ℕ) where
+  pub holds-table : Holds 128 es n ts fs → lent n ts fs ≡ tableOf es
+  unfolding tableOf
+  holds-table h = λ j. lent (h .count-is j) (h .trues-are j) (h .falses-are j)
+
+  pub table-holds : length es ≤ 128 → lent n ts fs ≡ tableOf es → Holds 128 es n ts fs
+  unfolding tableOf
+  table-holds few e =
+      let count : n ≡ length es = ap (λ (t : Table). t .count) e in
+      record { count-is = count; room = omega arith; trues-are = ap (λ (t : Table). t .trues) e; falses-are = ap (λ (t : Table). t .falses) e }
 
 -- ---- fresh slots
 

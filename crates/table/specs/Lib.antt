@@ -7,8 +7,8 @@ pub mod Pairs
 pub mod Picture
 pub mod Prime
 pub mod Slots
-pub mod Reads
 pub mod Moves
+pub mod Reads
 pub mod Carry
 pub mod Counts
 pub mod Calls

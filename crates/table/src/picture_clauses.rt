@@ -1,7 +1,7 @@
 // The clauses of a table in working order: those of the first entry, joined with those of each next entry.
 use crate::slots::Grown;
+use crate::slots::admit;
 use crate::slots::some_within;
-use crate::starts::admit;
 use sheet::Literals;
 use sheet::masks::join;
 use sheet::masks::literal;

@@ -2,10 +2,9 @@
 use crate::Table;
 use crate::TableAnswer;
 use crate::slots::Grown;
+use crate::slots::admit;
 use crate::slots::copy_masks;
-use crate::slots::offer;
 use crate::slots::offer_by_newest;
-use crate::steps::Stepped;
 use crate::steps::lacking;
 use sheet::Answer;
 use sheet::Literals;
@@ -20,54 +19,48 @@ use sheet::packed::set_at;
 use sheet::packed::set_from;
 ghost use mathlib.Core.Path.{_≡_};
 ghost use mathlib.Core.Bool.{true};
-ghost use mathlib.Core.List.{List, [], _∷_, _++_, map};
+ghost use mathlib.Core.List.{[], _∷_, _++_, map};
 ghost use Prim.Native.Nat.{_≤_, _<_, _*_};
-ghost use lib.ListN.{length, drop, getD, replicate};
+ghost use lib.ListN.{length, drop, getD};
 ghost use Rattle.sheet.specs.declared.Answer.the-variants.{Refused};
 ghost use Rattle.sheet.specs.Literals as L;
-ghost use Rattle.sheet.specs.Lists.{All, keep, collect};
+ghost use Rattle.sheet.specs.Lists.{keep, collect};
 ghost use Rattle.sheet.specs.Packed as R;
 ghost use Rattle.table.specs.Start as spec;
-ghost use Rattle.table.specs.Slots.{entriesOf, Held, Puts, tableOf};
+ghost use Rattle.table.specs.Slots.{entriesOf, Room, Fresh, Held, Puts, tableOf};
 ghost use Rattle.table.specs.Calls.{orGiven};
-ghost use Rattle.table.specs.Reads.{clauseOf, others};
-ghost use Rattle.table.specs.Moves.{tabled};
+ghost use Rattle.table.specs.Reads.{clauseOf, others, ClausesFit, startAnswer};
 
-// Puts a candidate if it is consistent.
-pub(crate) fn admit(trues: &mut [u32], falses: &mut [u32], k: usize, c: Literals) -> Grown
-    requires { ⌜ Held (length (now trues)) k (now trues) (now falses) ⌝ }
-    ensures { λ r. ⌜ Puts (keep L.consistent (c ∷ [])) k (now (trues .entry)) (now (falses .entry)) r (now (trues .exit)) (now (falses .exit)) ⌝ }
-{
-    if consistent(c) {
-        return offer(trues, falses, k, c);
-    }
-    Grown::To(k)
+// What a start gives: so many entries in the lent arrays, or the number of a refusal.
+pub enum Started {
+    To(usize),
+    Refused(u8),
 }
 
 // The entry with each alternative of an or-clause, in order.
 pub(crate) fn widen_or(
     alts: &[u32],
     entry: Literals,
-    trues: &mut [u32],
-    falses: &mut [u32],
-    k: usize,
+    to_trues: &mut [u32],
+    to_falses: &mut [u32],
+    count: usize,
 ) -> Grown
     requires { ⌜ R.SetsFit (now alts) ⌝ }
-    requires { ⌜ Held (length (now trues)) k (now trues) (now falses) ⌝ }
-    ensures { λ r. ⌜ Puts (keep L.consistent (spec.candidates (spec.orOf (R.setsIn (now (alts .entry)))) entry)) k (now (trues .entry)) (now (falses .entry)) r (now (trues .exit)) (now (falses .exit)) ⌝ }
+    requires { ⌜ Held (length (now «to_trues»)) count (now «to_trues») (now «to_falses») ⌝ }
+    ensures { λ r. ⌜ Puts (keep L.consistent (spec.candidates (spec.orOf (R.setsIn (now (alts .entry)))) entry)) count (now («to_trues» .entry)) (now («to_falses» .entry)) r (now («to_trues» .exit)) (now («to_falses» .exit)) ⌝ }
 {
-    let count = count_of(alts);
-    let mut sum = k;
+    let size = count_of(alts);
+    let mut filled = count;
     let mut i: usize = 0;
-    while i < count {
+    while i < size {
         let a = set_at(alts, i);
-        let Grown::To(m) = admit(trues, falses, sum, join(entry, a)) else {
+        let Grown::To(grown) = admit(to_trues, to_falses, filled, join(entry, a)) else {
             return Grown::Full;
         };
-        sum = m;
+        filled = grown;
         i += 1;
     }
-    Grown::To(sum)
+    Grown::To(filled)
 }
 
 // The alternatives but the one of number i, laid out, two masks to each. The result is how many.
@@ -75,19 +68,19 @@ pub(crate) fn lay_others(alts: &[u32], i: usize, row: &mut [u32]) -> usize
     requires { ⌜ R.SetsFit (now alts) × (length (now row) ≡ 16) ⌝ }
     ensures { λ r. ⌜ (2 * r ≤ length (now (row .exit))) × (R.setsAt r (now (row .exit)) ≡ others i 0 (R.setsIn (now (alts .entry)))) ⌝ }
 {
-    let count = count_of(alts);
-    let mut k: usize = 0;
+    let size = count_of(alts);
+    let mut filled: usize = 0;
     let mut j: usize = 0;
-    while j < count {
+    while j < size {
         if j != i {
             let a = set_at(alts, j);
-            row[2 * k] = a.trues;
-            row[2 * k + 1] = a.falses;
-            k += 1;
+            row[2 * filled] = a.trues;
+            row[2 * filled + 1] = a.falses;
+            filled += 1;
         }
         j += 1;
     }
-    k
+    filled
 }
 
 // Each alternative from `at` on is made false in every way: by each of its literals that the piece lacks. One that the piece has would make
@@ -97,40 +90,41 @@ pub(crate) fn choose<'a, 'b>(
     size: usize,
     at: usize,
     piece: Literals,
-    trues: &'b mut [u32],
-    falses: &'b mut [u32],
-    k: usize,
+    to_trues: &'b mut [u32],
+    to_falses: &'b mut [u32],
+    count: usize,
 ) -> Grown
     requires { ⌜ 2 * size ≤ length (now row) ⌝ }
     requires { ⌜ L.consistent piece ≡ true ⌝ }
-    requires { ⌜ Held (length (now trues)) k (now trues) (now falses) ⌝ }
-    ensures { λ r. ⌜ Puts (keep L.consistent (spec.falsify (drop at (R.setsAt size (now (row .entry)))) piece)) k (now (trues .entry)) (now (falses .entry)) r (now (trues .exit)) (now (falses .exit)) ⌝ }
+    requires { ⌜ Held (length (now «to_trues»)) count (now «to_trues») (now «to_falses») ⌝ }
+    ensures { λ r. ⌜ Puts (keep L.consistent (spec.falsify (drop at (R.setsAt size (now (row .entry)))) piece)) count (now («to_trues» .entry)) (now («to_falses» .entry)) r (now («to_trues» .exit)) (now («to_falses» .exit)) ⌝ }
 {
     if size <= at {
-        return offer_by_newest(trues, falses, k, piece);
+        return offer_by_newest(to_trues, to_falses, count, piece);
     }
     let after = at + 1;
     let mut rest = lacking(set_from(row, 2 * at), piece);
-    let mut sum = k;
+    let mut filled = count;
     let mut l = next(rest, 0);
     while l < 64 {
         let one = literal(l);
         let chosen = join(piece, flip(one));
         if after < size {
-            let Grown::To(m) = choose(row, size, after, chosen, trues, falses, sum) else {
+            let Grown::To(grown) = choose(row, size, after, chosen, to_trues, to_falses, filled)
+            else {
                 return Grown::Full;
             };
-            sum = m;
+            filled = grown;
         } else {
-            let Grown::To(m) = offer_by_newest(trues, falses, sum, chosen) else {
+            let Grown::To(grown) = offer_by_newest(to_trues, to_falses, filled, chosen) else {
                 return Grown::Full;
             };
-            sum = m;
+            filled = grown;
         }
         rest = lacking(rest, one);
         l = next(rest, 0);
     }
-    Grown::To(sum)
+    Grown::To(filled)
 }
 
 // The entry with the alternative of number i, and the others made false.
@@ -138,47 +132,47 @@ pub(crate) fn widen_one(
     alts: &[u32],
     i: usize,
     entry: Literals,
-    trues: &mut [u32],
-    falses: &mut [u32],
-    k: usize,
+    to_trues: &mut [u32],
+    to_falses: &mut [u32],
+    count: usize,
 ) -> Grown
     requires { ⌜ R.SetsFit (now alts) × (i < getD (now alts) 0 0) ⌝ }
-    requires { ⌜ Held (length (now trues)) k (now trues) (now falses) ⌝ }
-    ensures { λ r. ⌜ Puts (keep L.consistent (spec.falsify (others i 0 (R.setsIn (now (alts .entry)))) (L.join entry (getD (R.setsIn (now (alts .entry))) i L.noLiteral)))) k (now (trues .entry)) (now (falses .entry)) r (now (trues .exit)) (now (falses .exit)) ⌝ }
+    requires { ⌜ Held (length (now «to_trues»)) count (now «to_trues») (now «to_falses») ⌝ }
+    ensures { λ r. ⌜ Puts (keep L.consistent (spec.falsify (others i 0 (R.setsIn (now (alts .entry)))) (L.join entry (getD (R.setsIn (now (alts .entry))) i L.noLiteral)))) count (now («to_trues» .entry)) (now («to_falses» .entry)) r (now («to_trues» .exit)) (now («to_falses» .exit)) ⌝ }
 {
     let a = set_at(alts, i);
     let first = join(entry, a);
     if !consistent(first) {
-        return Grown::To(k);
+        return Grown::To(count);
     }
     let mut row = [0u32; 16];
     let size = lay_others(alts, i, &mut row);
-    choose(&row, size, 0, first, trues, falses, k)
+    choose(&row, size, 0, first, to_trues, to_falses, count)
 }
 
 // The entry with each alternative of a oneof-clause, in order, and the others made false.
 pub(crate) fn widen_oneof(
     alts: &[u32],
     entry: Literals,
-    trues: &mut [u32],
-    falses: &mut [u32],
-    k: usize,
+    to_trues: &mut [u32],
+    to_falses: &mut [u32],
+    count: usize,
 ) -> Grown
     requires { ⌜ R.SetsFit (now alts) ⌝ }
-    requires { ⌜ Held (length (now trues)) k (now trues) (now falses) ⌝ }
-    ensures { λ r. ⌜ Puts (keep L.consistent (spec.candidates (spec.oneOf (R.setsIn (now (alts .entry)))) entry)) k (now (trues .entry)) (now (falses .entry)) r (now (trues .exit)) (now (falses .exit)) ⌝ }
+    requires { ⌜ Held (length (now «to_trues»)) count (now «to_trues») (now «to_falses») ⌝ }
+    ensures { λ r. ⌜ Puts (keep L.consistent (spec.candidates (spec.oneOf (R.setsIn (now (alts .entry)))) entry)) count (now («to_trues» .entry)) (now («to_falses» .entry)) r (now («to_trues» .exit)) (now («to_falses» .exit)) ⌝ }
 {
-    let count = count_of(alts);
-    let mut sum = k;
+    let size = count_of(alts);
+    let mut filled = count;
     let mut i: usize = 0;
-    while i < count {
-        let Grown::To(m) = widen_one(alts, i, entry, trues, falses, sum) else {
+    while i < size {
+        let Grown::To(grown) = widen_one(alts, i, entry, to_trues, to_falses, filled) else {
             return Grown::Full;
         };
-        sum = m;
+        filled = grown;
         i += 1;
     }
-    Grown::To(sum)
+    Grown::To(filled)
 }
 
 // The candidates of one entry.
@@ -186,50 +180,49 @@ pub(crate) fn widen(
     exclusive: bool,
     alts: &[u32],
     entry: Literals,
-    trues: &mut [u32],
-    falses: &mut [u32],
-    k: usize,
+    to_trues: &mut [u32],
+    to_falses: &mut [u32],
+    count: usize,
 ) -> Grown
     requires { ⌜ R.SetsFit (now alts) ⌝ }
-    requires { ⌜ Held (length (now trues)) k (now trues) (now falses) ⌝ }
-    ensures { λ r. ⌜ Puts (keep L.consistent (spec.candidates (clauseOf exclusive (R.setsIn (now (alts .entry)))) entry)) k (now (trues .entry)) (now (falses .entry)) r (now (trues .exit)) (now (falses .exit)) ⌝ }
+    requires { ⌜ Held (length (now «to_trues»)) count (now «to_trues») (now «to_falses») ⌝ }
+    ensures { λ r. ⌜ Puts (keep L.consistent (spec.candidates (clauseOf exclusive (R.setsIn (now (alts .entry)))) entry)) count (now («to_trues» .entry)) (now («to_falses» .entry)) r (now («to_trues» .exit)) (now («to_falses» .exit)) ⌝ }
 {
     if exclusive {
-        return widen_oneof(alts, entry, trues, falses, k);
+        return widen_oneof(alts, entry, to_trues, to_falses, count);
     }
-    widen_or(alts, entry, trues, falses, k)
+    widen_or(alts, entry, to_trues, to_falses, count)
 }
 
-// The candidates of the first m entries of ts and fs, put after the k that are there.
+// The candidates of all entries, put into other arrays.
 pub(crate) fn widen_all<'a, 'b, 'c>(
     exclusive: bool,
     alts: &'c [u32],
-    ts: &'a [u32],
-    fs: &'a [u32],
-    m: usize,
-    trues: &'b mut [u32],
-    falses: &'b mut [u32],
-    k: usize,
+    trues: &'a [u32],
+    falses: &'a [u32],
+    count: usize,
+    to_trues: &'b mut [u32],
+    to_falses: &'b mut [u32],
 ) -> Grown
     requires { ⌜ R.SetsFit (now alts) ⌝ }
-    requires { ⌜ (m ≤ length (now ts)) × (m ≤ length (now fs)) ⌝ }
-    requires { ⌜ Held (length (now trues)) k (now trues) (now falses) ⌝ }
-    ensures { λ r. ⌜ Puts (keep L.consistent (collect (spec.candidates (clauseOf exclusive (R.setsIn (now (alts .entry))))) (entriesOf m (now (ts .entry)) (now (fs .entry))))) k (now (trues .entry)) (now (falses .entry)) r (now (trues .exit)) (now (falses .exit)) ⌝ }
+    requires { ⌜ Room count (now trues) (now falses) ⌝ }
+    requires { ⌜ Held (length (now «to_trues»)) 0 (now «to_trues») (now «to_falses») ⌝ }
+    ensures { λ r. ⌜ Puts (keep L.consistent (collect (spec.candidates (clauseOf exclusive (R.setsIn (now (alts .entry))))) (entriesOf count (now (trues .entry)) (now (falses .entry))))) 0 (now («to_trues» .entry)) (now («to_falses» .entry)) r (now («to_trues» .exit)) (now («to_falses» .exit)) ⌝ }
 {
-    let mut sum = k;
+    let mut filled: usize = 0;
     let mut i: usize = 0;
-    while i < m {
+    while i < count {
         let entry = Literals {
-            trues: ts[i],
-            falses: fs[i],
+            trues: trues[i],
+            falses: falses[i],
         };
-        let Grown::To(j) = widen(exclusive, alts, entry, trues, falses, sum) else {
+        let Grown::To(grown) = widen(exclusive, alts, entry, to_trues, to_falses, filled) else {
             return Grown::Full;
         };
-        sum = j;
+        filled = grown;
         i += 1;
     }
-    Grown::To(sum)
+    Grown::To(filled)
 }
 
 // No table.
@@ -263,25 +256,33 @@ pub(crate) fn grow(
     alts: &[u32],
     trues: &mut [u32],
     falses: &mut [u32],
-    m: usize,
-) -> Stepped
+    count: usize,
+) -> Started
     requires { ⌜ R.SetsFit (now alts) ⌝ }
-    requires { ⌜ Held 128 m (now trues) (now falses) ⌝ }
-    ensures { λ r. ⌜ tabled (tableOf []) r (now (trues .exit)) (now (falses .exit)) ≡ orGiven (tableOf []) (spec.grow 128 (clauseOf exclusive (R.setsIn (now (alts .entry)))) (entriesOf m (now (trues .entry)) (now (falses .entry)))) ⌝ }
+    requires { ⌜ Held 128 count (now trues) (now falses) ⌝ }
+    ensures { λ r. ⌜ startAnswer r (now (trues .exit)) (now (falses .exit)) ≡ orGiven (tableOf []) (spec.grow 128 (clauseOf exclusive (R.setsIn (now (alts .entry)))) (entriesOf count (now (trues .entry)) (now (falses .entry)))) ⌝ }
 {
-    let mut us = [0u32; 128];
-    let mut gs = [0u32; 128];
-    match widen_all(exclusive, alts, trues, falses, m, &mut us, &mut gs, 0) {
-        Grown::To(k) => {
-            if k == 0 {
-                return Stepped::Refused(20);
+    let mut to_trues = [0u32; 128];
+    let mut to_falses = [0u32; 128];
+    match widen_all(
+        exclusive,
+        alts,
+        trues,
+        falses,
+        count,
+        &mut to_trues,
+        &mut to_falses,
+    ) {
+        Grown::To(filled) => {
+            if filled == 0 {
+                return Started::Refused(20);
             }
-            let top = longer(m, k);
-            copy_masks(trues, 0, &us[..top]);
-            copy_masks(falses, 0, &gs[..top]);
-            Stepped::To(k)
+            let top = longer(count, filled);
+            copy_masks(trues, 0, &to_trues[..top]);
+            copy_masks(falses, 0, &to_falses[..top]);
+            Started::To(filled)
         }
-        Grown::Full => Stepped::Refused(21),
+        Grown::Full => Started::Refused(21),
     }
 }
 
@@ -289,30 +290,30 @@ pub(crate) fn grow(
 pub(crate) fn grow_all<'a, 'b>(
     exclusive: bool,
     clauses: &'a [u32],
-    count: usize,
+    size: usize,
     trues: &'b mut [u32],
     falses: &'b mut [u32],
-    m: usize,
-) -> Stepped
-    requires { ⌜ (count * 17 ≤ length (now clauses)) × All (λ (c : List Literals). length c ≤ 8) (R.clausesAt count (now clauses)) ⌝ }
-    requires { ⌜ Held 128 m (now trues) (now falses) ⌝ }
-    ensures { λ r. ⌜ tabled (tableOf []) r (now (trues .exit)) (now (falses .exit)) ≡ orGiven (tableOf []) (spec.growAll 128 (map (clauseOf exclusive) (R.clausesAt count (now (clauses .entry)))) (entriesOf m (now (trues .entry)) (now (falses .entry)))) ⌝ }
+    count: usize,
+) -> Started
+    requires { ⌜ ClausesFit size (now clauses) ⌝ }
+    requires { ⌜ Held 128 count (now trues) (now falses) ⌝ }
+    ensures { λ r. ⌜ startAnswer r (now (trues .exit)) (now (falses .exit)) ≡ orGiven (tableOf []) (spec.growAll 128 (map (clauseOf exclusive) (R.clausesAt size (now (clauses .entry)))) (entriesOf count (now (trues .entry)) (now (falses .entry)))) ⌝ }
 {
-    let mut sum = m;
+    let mut filled = count;
     let mut i: usize = 0;
-    while i < count {
+    while i < size {
         let at = i * 17;
-        match grow(exclusive, &clauses[at..at + 17], trues, falses, sum) {
-            Stepped::To(k) => {
-                sum = k;
+        match grow(exclusive, &clauses[at..at + 17], trues, falses, filled) {
+            Started::To(grown) => {
+                filled = grown;
             }
-            Stepped::Refused(number) => {
-                return Stepped::Refused(number);
+            Started::Refused(number) => {
+                return Started::Refused(number);
             }
         }
         i += 1;
     }
-    Stepped::To(sum)
+    Started::To(filled)
 }
 
 // The first table, of the known literals, i or-clauses and j oneof-clauses, into arrays of zeros.
@@ -322,26 +323,26 @@ pub fn first_into<'a, 'b>(
     i: usize,
     oneofs: &'a [u32],
     j: usize,
-    trues: &'b mut [u32],
-    falses: &'b mut [u32],
-) -> Stepped
-    requires { ⌜ (i * 17 ≤ length (now ors)) × All (λ (c : List Literals). length c ≤ 8) (R.clausesAt i (now ors)) ⌝ }
-    requires { ⌜ (j * 17 ≤ length (now oneofs)) × All (λ (c : List Literals). length c ≤ 8) (R.clausesAt j (now oneofs)) ⌝ }
-    requires { ⌜ (now trues ≡ replicate 128 0) × (now falses ≡ replicate 128 0) ⌝ }
-    ensures { λ r. ⌜ tabled (tableOf []) r (now (trues .exit)) (now (falses .exit)) ≡ orGiven (tableOf []) (spec.growAll 128 (map spec.orOf (R.clausesAt i (now (ors .entry))) ++ map spec.oneOf (R.clausesAt j (now (oneofs .entry)))) (known ∷ [])) ⌝ }
+    to_trues: &'b mut [u32],
+    to_falses: &'b mut [u32],
+) -> Started
+    requires { ⌜ ClausesFit i (now ors) ⌝ }
+    requires { ⌜ ClausesFit j (now oneofs) ⌝ }
+    requires { ⌜ Fresh (now «to_trues») (now «to_falses») ⌝ }
+    ensures { λ r. ⌜ startAnswer r (now («to_trues» .exit)) (now («to_falses» .exit)) ≡ orGiven (tableOf []) (spec.growAll 128 (map spec.orOf (R.clausesAt i (now (ors .entry))) ++ map spec.oneOf (R.clausesAt j (now (oneofs .entry)))) (known ∷ [])) ⌝ }
 {
-    trues[0] = known.trues;
-    falses[0] = known.falses;
-    match grow_all(false, ors, i, trues, falses, 1) {
-        Stepped::To(k) => grow_all(true, oneofs, j, trues, falses, k),
-        Stepped::Refused(number) => Stepped::Refused(number),
+    to_trues[0] = known.trues;
+    to_falses[0] = known.falses;
+    match grow_all(false, ors, i, to_trues, to_falses, 1) {
+        Started::To(count) => grow_all(true, oneofs, j, to_trues, to_falses, count),
+        Started::Refused(number) => Started::Refused(number),
     }
 }
 
 // The first table of a sheet that was read.
 pub(crate) fn first_table<'a>(sheet: Sheet, ors: &'a [u32], oneofs: &'a [u32]) -> TableAnswer
-    requires { ⌜ (sheet .ors * 17 ≤ length (now ors)) × All (λ (c : List Literals). length c ≤ 8) (R.clausesAt (sheet .ors) (now ors)) ⌝ }
-    requires { ⌜ (sheet .oneofs * 17 ≤ length (now oneofs)) × All (λ (c : List Literals). length c ≤ 8) (R.clausesAt (sheet .oneofs) (now oneofs)) ⌝ }
+    requires { ⌜ ClausesFit (sheet .ors) (now ors) ⌝ }
+    requires { ⌜ ClausesFit (sheet .oneofs) (now oneofs) ⌝ }
     ensures { λ r. ⌜ r ≡ orGiven (tableOf []) (spec.growAll 128 (map spec.orOf (R.clausesAt (sheet .ors) (now (ors .entry))) ++ map spec.oneOf (R.clausesAt (sheet .oneofs) (now (oneofs .entry)))) (sheet .known ∷ [])) ⌝ }
 {
     let mut trues = [0u32; 128];
@@ -356,7 +357,7 @@ pub(crate) fn first_table<'a>(sheet: Sheet, ors: &'a [u32], oneofs: &'a [u32]) -
         &mut trues,
         &mut falses,
     ) {
-        Stepped::To(count) => TableAnswer {
+        Started::To(count) => TableAnswer {
             answer: Answer::Accepted,
             table: Table {
                 count,
@@ -364,6 +365,6 @@ pub(crate) fn first_table<'a>(sheet: Sheet, ors: &'a [u32], oneofs: &'a [u32]) -
                 falses,
             },
         },
-        Stepped::Refused(number) => refuse_start(number, 0),
+        Started::Refused(number) => refuse_start(number, 0),
     }
 }

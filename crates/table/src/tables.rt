@@ -3,17 +3,16 @@ use sheet::Literals;
 use sheet::masks;
 ghost use mathlib.Core.Path.{_≡_};
 ghost use mathlib.Core.Bool.{_||_};
-ghost use Prim.Native.Nat.{_≤_, _<_};
-ghost use lib.ListN.{length};
+ghost use Prim.Native.Nat.{_+_};
 ghost use Rattle.sheet.specs.Literals as L;
 ghost use Rattle.sheet.specs.Lists.{allOf};
 ghost use Rattle.table.specs.Minimal as M;
-ghost use Rattle.table.specs.Slots.{entriesOf};
+ghost use Rattle.table.specs.Slots.{entriesOf, Room, TableRoom};
 ghost use Rattle.table.specs.Moves.{slot};
 
 // The set in slot i.
 pub fn entry_at(trues: &[u32], falses: &[u32], i: usize) -> Literals
-    requires { ⌜ (i < length (now trues)) × (i < length (now falses)) ⌝ }
+    requires { ⌜ Room (i + 1) (now trues) (now falses) ⌝ }
     ensures { λ r. ⌜ r ≡ slot (now (trues .entry)) (now (falses .entry)) i ⌝ }
 {
     Literals {
@@ -44,7 +43,7 @@ pub(crate) fn nested(a: Literals, b: Literals) -> bool
 
 // Every entry is proper.
 pub(crate) fn all_proper<'a>(n: usize, trues: &'a [u32], falses: &'a [u32], count: usize) -> bool
-    requires { ⌜ (count ≤ length (now trues)) × (count ≤ length (now falses)) ⌝ }
+    requires { ⌜ Room count (now trues) (now falses) ⌝ }
     ensures { λ r. ⌜ r ≡ allOf (M.proper n) (entriesOf count (now (trues .entry)) (now (falses .entry))) ⌝ }
 {
     let mut i: usize = 0;
@@ -59,7 +58,7 @@ pub(crate) fn all_proper<'a>(n: usize, trues: &'a [u32], falses: &'a [u32], coun
 
 // No entry lies in another. The first pair found nested ends the search.
 pub(crate) fn is_antichain<'a>(trues: &'a [u32], falses: &'a [u32], count: usize) -> bool
-    requires { ⌜ (count ≤ length (now trues)) × (count ≤ length (now falses)) ⌝ }
+    requires { ⌜ Room count (now trues) (now falses) ⌝ }
     ensures { λ r. ⌜ r ≡ M.antichain (entriesOf count (now (trues .entry)) (now (falses .entry))) ⌝ }
 {
     let mut apart = true;
@@ -81,7 +80,7 @@ pub(crate) fn is_antichain<'a>(trues: &'a [u32], falses: &'a [u32], count: usize
 
 // 1 to 128 entries, each proper, none in another.
 pub(crate) fn described<'a>(n: usize, trues: &'a [u32], falses: &'a [u32], count: usize) -> bool
-    requires { ⌜ (length (now trues) ≡ 128) × (length (now falses) ≡ 128) ⌝ }
+    requires { ⌜ TableRoom (now trues) (now falses) ⌝ }
     ensures { λ r. ⌜ r ≡ M.described 128 n (entriesOf count (now (trues .entry)) (now (falses .entry))) ⌝ }
 {
     if count < 1 {

@@ -27,7 +27,7 @@ first-table-requires c κs =
     let h = accepted-proper _ _ _ _ _ _ (c .before .before .before .before .before .before .before .decode .ensures .0) (c .before .before .before .before .before .enum-told .given .1) in
     let f = ors-few _ _ _ _ _ h in
     let g = oneofs-few _ _ _ _ _ h in
-    ((omega (arith, f .0), f .1), (omega (arith, g .0), g .1))
+    (record { room = omega (arith, f .0); few = f .1 }, record { room = omega (arith, g .0); few = g .1 })
 
 returns : tie.Need-returns
 returns c = start-fault _ _ _ (refused-says _ _ _ _ _ _ (c .before .before .before .before .decode .ensures .0) _ _ (c .before .before .answer .given .1)) _ (c .refuse-start .ensures)

@@ -13,10 +13,10 @@ use Rattle.table.proofs.slots.first_above.Statement.{statement}
 use Rattle.table.proofs.slots.first_above.Tie as tie
 
 abbrev Inv-loop : tie.InvT-loop
-Inv-loop trues falses n l i₀ i = (i ≤ n) × (lastOf (λ e. within l e) (entriesOf i trues falses) ≡ Nothing)
+Inv-loop trues falses count candidate i₀ i = (i ≤ count) × (lastOf (λ e. within candidate e) (entriesOf i trues falses) ≡ Nothing)
 
 abbrev μ-loop : tie.MeasureT-loop
-μ-loop trues falses n l i₀ i = n - i
+μ-loop trues falses count candidate i₀ i = count - i
 
 loop-holds : tie.Need-loop-holds Inv-loop μ-loop
 loop-holds c = (omega arith, none-left _ _ _ 0 (omega arith))
@@ -40,7 +40,7 @@ returns : tie.Need-returns Inv-loop μ-loop
 returns c =
     let a = c .before .before .before .before .before .before .before .before .args in
     let g = c .before .before .before .before .before .loop in
-    (g .inv .0, found-none (λ e. within (a .l) e) (entriesOf (g .i) (a .trues .now) (a .falses .now)) Nothing (sym (g .inv .1)) refl)
+    (g .inv .0, found-none (λ e. within (a .candidate) e) (entriesOf (g .i) (a .trues .now) (a .falses .now)) Nothing (sym (g .inv .1)) refl)
 
 add-i : tie.Need-add-i Inv-loop μ-loop
 add-i c = omega arith
@@ -54,15 +54,15 @@ loop-again c =
     let a = c .before .before .before .before .before .before .before .before .args in
     let g = c .before .before .before .before .before .loop in (
       omega arith,
-      missed (λ e. within (a .l) e) (a .trues .now) (a .falses .now) _ (g .i) (add-one (g .i)) (sym (c .before .within .ensures) ∙ c .if1 .left) ∙ g .inv .1,
+      missed (λ e. within (a .candidate) e) (a .trues .now) (a .falses .now) _ (g .i) (add-one (g .i)) (sym (c .before .within .ensures) ∙ c .if1 .left) ∙ g .inv .1,
     )
 
 returns-2 : tie.Need-returns-2 Inv-loop μ-loop
 returns-2 c =
     let a = c .before .before .before .before .args in
     let g = c .before .loop in
-    let e : g .i ≡ a .n = omega (arith, g .inv .0) in
-    (omega arith, found-none (λ e. within (a .l) e) (entriesOf (a .n) (a .trues .now) (a .falses .now)) Nothing (sym (g .inv .1) ∙ ap (λ (k : ℕ). lastOf (λ e. within (a .l) e) (entriesOf k (a .trues .now) (a .falses .now))) e) refl)
+    let e : g .i ≡ a .count = omega (arith, g .inv .0) in
+    (omega arith, found-none (λ e. within (a .candidate) e) (entriesOf (a .count) (a .trues .now) (a .falses .now)) Nothing (sym (g .inv .1) ∙ ap (λ (k : ℕ). lastOf (λ e. within (a .candidate) e) (entriesOf k (a .trues .now) (a .falses .now))) e) refl)
 
 pub first-above-spec : {M : Type 1} → statement M
 first-above-spec =

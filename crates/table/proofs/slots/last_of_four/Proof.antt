@@ -20,7 +20,7 @@ add-result c = search needs
 returns : tie.Need-returns
 returns c =
     let s = c .before .before .before .before .before .args in
-    sym (last-3 (s .trues .now) (s .falses .now) (s .from) (s .l) (sym (tested (s .l) (c .before .within .ensures) (c .before .before .entry-at .ensures)) ∙ c .if1 .taken))
+    sym (last-3 (s .trues .now) (s .falses .now) (s .from) (s .candidate) (sym (tested (s .candidate) (c .before .within .ensures) (c .before .before .entry-at .ensures)) ∙ c .if1 .taken))
 
 add-entry-at-2 : tie.Need-add-entry-at-2
 add-entry-at-2 c = search needs
@@ -38,7 +38,7 @@ returns-2 : tie.Need-returns-2
 returns-2 c =
     let x = c .before .before .before in
     let s = x .before .before .before .before .before .args in
-    sym (last-2 (s .trues .now) (s .falses .now) (s .from) (s .l) (sym (tested (s .l) (x .before .within .ensures) (x .before .before .entry-at .ensures)) ∙ x .if1 .left) (sym (tested (s .l) (c .before .within2 .ensures) (c .before .before .entry-at2 .ensures)) ∙ c .if2 .taken))
+    sym (last-2 (s .trues .now) (s .falses .now) (s .from) (s .candidate) (sym (tested (s .candidate) (x .before .within .ensures) (x .before .before .entry-at .ensures)) ∙ x .if1 .left) (sym (tested (s .candidate) (c .before .within2 .ensures) (c .before .before .entry-at2 .ensures)) ∙ c .if2 .taken))
 
 add-entry-at-3 : tie.Need-add-entry-at-3
 add-entry-at-3 c = search needs
@@ -57,7 +57,7 @@ returns-3 c =
     let y = c .before .before .before in
     let x = y .before .before .before in
     let s = x .before .before .before .before .before .args in
-    sym (last-1 (s .trues .now) (s .falses .now) (s .from) (s .l) (sym (tested (s .l) (x .before .within .ensures) (x .before .before .entry-at .ensures)) ∙ x .if1 .left) (sym (tested (s .l) (y .before .within2 .ensures) (y .before .before .entry-at2 .ensures)) ∙ y .if2 .left) (sym (tested (s .l) (c .before .within3 .ensures) (c .before .before .entry-at3 .ensures)) ∙ c .if3 .taken))
+    sym (last-1 (s .trues .now) (s .falses .now) (s .from) (s .candidate) (sym (tested (s .candidate) (x .before .within .ensures) (x .before .before .entry-at .ensures)) ∙ x .if1 .left) (sym (tested (s .candidate) (y .before .within2 .ensures) (y .before .before .entry-at2 .ensures)) ∙ y .if2 .left) (sym (tested (s .candidate) (c .before .within3 .ensures) (c .before .before .entry-at3 .ensures)) ∙ c .if3 .taken))
 
 returns-4 : tie.Need-returns-4
 returns-4 c =
@@ -65,7 +65,7 @@ returns-4 c =
     let x = y .before .before .before in
     let z = x .before .before .before .before .before in
     let s = z .args in
-    sym (last-0 (s .trues .now) (s .falses .now) (s .from) (s .l) (sym (tested (s .l) (x .before .within .ensures) (x .before .before .entry-at .ensures)) ∙ x .if1 .left) (sym (tested (s .l) (y .before .within2 .ensures) (y .before .before .entry-at2 .ensures)) ∙ y .if2 .left) (sym (tested (s .l) (c .before .within3 .ensures) (c .before .before .entry-at3 .ensures)) ∙ c .if3 .left) (z .pre .1))
+    sym (last-0 (s .trues .now) (s .falses .now) (s .from) (s .candidate) (sym (tested (s .candidate) (x .before .within .ensures) (x .before .before .entry-at .ensures)) ∙ x .if1 .left) (sym (tested (s .candidate) (y .before .within2 .ensures) (y .before .before .entry-at2 .ensures)) ∙ y .if2 .left) (sym (tested (s .candidate) (c .before .within3 .ensures) (c .before .before .entry-at3 .ensures)) ∙ c .if3 .left) (z .pre .1))
 
 pub last-of-four-spec : {M : Type 1} → statement M
 last-of-four-spec =

@@ -10,10 +10,10 @@ use Rattle.table.proofs.slots.last_singly.Statement.{statement}
 use Rattle.table.proofs.slots.last_singly.Tie as tie
 
 abbrev Inv-loop : tie.InvT-loop
-Inv-loop trues falses n l i₀ i = (i ≤ n) × (lastWithin (entriesOf i trues falses) l ≡ lastWithin (entriesOf n trues falses) l)
+Inv-loop trues falses count candidate i₀ i = (i ≤ count) × (lastWithin (entriesOf i trues falses) candidate ≡ lastWithin (entriesOf count trues falses) candidate)
 
 abbrev μ-loop : tie.MeasureT-loop
-μ-loop trues falses n l i₀ i = i
+μ-loop trues falses count candidate i₀ i = i
 
 loop-holds : tie.Need-loop-holds Inv-loop μ-loop
 loop-holds c = (omega arith, refl)
@@ -22,7 +22,7 @@ sub-i : tie.Need-sub-i Inv-loop μ-loop
 sub-i c = search needs
 
 entry-at-requires : tie.Need-entry-at-requires Inv-loop μ-loop
-entry-at-requires c κs = (omega arith, omega arith)
+entry-at-requires c κs = search needs
 
 within-requires : tie.Need-within-requires Inv-loop μ-loop
 within-requires c κs = search needs
@@ -31,7 +31,7 @@ returns : tie.Need-returns Inv-loop μ-loop
 returns c =
     let g = c .before .before .before .before .loop in
     let s = c .before .before .before .before .before .before .before .args in
-    sym (hit (λ e. within e (s .l)) (s .trues .now) (s .falses .now) (g .i) (g .i - 1) (omega arith) (sym (tested (s .l) (c .before .within .ensures) (c .before .before .entry-at .ensures)) ∙ c .if1 .taken)) ∙ g .inv .1
+    sym (hit (λ e. within e (s .candidate)) (s .trues .now) (s .falses .now) (g .i) (g .i - 1) (omega arith) (sym (tested (s .candidate) (c .before .within .ensures) (c .before .before .entry-at .ensures)) ∙ c .if1 .taken)) ∙ g .inv .1
 
 loop-less : tie.Need-loop-less Inv-loop μ-loop
 loop-less c = omega arith
@@ -40,7 +40,7 @@ loop-again : tie.Need-loop-again Inv-loop μ-loop
 loop-again c =
     let g = c .before .before .before .before .loop in
     let s = c .before .before .before .before .before .before .before .args in
-    (omega arith, sym (missed (λ e. within e (s .l)) (s .trues .now) (s .falses .now) (g .i) (g .i - 1) (omega arith) (sym (tested (s .l) (c .before .within .ensures) (c .before .before .entry-at .ensures)) ∙ c .if1 .left)) ∙ g .inv .1)
+    (omega arith, sym (missed (λ e. within e (s .candidate)) (s .trues .now) (s .falses .now) (g .i) (g .i - 1) (omega arith) (sym (tested (s .candidate) (c .before .within .ensures) (c .before .before .entry-at .ensures)) ∙ c .if1 .left)) ∙ g .inv .1)
 
 returns-2 : tie.Need-returns-2 Inv-loop μ-loop
 returns-2 c = sym (none-left _ _ _ (c .before .loop .i) (omega arith)) ∙ c .before .loop .inv .1

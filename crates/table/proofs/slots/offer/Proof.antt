@@ -10,8 +10,8 @@ put-requires c κs = search needs
 enum-told : tie.Need-enum-told
 enum-told c = search needs
 
-enum-known-count : tie.Need-enum-known-count
-enum-known-count c = search needs
+enum-known-grown : tie.Need-enum-known-grown
+enum-known-grown c = search needs
 
 enum-told-2 : tie.Need-enum-told-2
 enum-told-2 c = search needs
@@ -32,7 +32,7 @@ same-length-4 : tie.Need-same-length-4
 same-length-4 c = search needs
 
 returns-2 : tie.Need-returns-2
-returns-2 c = offered _ _ _ _ _ _ _ _ (c .before .before .before .before .before .before .before .put .ensures .0) (c .before .count .given .1) (c .before .before .before .before .before .before .before .put .ensures .1)
+returns-2 c = offered _ _ _ _ _ _ _ _ (c .before .before .before .before .before .before .before .put .ensures .0) (c .before .grown .given .1) (c .before .before .before .before .before .before .before .put .ensures .1)
 
 same-length-5 : tie.Need-same-length-5
 same-length-5 c = search needs
@@ -49,7 +49,7 @@ offer-spec =
     (tie.spec
     put-requires
     enum-told
-    enum-known-count
+    enum-known-grown
     enum-told-2
     same-length
     same-length-2

@@ -4,7 +4,7 @@ use Prim.Native.Nat.{_-_}
 use native.Mathlib.Omega.{arith}
 use borrow.Author.Needs.{needs}
 use Rattle.sheet.specs.Literals.{within}
-use Rattle.table.proofs.Pads.{holds-falses-long}
+use Rattle.table.proofs.Pads.{holds-room}
 use Rattle.table.proofs.Scan.{tested, hit, found-some}
 use Rattle.table.proofs.PutSlots.{dropped, offered}
 use Rattle.table.proofs.slots.offer_by_newest.Statement.{statement}
@@ -15,8 +15,8 @@ sub-entry-at c = search needs
 
 entry-at-requires : tie.Need-entry-at-requires
 entry-at-requires c κs =
-    let z = c .before .before .before .before .before in
-    (omega (arith, z .pre .room), omega (arith, z .pre .room, holds-falses-long _ _ _ _ _ (z .pre)))
+    let room = holds-room _ _ _ _ _ (c .before .before .before .before .before .pre) in
+    record { trues = omega (arith, room .trues); falses = omega (arith, room .falses) }
 
 within-requires : tie.Need-within-requires
 within-requires c κs = search needs
@@ -31,9 +31,9 @@ returns : tie.Need-returns
 returns c =
     let z = c .before .before .before .before .before .before .before .before in
     let a = z .args in
-    let newest = hit (λ e. within e (a .l)) (a .trues .now) (a .falses .now) (a .n) (a .n - 1) (omega arith) (sym (tested (a .l) (c .before .within .ensures) (c .before .before .entry-at .ensures)) ∙ c .if2 .taken) in
-    let d = dropped _ (a .n) (a .trues .now) (a .falses .now) (a .l) (z .pre) (found-some _ _ _ _ (sym newest) refl) in
-    offered (a .n) (a .trues .now) (a .falses .now) (a .l) _ _ _ _ (d .0) refl (d .1)
+    let newest = hit (λ e. within e (a .candidate)) (a .trues .now) (a .falses .now) (a .count) (a .count - 1) (omega arith) (sym (tested (a .candidate) (c .before .within .ensures) (c .before .before .entry-at .ensures)) ∙ c .if2 .taken) in
+    let d = dropped _ (a .count) (a .trues .now) (a .falses .now) (a .candidate) (z .pre) (found-some _ _ _ _ (sym newest) refl) in
+    offered (a .count) (a .trues .now) (a .falses .now) (a .candidate) _ _ _ _ (d .0) refl (d .1)
 
 offer-requires : tie.Need-offer-requires
 offer-requires c κs = search needs

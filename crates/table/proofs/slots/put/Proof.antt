@@ -1,19 +1,15 @@
 -- `slots::put` meets its contract. Assumes nothing.
-use mathlib.Core.Path.{_≡_, sym, _∙_}
+use mathlib.Core.Path.{sym, _∙_}
 use native.Mathlib.Omega.{arith}
-use lib.ListN.{length}
 use borrow.Author.Needs.{needs}
-use Rattle.table.proofs.Pads.{holds-trues-long, holds-falses-long}
+use Rattle.table.proofs.Pads.{holds-trues-long, holds-falses-long, holds-room}
 use Rattle.table.proofs.Scan.{found-some, found-none}
 use Rattle.table.proofs.PutSlots.{dropped, full, placed, fewer}
 use Rattle.table.proofs.slots.put.Statement.{statement}
 use Rattle.table.proofs.slots.put.Tie as tie
 
 last-within-requires : tie.Need-last-within-requires
-last-within-requires c κs =
-    let s = c .before .before .before .before in
-    let q : length (s .args .falses .now) ≡ length (s .args .trues .now) = holds-falses-long _ _ _ _ _ (s .pre) in
-    (s .pre .room, omega arith)
+last-within-requires c κs = holds-room _ _ _ _ _ (c .before .before .before .before .pre)
 
 enum-told : tie.Need-enum-told
 enum-told c = search needs

@@ -11,22 +11,19 @@ use borrow.Author.Tests.{not-true}
 use Rattle.sheet.specs.declared.Literals.{Literals}
 use Rattle.sheet.specs.Literals.{within}
 use Rattle.table.specs.Slots.{Holds}
-use Rattle.table.proofs.Pads.{holds-falses-long}
+use Rattle.table.proofs.Pads.{holds-falses-long, holds-room}
 use Rattle.table.proofs.Compact.{none-goes, Moved, moved-is, moved-start, moved-gone, moved-kept, moved-end}
 use Rattle.table.proofs.slots.remove.Statement.{statement}
 use Rattle.table.proofs.slots.remove.Tie as tie
 
 abbrev Inv-loop : tie.InvT-loop
-Inv-loop trues₀ falses₀ n l first i₀ k₀ trues falses i k = Moved (λ e. not (within l e)) n trues₀ falses₀ trues falses k i
+Inv-loop trues₀ falses₀ count candidate first i₀ filled₀ trues falses i filled = Moved (λ e. not (within candidate e)) count trues₀ falses₀ trues falses filled i
 
 abbrev μ-loop : tie.MeasureT-loop
-μ-loop trues₀ falses₀ n l first i₀ k₀ trues falses i k = n - i
+μ-loop trues₀ falses₀ count candidate first i₀ filled₀ trues falses i filled = count - i
 
 some-above-requires : tie.Need-some-above-requires Inv-loop μ-loop
-some-above-requires c κs =
-    let h = c .before .before .before .before .pre in
-    let q = holds-falses-long _ _ _ _ _ h in
-    (h .room, omega (arith, h .room))
+some-above-requires c κs = holds-room _ _ _ _ _ (c .before .before .before .before .pre)
 
 same-length : tie.Need-same-length Inv-loop μ-loop
 same-length c = search needs
@@ -38,20 +35,17 @@ returns : tie.Need-returns Inv-loop μ-loop
 returns c =
     let o = c .before .before .before .before .before .before in
     let a = o .args in
-    subst (λ (x : List Literals). Holds (length (a .trues .now)) x (a .n) (a .trues .now) (a .falses .now))
-    (sym (none-goes (λ e. within (a .l) e) _ (sym (c .before .some-above .ensures) ∙ not-true _ (c .if1 .taken)))) (o .pre)
+    subst (λ (x : List Literals). Holds (length (a .trues .now)) x (a .count) (a .trues .now) (a .falses .now))
+    (sym (none-goes (λ e. within (a .candidate) e) _ (sym (c .before .some-above .ensures) ∙ not-true _ (c .if1 .taken)))) (o .pre)
 
 first-above-requires : tie.Need-first-above-requires Inv-loop μ-loop
-first-above-requires c κs =
-    let h = c .before .before .before .before .before .before .before .before .pre in
-    let q = holds-falses-long _ _ _ _ _ h in
-    (h .room, omega (arith, h .room))
+first-above-requires c κs = holds-room _ _ _ _ _ (c .before .before .before .before .before .before .before .before .pre)
 
 loop-holds : tie.Need-loop-holds Inv-loop μ-loop
 loop-holds c =
     let o = c .before .before .before .before .before .before .before .before .before in
     let e = c .first-above .ensures in
-    moved-start _ _ _ _ (o .pre) _ (e .0) (none-goes (λ e. within (o .args .l) e) _ (e .1))
+    moved-start _ _ _ _ (o .pre) _ (e .0) (none-goes (λ e. within (o .args .candidate) e) _ (e .1))
 
 mul-t20 : tie.Need-mul-t20 Inv-loop μ-loop
 mul-t20 c = omega arith
@@ -92,8 +86,8 @@ mul-falses-2 c = omega arith
 slice-write-falses-2 : tie.Need-slice-write-falses-2 Inv-loop μ-loop
 slice-write-falses-2 c = simp length-set (omega arith)
 
-add-k : tie.Need-add-k Inv-loop μ-loop
-add-k c = omega arith
+add-filled : tie.Need-add-filled Inv-loop μ-loop
+add-filled c = omega arith
 
 add-i : tie.Need-add-i Inv-loop μ-loop
 add-i c = omega arith
@@ -145,7 +139,7 @@ remove-spec =
     slice-write-trues-2
     mul-falses-2
     slice-write-falses-2
-    add-k
+    add-filled
     add-i
     loop-less
     loop-again

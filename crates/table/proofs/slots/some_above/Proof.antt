@@ -15,11 +15,11 @@ use Rattle.table.proofs.slots.some_above.Statement.{statement}
 use Rattle.table.proofs.slots.some_above.Tie as tie
 
 abbrev Inv-loop : tie.InvT-loop
-Inv-loop trues falses n l found₀ i₀ found i =
-    (i ≤ n) × (anyOf (λ e. within l e) (entriesOf n trues falses) ≡ (found || anyOf (λ e. within l e) (drop i (entriesOf n trues falses))))
+Inv-loop trues falses count candidate found₀ i₀ found i =
+    (i ≤ count) × (anyOf (λ e. within candidate e) (entriesOf count trues falses) ≡ (found || anyOf (λ e. within candidate e) (drop i (entriesOf count trues falses))))
 
 abbrev μ-loop : tie.MeasureT-loop
-μ-loop trues falses n l found₀ i₀ found i = n - i
+μ-loop trues falses count candidate found₀ i₀ found i = count - i
 
 loop-holds : tie.Need-loop-holds Inv-loop μ-loop
 loop-holds c = (omega arith, refl)
@@ -50,19 +50,19 @@ unfolding slot
 loop-again c =
     let a = c .before .before .before .before .before .before .before .before .args in
     let g = c .before .before .before .before .before .loop in
-    let q = entries-next (a .n) (a .trues .now) (a .falses .now) (g .i) _ (omega arith) refl in
+    let q = entries-next (a .count) (a .trues .now) (a .falses .now) (g .i) _ (omega arith) refl in
     let w = c .before .within .ensures in (
       omega arith,
       ⊎-elim
-          (λ v. g .inv .1 ∙ any-mark (λ e. within (a .l) e) _ _ _ _ q w (g .found) (v .0 .taken) ∙ sym (ap (λ (t : Bool). t || anyOf (λ e. within (a .l) e) (drop (g .i + 1) (entriesOf (a .n) (a .trues .now) (a .falses .now)))) (v .1)))
-          (λ v. g .inv .1 ∙ any-keep (λ e. within (a .l) e) _ _ _ _ q w (g .found) (v .0 .left) ∙ sym (ap (λ (t : Bool). t || anyOf (λ e. within (a .l) e) (drop (g .i + 1) (entriesOf (a .n) (a .trues .now) (a .falses .now)))) (v .1)))
+          (λ v. g .inv .1 ∙ any-mark (λ e. within (a .candidate) e) _ _ _ _ q w (g .found) (v .0 .taken) ∙ sym (ap (λ (t : Bool). t || anyOf (λ e. within (a .candidate) e) (drop (g .i + 1) (entriesOf (a .count) (a .trues .now) (a .falses .now)))) (v .1)))
+          (λ v. g .inv .1 ∙ any-keep (λ e. within (a .candidate) e) _ _ _ _ q w (g .found) (v .0 .left) ∙ sym (ap (λ (t : Bool). t || anyOf (λ e. within (a .candidate) e) (drop (g .i + 1) (entriesOf (a .count) (a .trues .now) (a .falses .now)))) (v .1)))
           (c .if1 .came),
     )
 
 returns : tie.Need-returns Inv-loop μ-loop
 returns c =
     let a = c .before .before .before .before .args in
-    sym (c .before .loop .inv .1 ∙ any-end (λ e. within (a .l) e) _ _ (entries-done (a .n) (a .trues .now) (a .falses .now) (c .before .loop .i) (omega arith)))
+    sym (c .before .loop .inv .1 ∙ any-end (λ e. within (a .candidate) e) _ _ (entries-done (a .count) (a .trues .now) (a .falses .now) (c .before .loop .i) (omega arith)))
 
 pub some-above-spec : {M : Type 1} → statement M
 some-above-spec =

@@ -47,9 +47,9 @@ returns c =
     let e = d .before .before in
     ap₂ (λ (x y : Bool). x || y)
     (ap₂ (λ (x y : Bool). x || y)
-    (ap₂ (λ (x y : Bool). x || y) (tested (s .l) (e .within .ensures) (e .before .entry-at .ensures)) (tested (s .l) (d .within2 .ensures) (d .before .entry-at2 .ensures)))
-    (tested (s .l) (b .within3 .ensures) (b .before .entry-at3 .ensures)))
-    (tested (s .l) (c .within4 .ensures) (c .before .entry-at4 .ensures))
+    (ap₂ (λ (x y : Bool). x || y) (tested (s .candidate) (e .within .ensures) (e .before .entry-at .ensures)) (tested (s .candidate) (d .within2 .ensures) (d .before .entry-at2 .ensures)))
+    (tested (s .candidate) (b .within3 .ensures) (b .before .entry-at3 .ensures)))
+    (tested (s .candidate) (c .within4 .ensures) (c .before .entry-at4 .ensures))
 
 pub some-of-four-spec : {M : Type 1} → statement M
 some-of-four-spec =

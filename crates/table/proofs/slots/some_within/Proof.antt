@@ -14,17 +14,17 @@ use Rattle.table.proofs.slots.some_within.Statement.{statement}
 use Rattle.table.proofs.slots.some_within.Tie as tie
 
 abbrev Inv-loop : tie.InvT-loop
-Inv-loop trues falses n l some₀ i₀ some i =
-    (i ≤ n) × (anyOf (λ e. within e l) (entriesOf n trues falses) ≡ (some || anyOf (λ e. within e l) (drop i (entriesOf n trues falses))))
+Inv-loop trues falses count set some₀ i₀ some i =
+    (i ≤ count) × (anyOf (λ e. within e set) (entriesOf count trues falses) ≡ (some || anyOf (λ e. within e set) (drop i (entriesOf count trues falses))))
 
 abbrev μ-loop : tie.MeasureT-loop
-μ-loop trues falses n l some₀ i₀ some i = n - i
+μ-loop trues falses count set some₀ i₀ some i = count - i
 
 loop-holds : tie.Need-loop-holds Inv-loop μ-loop
 loop-holds c = (omega arith, refl)
 
 entry-at-requires : tie.Need-entry-at-requires Inv-loop μ-loop
-entry-at-requires c κs = (omega arith, omega arith)
+entry-at-requires c κs = search needs
 
 within-requires : tie.Need-within-requires Inv-loop μ-loop
 within-requires c κs = search needs
@@ -39,19 +39,19 @@ loop-again : tie.Need-loop-again Inv-loop μ-loop
 loop-again c =
     let a = c .before .before .before .before .before .before .before .args in
     let g = c .before .before .before .before .loop in
-    let q = entries-next (a .n) (a .trues .now) (a .falses .now) (g .i) _ (omega arith) (c .before .before .entry-at .ensures) in
+    let q = entries-next (a .count) (a .trues .now) (a .falses .now) (g .i) _ (omega arith) (c .before .before .entry-at .ensures) in
     let w = c .before .within .ensures in (
       omega arith,
       ⊎-elim
-          (λ v. g .inv .1 ∙ any-mark (λ e. within e (a .l)) _ _ _ _ q w (g .some) (v .0 .taken) ∙ sym (ap (λ (t : Bool). t || anyOf (λ e. within e (a .l)) (drop (g .i + 1) (entriesOf (a .n) (a .trues .now) (a .falses .now)))) (v .1)))
-          (λ v. g .inv .1 ∙ any-keep (λ e. within e (a .l)) _ _ _ _ q w (g .some) (v .0 .left) ∙ sym (ap (λ (t : Bool). t || anyOf (λ e. within e (a .l)) (drop (g .i + 1) (entriesOf (a .n) (a .trues .now) (a .falses .now)))) (v .1)))
+          (λ v. g .inv .1 ∙ any-mark (λ e. within e (a .set)) _ _ _ _ q w (g .some) (v .0 .taken) ∙ sym (ap (λ (t : Bool). t || anyOf (λ e. within e (a .set)) (drop (g .i + 1) (entriesOf (a .count) (a .trues .now) (a .falses .now)))) (v .1)))
+          (λ v. g .inv .1 ∙ any-keep (λ e. within e (a .set)) _ _ _ _ q w (g .some) (v .0 .left) ∙ sym (ap (λ (t : Bool). t || anyOf (λ e. within e (a .set)) (drop (g .i + 1) (entriesOf (a .count) (a .trues .now) (a .falses .now)))) (v .1)))
           (c .if1 .came),
     )
 
 returns : tie.Need-returns Inv-loop μ-loop
 returns c =
     let a = c .before .before .before .before .args in
-    sym (c .before .loop .inv .1 ∙ any-end (λ e. within e (a .l)) _ _ (entries-done (a .n) (a .trues .now) (a .falses .now) (c .before .loop .i) (omega arith)))
+    sym (c .before .loop .inv .1 ∙ any-end (λ e. within e (a .set)) _ _ (entries-done (a .count) (a .trues .now) (a .falses .now) (c .before .loop .i) (omega arith)))
 
 pub some-within-spec : {M : Type 1} → statement M
 some-within-spec =

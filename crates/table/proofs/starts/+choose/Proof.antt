@@ -43,13 +43,13 @@ abbrev claims : ℕ → choose-lts.Claims
 claims t = (offer-by-newest-reads.Asked, offer-by-newest-reads.Learnt, set-from-reads.Asked, set-from-reads.Learnt, lacking-reads.Asked, lacking-reads.Learnt, next-reads.Asked, next-reads.Learnt, literal-reads.Asked, literal-reads.Learnt, flip-reads.Asked, flip-reads.Learnt, join-reads.Asked, join-reads.Learnt, choose-below t, choose.Post)
 
 abbrev choose-Inv-loop : choose-lts.InvT-loop
-choose-Inv-loop row size at piece trues₀ falses₀ k after rest₀ sum₀ l₀ trues falses rest sum l =
-    Going (keep L.consistent (falsify (drop at (setsAt size row)) piece)) k trues₀ falses₀ (keep L.consistent (choicesOf (drop after (setsAt size row)) rest piece)) sum trues falses
+choose-Inv-loop row size at piece to-trues₀ to-falses₀ count after rest₀ filled₀ l₀ to-trues to-falses rest filled l =
+    Going (keep L.consistent (falsify (drop at (setsAt size row)) piece)) count to-trues₀ to-falses₀ (keep L.consistent (choicesOf (drop after (setsAt size row)) rest piece)) filled to-trues to-falses
     × (l ≡ L.next rest 0)
     × Free rest piece
 
 abbrev choose-μ-loop : choose-lts.MeasureT-loop
-choose-μ-loop row size at piece trues₀ falses₀ k after rest₀ sum₀ l₀ trues falses rest sum l = length (L.members rest 0)
+choose-μ-loop row size at piece to-trues₀ to-falses₀ count after rest₀ filled₀ l₀ to-trues to-falses rest filled l = length (L.members rest 0)
 
 choose-offer-by-newest-requires : (t : ℕ) → choose-lts.Need-offer-by-newest-requires (claims t) (choose-at t) choose.Post choose-Inv-loop choose-μ-loop
 choose-offer-by-newest-requires t c κs = c .before .before .before .before .before .pre .1 .1 .1
@@ -104,8 +104,8 @@ choose-choose-requires t c κs =
     let w = o .before .before .before .before .loop .inv in
     (omega arith, (s .pre .1 .0, (chosen-steady _ _ _ _ _ _ (s .pre .1 .1 .0) (w .2) (w .1) (o .before .before .before .loop-test .taken) (o .before .before .literal .ensures) (o .before .flip .ensures) (o .join .ensures), held-own _ _ _ _ (w .0 .held))))
 
-choose-enum-known-m : (t : ℕ) → choose-lts.Need-enum-known-m (claims t) (choose-at t) choose.Post choose-Inv-loop choose-μ-loop
-choose-enum-known-m t c = search needs
+choose-enum-known-grown : (t : ℕ) → choose-lts.Need-enum-known-grown (claims t) (choose-at t) choose.Post choose-Inv-loop choose-μ-loop
+choose-enum-known-grown t c = search needs
 
 choose-enum-told : (t : ℕ) → choose-lts.Need-enum-told (claims t) (choose-at t) choose.Post choose-Inv-loop choose-μ-loop
 choose-enum-told t c = search needs
@@ -126,8 +126,8 @@ choose-returns-2 t c =
 choose-offer-by-newest-requires-2 : (t : ℕ) → choose-lts.Need-offer-by-newest-requires-2 (claims t) (choose-at t) choose.Post choose-Inv-loop choose-μ-loop
 choose-offer-by-newest-requires-2 t c κs = held-own _ _ _ _ (c .before .before .before .before .before .before .before .loop .inv .0 .held)
 
-choose-enum-known-m-2 : (t : ℕ) → choose-lts.Need-enum-known-m-2 (claims t) (choose-at t) choose.Post choose-Inv-loop choose-μ-loop
-choose-enum-known-m-2 t c = search needs
+choose-enum-known-grown-2 : (t : ℕ) → choose-lts.Need-enum-known-grown-2 (claims t) (choose-at t) choose.Post choose-Inv-loop choose-μ-loop
+choose-enum-known-grown-2 t c = search needs
 
 choose-enum-told-2 : (t : ℕ) → choose-lts.Need-enum-told-2 (claims t) (choose-at t) choose.Post choose-Inv-loop choose-μ-loop
 choose-enum-told-2 t c = search needs
@@ -205,13 +205,13 @@ pub +choose-spec : {M : Type 1} → statement M
     (choose-flip-requires t)
     (choose-join-requires t)
     (choose-choose-requires t)
-    (choose-enum-known-m t)
+    (choose-enum-known-grown t)
     (choose-enum-told t)
     (choose-same-length-3 t)
     (choose-same-length-4 t)
     (choose-returns-2 t)
     (choose-offer-by-newest-requires-2 t)
-    (choose-enum-known-m-2 t)
+    (choose-enum-known-grown-2 t)
     (choose-enum-told-2 t)
     (choose-same-length-5 t)
     (choose-same-length-6 t)

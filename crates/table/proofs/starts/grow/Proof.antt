@@ -1,10 +1,8 @@
 -- `table::starts::grow` meets its contract. Assumes nothing.
 use mathlib.Core.Path.{sym}
 use mathlib.Core.List.{[]}
-use Prim.Native.Nat.{_≤_}
 use native.Mathlib.Omega.{arith}
-use lib.ListN.{length}
-use Rattle.table.proofs.Pads.{fresh, holds-trues-long, holds-falses-long}
+use Rattle.table.proofs.Pads.{fresh, holds-trues-long, holds-falses-long, holds-room}
 use Rattle.table.proofs.Started.{right-refused, put-held, trues-front, falses-front, grown-full, grown-empty, grown-copied}
 use borrow.Author.Needs.{needs}
 use Rattle.table.proofs.starts.grow.Statement.{statement}
@@ -19,12 +17,10 @@ slice-aggregate-widen-all-2 c = search needs
 widen-all-requires : tie.Need-widen-all-requires
 widen-all-requires c κs =
     let s = c .before .before .before .before .before .before .before in
-    let t : s .args .m ≤ length (s .args .trues .now) = omega (arith, s .pre .1 .room, holds-trues-long _ _ _ _ _ (s .pre .1)) in
-    let f : s .args .m ≤ length (s .args .falses .now) = omega (arith, s .pre .1 .room, holds-falses-long _ _ _ _ _ (s .pre .1)) in
-    (s .pre .0, ((t, f), fresh 128))
+    (s .pre .0, (holds-room _ _ _ _ _ (s .pre .1), fresh 128))
 
-enum-known-k : tie.Need-enum-known-k
-enum-known-k c = search needs
+enum-known-filled : tie.Need-enum-known-filled
+enum-known-filled c = search needs
 
 same-length : tie.Need-same-length
 same-length c = search needs
@@ -33,31 +29,31 @@ same-length-2 : tie.Need-same-length-2
 same-length-2 c = search needs
 
 returns : tie.Need-returns
-returns c = right-refused _ 20 [] [] (grown-empty _ _ _ _ _ (c .before .before .before .before .before .before .widen-all .ensures) _ (c .before .before .k .given .1) (c .if1 .taken))
+returns c = right-refused _ 20 [] [] (grown-empty _ _ _ _ _ (c .before .before .before .before .before .before .widen-all .ensures) _ (c .before .before .filled .given .1) (c .if1 .taken))
 
 longer-requires : tie.Need-longer-requires
-longer-requires c κs = (c .before .before .before .before .before .before .before .before .before .before .before .before .before .before .pre .1 .room, put-held _ _ _ _ _ _ _ (c .before .before .before .before .before .before .widen-all .ensures) _ (c .before .before .k .given .1) .room)
+longer-requires c κs = (c .before .before .before .before .before .before .before .before .before .before .before .before .before .before .pre .1 .room, put-held _ _ _ _ _ _ _ (c .before .before .before .before .before .before .widen-all .ensures) _ (c .before .before .filled .given .1) .room)
 
-array-share-prefix-us : tie.Need-array-share-prefix-us
-array-share-prefix-us c = search needs
+array-share-prefix-to-trues : tie.Need-array-share-prefix-to-trues
+array-share-prefix-to-trues c = search needs
 
 slice-aggregate-copy-masks : tie.Need-slice-aggregate-copy-masks
-slice-aggregate-copy-masks c = sym (trues-front _ _ _ (put-held _ _ _ _ _ _ _ (c .before .before .before .before .before .before .before .before .before .widen-all .ensures) _ (c .before .before .before .before .before .k .given .1)) _ (c .before .before .longer .ensures .2))
+slice-aggregate-copy-masks c = sym (trues-front _ _ _ (put-held _ _ _ _ _ _ _ (c .before .before .before .before .before .before .before .before .before .widen-all .ensures) _ (c .before .before .before .before .before .filled .given .1)) _ (c .before .before .longer .ensures .2))
 
 copy-masks-requires : tie.Need-copy-masks-requires
 copy-masks-requires c κs =
-    let n = trues-front _ _ _ (put-held _ _ _ _ _ _ _ (c .before .before .before .before .before .before .before .before .before .widen-all .ensures) _ (c .before .before .before .before .before .k .given .1)) _ (c .before .before .longer .ensures .2) in
+    let n = trues-front _ _ _ (put-held _ _ _ _ _ _ _ (c .before .before .before .before .before .before .before .before .before .widen-all .ensures) _ (c .before .before .before .before .before .filled .given .1)) _ (c .before .before .longer .ensures .2) in
     omega (arith, n, c .before .before .longer .ensures .2, holds-trues-long _ _ _ _ _ (c .before .before .before .before .before .before .before .before .before .before .before .before .before .before .before .before .before .pre .1))
 
-array-share-prefix-gs : tie.Need-array-share-prefix-gs
-array-share-prefix-gs c = search needs
+array-share-prefix-to-falses : tie.Need-array-share-prefix-to-falses
+array-share-prefix-to-falses c = search needs
 
 slice-aggregate-copy-masks-2 : tie.Need-slice-aggregate-copy-masks-2
-slice-aggregate-copy-masks-2 c = sym (falses-front _ _ _ (put-held _ _ _ _ _ _ _ (c .before .before .before .before .before .before .before .before .before .before .before .before .before .before .widen-all .ensures) _ (c .before .before .before .before .before .before .before .before .before .before .k .given .1)) _ (c .before .before .before .before .before .before .before .longer .ensures .2))
+slice-aggregate-copy-masks-2 c = sym (falses-front _ _ _ (put-held _ _ _ _ _ _ _ (c .before .before .before .before .before .before .before .before .before .before .before .before .before .before .widen-all .ensures) _ (c .before .before .before .before .before .before .before .before .before .before .filled .given .1)) _ (c .before .before .before .before .before .before .before .longer .ensures .2))
 
 copy-masks-requires-2 : tie.Need-copy-masks-requires-2
 copy-masks-requires-2 c κs =
-    let n = falses-front _ _ _ (put-held _ _ _ _ _ _ _ (c .before .before .before .before .before .before .before .before .before .before .before .before .before .before .widen-all .ensures) _ (c .before .before .before .before .before .before .before .before .before .before .k .given .1)) _ (c .before .before .before .before .before .before .before .longer .ensures .2) in
+    let n = falses-front _ _ _ (put-held _ _ _ _ _ _ _ (c .before .before .before .before .before .before .before .before .before .before .before .before .before .before .widen-all .ensures) _ (c .before .before .before .before .before .before .before .before .before .before .filled .given .1)) _ (c .before .before .before .before .before .before .before .longer .ensures .2) in
     omega (arith, n, c .before .before .before .before .before .before .before .longer .ensures .2, holds-falses-long _ _ _ _ _ (c .before .before .before .before .before .before .before .before .before .before .before .before .before .before .before .before .before .before .before .before .before .before .pre .1))
 
 enum-told : tie.Need-enum-told
@@ -70,7 +66,7 @@ same-length-4 : tie.Need-same-length-4
 same-length-4 c = search needs
 
 returns-2 : tie.Need-returns-2
-returns-2 c = grown-copied _ _ _ _ _ (c .before .before .before .before .before .before .before .before .before .before .before .before .before .before .before .before .before .widen-all .ensures) _ (c .before .before .before .before .before .before .before .before .before .before .before .before .before .k .given .1) (c .before .before .before .before .before .before .before .before .before .before .before .if1 .left) _ _ _ (c .before .before .before .before .before .before .before .before .before .before .before .before .before .before .before .before .before .before .before .before .before .before .before .before .before .pre .1) _ (c .before .before .before .before .before .before .before .before .before .before .longer .ensures) _ _ (c .before .before .before .before .before .before .before .copy-masks .ensures) (c .before .before .copy-masks2 .ensures)
+returns-2 c = grown-copied _ _ _ _ _ (c .before .before .before .before .before .before .before .before .before .before .before .before .before .before .before .before .before .widen-all .ensures) _ (c .before .before .before .before .before .before .before .before .before .before .before .before .before .filled .given .1) (c .before .before .before .before .before .before .before .before .before .before .before .if1 .left) _ _ _ (c .before .before .before .before .before .before .before .before .before .before .before .before .before .before .before .before .before .before .before .before .before .before .before .before .before .pre .1) _ (c .before .before .before .before .before .before .before .before .before .before .longer .ensures) _ _ (c .before .before .before .before .before .before .before .copy-masks .ensures) (c .before .before .copy-masks2 .ensures)
 
 same-length-5 : tie.Need-same-length-5
 same-length-5 c = search needs
@@ -88,15 +84,15 @@ grow-spec =
     slice-aggregate-widen-all
     slice-aggregate-widen-all-2
     widen-all-requires
-    enum-known-k
+    enum-known-filled
     same-length
     same-length-2
     returns
     longer-requires
-    array-share-prefix-us
+    array-share-prefix-to-trues
     slice-aggregate-copy-masks
     copy-masks-requires
-    array-share-prefix-gs
+    array-share-prefix-to-falses
     slice-aggregate-copy-masks-2
     copy-masks-requires-2
     enum-told

@@ -18,12 +18,12 @@ use Rattle.table.proofs.starts.grow_all.Statement.{statement}
 use Rattle.table.proofs.starts.grow_all.Tie as tie
 
 abbrev Inv-loop : tie.InvT-loop
-Inv-loop exclusive clauses count trues₀ falses₀ m sum₀ i₀ trues falses sum i =
-    (i ≤ count)
-    × Sections (growAll 128 (map (clauseOf exclusive) (clausesAt count clauses)) (entriesOf m trues₀ falses₀)) (map (clauseOf exclusive) (drop i (clausesAt count clauses))) sum trues falses
+Inv-loop exclusive clauses size trues₀ falses₀ count filled₀ i₀ trues falses filled i =
+    (i ≤ size)
+    × Sections (growAll 128 (map (clauseOf exclusive) (clausesAt size clauses)) (entriesOf count trues₀ falses₀)) (map (clauseOf exclusive) (drop i (clausesAt size clauses))) filled trues falses
 
 abbrev μ-loop : tie.MeasureT-loop
-μ-loop exclusive clauses count trues₀ falses₀ m sum₀ i₀ trues falses sum i = count - i
+μ-loop exclusive clauses size trues₀ falses₀ count filled₀ i₀ trues falses filled i = size - i
 
 loop-holds : tie.Need-loop-holds Inv-loop μ-loop
 loop-holds c = (omega arith, record { held = c .before .before .before .pre .1; onwards = refl })
@@ -49,10 +49,10 @@ part-grow-end c = omega arith
 grow-requires : tie.Need-grow-requires Inv-loop μ-loop
 grow-requires c κs =
     let s = c .before .before .before .before .before .before .before .before in
-    (clause-fits (s .args .count) (s .args .clauses .now) (c .before .before .before .before .loop .i) (s .pre .0 .0) (s .pre .0 .1) (c .before .before .before .loop-test .taken), c .before .before .before .before .loop .inv .1 .held)
+    (clause-fits (s .args .size) (s .args .clauses .now) (c .before .before .before .before .loop .i) (s .pre .0) (c .before .before .before .loop-test .taken), c .before .before .before .before .loop .inv .1 .held)
 
-enum-known-k : tie.Need-enum-known-k Inv-loop μ-loop
-enum-known-k c = search needs
+enum-known-grown : tie.Need-enum-known-grown Inv-loop μ-loop
+enum-known-grown c = search needs
 
 enum-known-number : tie.Need-enum-known-number Inv-loop μ-loop
 enum-known-number c = search needs
@@ -66,7 +66,7 @@ same-length-2 c = c .before .before .before .before .before .before .before .gro
 returns : tie.Need-returns Inv-loop μ-loop
 returns c =
     let s = c .before .before .before .before .before .before .before .before .before .before .before .before .before .before .before .before in
-    let q = ap (map (clauseOf (s .args .exclusive))) (items-step 17 setsIn (s .args .count) (s .args .clauses .now) (c .before .before .before .before .before .before .before .before .before .before .before .before .loop .i) _ (c .before .before .before .before .before .before .before .before .before .before .before .loop-test .taken) (clause-is (s .args .clauses .now) (c .before .before .before .before .before .before .before .before .before .before .before .before .loop .i))) in
+    let q = ap (map (clauseOf (s .args .exclusive))) (items-step 17 setsIn (s .args .size) (s .args .clauses .now) (c .before .before .before .before .before .before .before .before .before .before .before .before .loop .i) _ (c .before .before .before .before .before .before .before .before .before .before .before .loop-test .taken) (clause-is (s .args .clauses .now) (c .before .before .before .before .before .before .before .before .before .before .before .before .loop .i))) in
     sections-refused _ _ _ _ _ _ _ (c .before .before .before .before .before .before .before .before .before .before .before .before .loop .inv .1) q _ _ _ (c .before .before .before .before .before .before .before .grow .ensures) _ (c .before .number .given .1)
 
 add-i : tie.Need-add-i Inv-loop μ-loop
@@ -78,8 +78,8 @@ loop-less c = search needs
 loop-again : tie.Need-loop-again Inv-loop μ-loop
 loop-again c =
     let s = c .before .before .before .before .before .before .before .before .before .before .before .before .before .before .before .before in
-    let q = ap (map (clauseOf (s .args .exclusive))) (items-step 17 setsIn (s .args .count) (s .args .clauses .now) (c .before .before .before .before .before .before .before .before .before .before .before .before .loop .i) _ (c .before .before .before .before .before .before .before .before .before .before .before .loop-test .taken) (clause-is (s .args .clauses .now) (c .before .before .before .before .before .before .before .before .before .before .before .before .loop .i))) in
-    (omega arith, sections-on _ _ _ _ _ _ _ (c .before .before .before .before .before .before .before .before .before .before .before .before .loop .inv .1) q _ _ _ (c .before .before .before .before .before .before .before .grow .ensures) _ (c .before .k .given .1))
+    let q = ap (map (clauseOf (s .args .exclusive))) (items-step 17 setsIn (s .args .size) (s .args .clauses .now) (c .before .before .before .before .before .before .before .before .before .before .before .before .loop .i) _ (c .before .before .before .before .before .before .before .before .before .before .before .loop-test .taken) (clause-is (s .args .clauses .now) (c .before .before .before .before .before .before .before .before .before .before .before .before .loop .i))) in
+    (omega arith, sections-on _ _ _ _ _ _ _ (c .before .before .before .before .before .before .before .before .before .before .before .before .loop .inv .1) q _ _ _ (c .before .before .before .before .before .before .before .grow .ensures) _ (c .before .grown .given .1))
 
 same-length-3 : tie.Need-same-length-3 Inv-loop μ-loop
 same-length-3 c = holds-trues-long _ _ _ _ _ (c .before .loop .inv .1 .held) ∙ sym (holds-trues-long _ _ _ _ _ (c .before .before .before .before .before .pre .1))
@@ -90,7 +90,7 @@ same-length-4 c = holds-falses-long _ _ _ _ _ (c .before .loop .inv .1 .held) �
 returns-2 : tie.Need-returns-2 Inv-loop μ-loop
 returns-2 c =
     let s = c .before .before .before .before .before in
-    sections-end _ _ _ _ _ (c .before .loop .inv .1) (ap (map (clauseOf (s .args .exclusive))) (items-end 17 setsIn (s .args .count) (s .args .clauses .now) (c .before .loop .i) (c .loop-test .left)))
+    sections-end _ _ _ _ _ (c .before .loop .inv .1) (ap (map (clauseOf (s .args .exclusive))) (items-end 17 setsIn (s .args .size) (s .args .clauses .now) (c .before .loop .i) (c .loop-test .left)))
 
 pub grow-all-spec : {M : Type 1} → statement M
 grow-all-spec =
@@ -106,7 +106,7 @@ grow-all-spec =
     part-grow-start
     part-grow-end
     grow-requires
-    enum-known-k
+    enum-known-grown
     enum-known-number
     same-length
     same-length-2

@@ -12,10 +12,10 @@ use Rattle.table.proofs.starts.lay_others.Statement.{statement}
 use Rattle.table.proofs.starts.lay_others.Tie as tie
 
 abbrev Inv-loop : tie.InvT-loop
-Inv-loop alts i row₀ count k₀ j₀ row k j = (j ≤ count) × (length row ≡ 16) × Laying (setsIn alts) i j k row
+Inv-loop alts i row₀ size filled₀ j₀ row filled j = (j ≤ size) × (length row ≡ 16) × Laying (setsIn alts) i j filled row
 
 abbrev μ-loop : tie.MeasureT-loop
-μ-loop alts i row₀ count k₀ j₀ row k j = count - j
+μ-loop alts i row₀ size filled₀ j₀ row filled j = size - j
 
 count-of-requires : tie.Need-count-of-requires Inv-loop μ-loop
 count-of-requires c κs = search needs
@@ -47,8 +47,8 @@ mul-row-4 c = omega arith
 slice-write-row-2 : tie.Need-slice-write-row-2 Inv-loop μ-loop
 slice-write-row-2 c = simp length-set (omega arith)
 
-add-k : tie.Need-add-k Inv-loop μ-loop
-add-k c = omega arith
+add-filled : tie.Need-add-filled Inv-loop μ-loop
+add-filled c = omega arith
 
 add-j : tie.Need-add-j Inv-loop μ-loop
 add-j c = omega arith
@@ -89,7 +89,7 @@ lay-others-spec =
     add-row
     mul-row-4
     slice-write-row-2
-    add-k
+    add-filled
     add-j
     loop-less
     loop-again

@@ -1,4 +1,4 @@
--- `first::refuse` meets its contract. Assumes nothing.
+-- `table::starts::refuse_start` meets its contract. Assumes nothing.
 use mathlib.Core.Path.{refl}
 use Rattle.sheet.specs.Lists.{pad}
 use Rattle.table.specs.Slots.{tableOf}

@@ -17,34 +17,34 @@ use Rattle.table.proofs.starts.widen_all.Statement.{statement}
 use Rattle.table.proofs.starts.widen_all.Tie as tie
 
 abbrev Inv-loop : tie.InvT-loop
-Inv-loop exclusive alts ts fs m trues₀ falses₀ k sum₀ i₀ trues falses sum i =
-    (i ≤ m)
-    × Going (keep L.consistent (collect (candidates (clauseOf exclusive (setsIn alts))) (entriesOf m ts fs))) k trues₀ falses₀
-    (keep L.consistent (collect (candidates (clauseOf exclusive (setsIn alts))) (drop i (entriesOf m ts fs)))) sum trues falses
+Inv-loop exclusive alts trues falses count to-trues₀ to-falses₀ filled₀ i₀ to-trues to-falses filled i =
+    (i ≤ count)
+    × Going (keep L.consistent (collect (candidates (clauseOf exclusive (setsIn alts))) (entriesOf count trues falses))) 0 to-trues₀ to-falses₀
+    (keep L.consistent (collect (candidates (clauseOf exclusive (setsIn alts))) (drop i (entriesOf count trues falses)))) filled to-trues to-falses
 
 abbrev μ-loop : tie.MeasureT-loop
-μ-loop exclusive alts ts fs m trues₀ falses₀ k sum₀ i₀ trues falses sum i = m - i
+μ-loop exclusive alts trues falses count to-trues₀ to-falses₀ filled₀ i₀ to-trues to-falses filled i = count - i
 
 loop-holds : tie.Need-loop-holds Inv-loop μ-loop
 loop-holds c = (omega arith, going-start _ _ _ _ _ refl (c .before .before .before .before .before .pre .1 .1))
 
-mul-t14 : tie.Need-mul-t14 Inv-loop μ-loop
-mul-t14 c = omega arith
+mul-t13 : tie.Need-mul-t13 Inv-loop μ-loop
+mul-t13 c = omega arith
 
-shared-slice-read-t16 : tie.Need-shared-slice-read-t16 Inv-loop μ-loop
-shared-slice-read-t16 c = omega arith
+shared-slice-read-t15 : tie.Need-shared-slice-read-t15 Inv-loop μ-loop
+shared-slice-read-t15 c = omega arith
 
-mul-t17 : tie.Need-mul-t17 Inv-loop μ-loop
-mul-t17 c = omega arith
+mul-t16 : tie.Need-mul-t16 Inv-loop μ-loop
+mul-t16 c = omega arith
 
-shared-slice-read-t19 : tie.Need-shared-slice-read-t19 Inv-loop μ-loop
-shared-slice-read-t19 c = omega arith
+shared-slice-read-t18 : tie.Need-shared-slice-read-t18 Inv-loop μ-loop
+shared-slice-read-t18 c = omega arith
 
 widen-requires : tie.Need-widen-requires Inv-loop μ-loop
 widen-requires c κs = (c .before .before .before .before .before .before .before .before .before .before .before .pre .0, held-own _ _ _ _ (c .before .before .before .before .before .loop .inv .1 .held))
 
-enum-known-j : tie.Need-enum-known-j Inv-loop μ-loop
-enum-known-j c = search needs
+enum-known-grown : tie.Need-enum-known-grown Inv-loop μ-loop
+enum-known-grown c = search needs
 
 enum-told : tie.Need-enum-told Inv-loop μ-loop
 enum-told c = search needs
@@ -58,10 +58,10 @@ same-length-2 c = c .before .before .before .before .before .before .widen .kept
 returns : tie.Need-returns Inv-loop μ-loop
 returns c =
     let s = c .before .before .before .before .before .before .before .before .before .before .before .before .before .before .before .before .before .before in
-    let es = entriesOf (s .args .m) (s .args .ts .now) (s .args .fs .now) in
+    let es = entriesOf (s .args .count) (s .args .trues .now) (s .args .falses .now) in
     let i = c .before .before .before .before .before .before .before .before .before .before .before .before .loop .i in
-    let lt : i < length es = omega (arith, c .before .before .before .before .before .before .before .before .before .before .before .loop-test .taken, length-entriesOf (s .args .m) (s .args .ts .now) (s .args .fs .now)) in
-    let q = entries-step (candidates (clauseOf (s .args .exclusive) (setsIn (s .args .alts .now)))) es _ i lt (getD-entriesOf (s .args .m) (s .args .ts .now) (s .args .fs .now) i (c .before .before .before .before .before .before .before .before .before .before .before .loop-test .taken)) in
+    let lt : i < length es = omega (arith, c .before .before .before .before .before .before .before .before .before .before .before .loop-test .taken, length-entriesOf (s .args .count) (s .args .trues .now) (s .args .falses .now)) in
+    let q = entries-step (candidates (clauseOf (s .args .exclusive) (setsIn (s .args .alts .now)))) es _ i lt (getD-entriesOf (s .args .count) (s .args .trues .now) (s .args .falses .now) i (c .before .before .before .before .before .before .before .before .before .before .before .loop-test .taken)) in
     going-full _ _ _ _ _ _ _ _ _ _ _ _ _ (c .before .before .before .before .before .before .before .before .before .before .before .before .loop .inv .1) q (c .before .before .before .before .before .before .widen .ensures) (c .enum-told .given .1)
 
 add-i : tie.Need-add-i Inv-loop μ-loop
@@ -73,12 +73,12 @@ loop-less c = search needs
 loop-again : tie.Need-loop-again Inv-loop μ-loop
 loop-again c =
     let s = c .before .before .before .before .before .before .before .before .before .before .before .before .before .before .before .before .before .before .before in
-    let es = entriesOf (s .args .m) (s .args .ts .now) (s .args .fs .now) in
+    let es = entriesOf (s .args .count) (s .args .trues .now) (s .args .falses .now) in
     let i = c .before .before .before .before .before .before .before .before .before .before .before .before .before .loop .i in
-    let lt : i < length es = omega (arith, c .before .before .before .before .before .before .before .before .before .before .before .before .loop-test .taken, length-entriesOf (s .args .m) (s .args .ts .now) (s .args .fs .now)) in
-    let q = entries-step (candidates (clauseOf (s .args .exclusive) (setsIn (s .args .alts .now)))) es _ i lt (getD-entriesOf (s .args .m) (s .args .ts .now) (s .args .fs .now) i (c .before .before .before .before .before .before .before .before .before .before .before .before .loop-test .taken)) in
-    let le : i + 1 ≤ s .args .m = omega arith in
-    (le, going-on _ _ _ _ _ _ _ _ _ _ _ _ _ (c .before .before .before .before .before .before .before .before .before .before .before .before .before .loop .inv .1) q (c .before .before .before .before .before .before .before .widen .ensures) _ (c .before .j .given .1))
+    let lt : i < length es = omega (arith, c .before .before .before .before .before .before .before .before .before .before .before .before .loop-test .taken, length-entriesOf (s .args .count) (s .args .trues .now) (s .args .falses .now)) in
+    let q = entries-step (candidates (clauseOf (s .args .exclusive) (setsIn (s .args .alts .now)))) es _ i lt (getD-entriesOf (s .args .count) (s .args .trues .now) (s .args .falses .now) i (c .before .before .before .before .before .before .before .before .before .before .before .before .loop-test .taken)) in
+    let le : i + 1 ≤ s .args .count = omega arith in
+    (le, going-on _ _ _ _ _ _ _ _ _ _ _ _ _ (c .before .before .before .before .before .before .before .before .before .before .before .before .before .loop .inv .1) q (c .before .before .before .before .before .before .before .widen .ensures) _ (c .before .grown .given .1))
 
 same-length-3 : tie.Need-same-length-3 Inv-loop μ-loop
 same-length-3 c = holds-trues-long _ _ _ _ _ (c .before .loop .inv .1 .held)
@@ -89,8 +89,8 @@ same-length-4 c = holds-falses-long _ _ _ _ _ (c .before .loop .inv .1 .held) �
 returns-2 : tie.Need-returns-2 Inv-loop μ-loop
 returns-2 c =
     let s = c .before .before .before .before .before .before .before in
-    let es = entriesOf (s .args .m) (s .args .ts .now) (s .args .fs .now) in
-    going-end _ _ _ _ _ _ _ _ (c .before .loop .inv .1) (entries-end _ es (c .before .loop .i) (omega (arith, c .loop-test .left, length-entriesOf (s .args .m) (s .args .ts .now) (s .args .fs .now))))
+    let es = entriesOf (s .args .count) (s .args .trues .now) (s .args .falses .now) in
+    going-end _ _ _ _ _ _ _ _ (c .before .loop .inv .1) (entries-end _ es (c .before .loop .i) (omega (arith, c .loop-test .left, length-entriesOf (s .args .count) (s .args .trues .now) (s .args .falses .now))))
 
 pub widen-all-spec : {M : Type 1} → statement M
 widen-all-spec =
@@ -99,12 +99,12 @@ widen-all-spec =
     Inv-loop
     μ-loop
     loop-holds
-    mul-t14
-    shared-slice-read-t16
-    mul-t17
-    shared-slice-read-t19
+    mul-t13
+    shared-slice-read-t15
+    mul-t16
+    shared-slice-read-t18
     widen-requires
-    enum-known-j
+    enum-known-grown
     enum-told
     same-length
     same-length-2

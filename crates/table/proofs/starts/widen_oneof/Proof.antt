@@ -15,12 +15,12 @@ use Rattle.table.proofs.starts.widen_oneof.Statement.{statement}
 use Rattle.table.proofs.starts.widen_oneof.Tie as tie
 
 abbrev Inv-loop : tie.InvT-loop
-Inv-loop alts entry trues₀ falses₀ k count sum₀ i₀ trues falses sum i =
-    (i ≤ count)
-    × Going (keep L.consistent (candidates (oneOf (setsIn alts)) entry)) k trues₀ falses₀ (keep L.consistent (waysFrom (setsIn alts) entry i)) sum trues falses
+Inv-loop alts entry to-trues₀ to-falses₀ count size filled₀ i₀ to-trues to-falses filled i =
+    (i ≤ size)
+    × Going (keep L.consistent (candidates (oneOf (setsIn alts)) entry)) count to-trues₀ to-falses₀ (keep L.consistent (waysFrom (setsIn alts) entry i)) filled to-trues to-falses
 
 abbrev μ-loop : tie.MeasureT-loop
-μ-loop alts entry trues₀ falses₀ k count sum₀ i₀ trues falses sum i = count - i
+μ-loop alts entry to-trues₀ to-falses₀ count size filled₀ i₀ to-trues to-falses filled i = size - i
 
 count-of-requires : tie.Need-count-of-requires Inv-loop μ-loop
 count-of-requires c κs = search needs
@@ -31,8 +31,8 @@ loop-holds c = (omega arith, going-start _ _ _ _ _ (ways-start _ _) (c .before .
 widen-one-requires : tie.Need-widen-one-requires Inv-loop μ-loop
 widen-one-requires c κs = ((c .before .before .before .before .before .before .before .before .pre .0, omega arith), held-own _ _ _ _ (c .before .before .before .loop .inv .1 .held))
 
-enum-known-m : tie.Need-enum-known-m Inv-loop μ-loop
-enum-known-m c = search needs
+enum-known-grown : tie.Need-enum-known-grown Inv-loop μ-loop
+enum-known-grown c = search needs
 
 enum-told : tie.Need-enum-told Inv-loop μ-loop
 enum-told c = search needs
@@ -53,7 +53,7 @@ loop-less : tie.Need-loop-less Inv-loop μ-loop
 loop-less c = search needs
 
 loop-again : tie.Need-loop-again Inv-loop μ-loop
-loop-again c = (omega arith, going-on _ _ _ _ _ _ _ _ _ _ _ _ _ (c .before .before .before .before .before .before .before .before .before .before .before .loop .inv .1) (ways-step _ _ _ (omega (arith, length-alts (c .before .before .before .before .before .before .before .before .before .before .before .before .before .before .before .before .args .alts .now)))) (c .before .before .before .before .before .before .before .widen-one .ensures) _ (c .before .m .given .1))
+loop-again c = (omega arith, going-on _ _ _ _ _ _ _ _ _ _ _ _ _ (c .before .before .before .before .before .before .before .before .before .before .before .loop .inv .1) (ways-step _ _ _ (omega (arith, length-alts (c .before .before .before .before .before .before .before .before .before .before .before .before .before .before .before .before .args .alts .now)))) (c .before .before .before .before .before .before .before .widen-one .ensures) _ (c .before .grown .given .1))
 
 same-length-3 : tie.Need-same-length-3 Inv-loop μ-loop
 same-length-3 c = holds-trues-long _ _ _ _ _ (c .before .loop .inv .1 .held)
@@ -73,7 +73,7 @@ widen-oneof-spec =
     count-of-requires
     loop-holds
     widen-one-requires
-    enum-known-m
+    enum-known-grown
     enum-told
     same-length
     same-length-2

@@ -16,13 +16,13 @@ use Rattle.table.proofs.starts.widen_or.Statement.{statement}
 use Rattle.table.proofs.starts.widen_or.Tie as tie
 
 abbrev Inv-loop : tie.InvT-loop
-Inv-loop alts entry trues₀ falses₀ k count sum₀ i₀ trues falses sum i =
-    (i ≤ count)
-    × Going (keep L.consistent (map (λ a. L.join entry a) (setsIn alts))) k trues₀ falses₀
-    (keep L.consistent (map (λ a. L.join entry a) (drop i (setsIn alts)))) sum trues falses
+Inv-loop alts entry to-trues₀ to-falses₀ count size filled₀ i₀ to-trues to-falses filled i =
+    (i ≤ size)
+    × Going (keep L.consistent (map (λ a. L.join entry a) (setsIn alts))) count to-trues₀ to-falses₀
+    (keep L.consistent (map (λ a. L.join entry a) (drop i (setsIn alts)))) filled to-trues to-falses
 
 abbrev μ-loop : tie.MeasureT-loop
-μ-loop alts entry trues₀ falses₀ k count sum₀ i₀ trues falses sum i = count - i
+μ-loop alts entry to-trues₀ to-falses₀ count size filled₀ i₀ to-trues to-falses filled i = size - i
 
 count-of-requires : tie.Need-count-of-requires Inv-loop μ-loop
 count-of-requires c κs = search needs
@@ -39,8 +39,8 @@ join-requires c κs = search needs
 admit-requires : tie.Need-admit-requires Inv-loop μ-loop
 admit-requires c κs = held-own _ _ _ _ (c .before .before .before .before .before .loop .inv .1 .held)
 
-enum-known-m : tie.Need-enum-known-m Inv-loop μ-loop
-enum-known-m c = search needs
+enum-known-grown : tie.Need-enum-known-grown Inv-loop μ-loop
+enum-known-grown c = search needs
 
 enum-told : tie.Need-enum-told Inv-loop μ-loop
 enum-told c = search needs
@@ -66,7 +66,7 @@ loop-again : tie.Need-loop-again Inv-loop μ-loop
 loop-again c = (
   omega arith,
   going-on _ _ _ _ _ _ _ _ _ _ _ _ _ (c .before .before .before .before .before .before .before .before .before .before .before .before .before .loop .inv .1)
-      (or-step _ _ _ _ _ (alts-step _ _ _ (c .before .before .before .before .before .before .before .before .before .before .before .before .before .before .count-of .ensures) _ (c .before .before .before .before .before .before .before .before .before .before .before .before .loop-test .taken) (c .before .before .before .before .before .before .before .before .before .before .before .set-at .ensures)) (c .before .before .before .before .before .before .before .before .join .ensures)) (c .before .before .before .before .before .before .before .admit .ensures) _ (c .before .m .given .1),
+      (or-step _ _ _ _ _ (alts-step _ _ _ (c .before .before .before .before .before .before .before .before .before .before .before .before .before .before .count-of .ensures) _ (c .before .before .before .before .before .before .before .before .before .before .before .before .loop-test .taken) (c .before .before .before .before .before .before .before .before .before .before .before .set-at .ensures)) (c .before .before .before .before .before .before .before .before .join .ensures)) (c .before .before .before .before .before .before .before .admit .ensures) _ (c .before .grown .given .1),
 )
 
 same-length-3 : tie.Need-same-length-3 Inv-loop μ-loop
@@ -89,7 +89,7 @@ widen-or-spec =
     set-at-requires
     join-requires
     admit-requires
-    enum-known-m
+    enum-known-grown
     enum-told
     same-length
     same-length-2

@@ -1,10 +1,10 @@
--- `first::admit` meets its contract. Assumes nothing.
+-- `table::slots::admit` meets its contract. Assumes nothing.
 use mathlib.Core.Path.{sym, _∙_}
 use borrow.Author.Needs.{needs}
 use Rattle.table.proofs.Growing.{nothing-put, puts-is}
 use Rattle.table.proofs.Choosing.{kept-one, left-out}
-use Rattle.table.proofs.starts.admit.Statement.{statement}
-use Rattle.table.proofs.starts.admit.Tie as tie
+use Rattle.table.proofs.slots.admit.Statement.{statement}
+use Rattle.table.proofs.slots.admit.Tie as tie
 
 consistent-requires : tie.Need-consistent-requires
 consistent-requires c κs = search needs
