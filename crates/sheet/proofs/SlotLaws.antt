@@ -17,7 +17,7 @@ use Rattle.sheet.specs.Lists.{All, pad}
 use Rattle.sheet.specs.Problem.{Facts, Action, Problem, problemOf, Statement}
 use Rattle.sheet.specs.declared.reader.Facts as read
 use Rattle.sheet.specs.Format.{accepted, refused, sheetOf}
-use Rattle.sheet.specs.Decoded.{planOf, planIn, problemIn, statementIn, judgedBy, judgementIn}
+use Rattle.sheet.specs.Decoded.{planOf, planIn, problemIn, statementIn, judgedBy, judgementIn, Filled}
 use Rattle.sheet.specs.Packed.{part, orsIn, oneofsIn, goalIn, movesIn, setsIn, clausesAt, actionFrom, actionsAt}
 use Rattle.sheet.specs.Marks.{refusedBy, factsIn}
 use Rattle.sheet.specs.Calls.{answerOf, judgeOf}
@@ -73,6 +73,11 @@ module _ (d : Decoded) (packed : List ℕ) where
 
       pub accepted-proper : ProperStatement (statementIn (d .sheet) packed)
       accepted-proper = encoded-iff s _ .0 (accepted-iff s _ .0 accepted-says) .0
+
+-- what `decode` gave of an accepted sheet
+pub filled : (d : Decoded) (packed s : List ℕ) → (judgementIn d packed ≡ sheetOf s) × (d .sheet .plan .count ≤ 64) → d .answer ≡ Accepted
+    → length packed ≡ 1409 → Filled (d .sheet) packed
+filled d packed s e a l = record { long = l; plan-most = e .1; proper = accepted-proper d packed s (e .0) a }
 
 -- ---- the sections laid in the packed array, each in its turn
 -- the clauses

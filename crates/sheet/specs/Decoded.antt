@@ -1,6 +1,7 @@
 -- What was read of a sheet, in its slots and its packed array, as a statement, and the judgement that goes with it.
+use mathlib.Core.Path.{_≡_}
 use mathlib.Core.List.{List}
-use Prim.Native.Nat.{ℕ}
+use Prim.Native.Nat.{ℕ, _≤_}
 use lib.ListN.{length, take}
 use Rattle.sheet.specs.declared.Answer.{Answer}
 use Rattle.sheet.specs.declared.Answer.the-variants.{Accepted, Refused}
@@ -10,6 +11,7 @@ use Rattle.sheet.specs.declared.Decoded.{Decoded}
 use Rattle.sheet.specs.Lists.{pad}
 use Rattle.sheet.specs.Problem.{Problem, Statement}
 use Rattle.sheet.specs.Format.{Judgement, accepted, refused}
+use Rattle.sheet.specs.Encoding.{ProperStatement}
 use Rattle.sheet.specs.Packed.{setsIn, clausesAt, actionsAt, orsIn, oneofsIn, goalIn, movesIn}
 
 -- a plan in its slots, those after it 0, and out of them
@@ -41,3 +43,9 @@ judgedBy (Refused number position) x = refused number position
 
 unfoldable pub judgementIn : Decoded → List ℕ → Judgement
 judgementIn d packed = judgedBy (d .answer) (statementIn (d .sheet) packed)
+
+-- a sheet that was read and accepted
+pub record Filled (x : Sheet) (packed : List ℕ) : Type 0 where
+  pub long : length packed ≡ 1409
+  pub plan-most : x .plan .count ≤ 64
+  pub proper : ProperStatement (statementIn x packed)

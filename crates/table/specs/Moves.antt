@@ -5,14 +5,12 @@ use mathlib.Core.List.{List}
 use Prim.Native.Nat.{ℕ, _+_, _≤_}
 use lib.ListN.{length, getD}
 use Rattle.sheet.specs.declared.Literals.{Literals}
-use Rattle.sheet.specs.declared.Sheet.{Sheet}
 use Rattle.sheet.specs.declared.Answer.{Answer}
 use Rattle.sheet.specs.declared.Answer.the-variants.{Accepted, Refused}
 use Rattle.sheet.specs.Literals.{within, Proper}
 use Rattle.sheet.specs.Lists.{All}
 use Rattle.sheet.specs.Problem.{Action}
-use Rattle.sheet.specs.Encoding.{ProperAction, ProperStatement}
-use Rattle.sheet.specs.Decoded.{statementIn}
+use Rattle.sheet.specs.Encoding.{ProperAction}
 use Rattle.table.specs.declared.Table.{Table}
 use Rattle.table.specs.declared.TableAnswer.{TableAnswer}
 use Rattle.table.specs.declared.Counted.{Counted}
@@ -57,12 +55,3 @@ pub record Fits (a : Action) (t : Table) : Type 0 where
   pub entries-most : t .count ≤ 128
   pub action : ProperAction n a
   pub proper : All (Proper n) (entries t)
-
--- a sheet that was read, with the rows of its or-clauses, its oneof-clauses, its goal and its moves
-pub record Filled (x : Sheet) (ors oneofs goal moves : List ℕ) : Type 0 where
-  pub ors-long : length ors ≡ 136
-  pub oneofs-long : length oneofs ≡ 136
-  pub goal-long : length goal ≡ 17
-  pub moves-long : length moves ≡ 1120
-  pub plan-most : x .plan .count ≤ 64
-  pub proper : ProperStatement (statementIn x ors oneofs goal moves)

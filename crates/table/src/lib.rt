@@ -1,5 +1,6 @@
 // Belief states as tables of entries: the first table of a sheet, the step of a move, and pictures.
 use sheet::Answer;
+use sheet::packed::LENGTH;
 ghost use mathlib.Core.Path.{_≡_};
 ghost use lib.ListN.{length, replicate};
 ghost use Rattle.sheet.specs.Format.{sheetOf};
@@ -45,20 +46,16 @@ pub struct Counted {
 pub fn start(s: &[u8]) -> TableAnswer
     ensures { λ r. ⌜ r ≡ startOf (sheetOf (now (s .entry))) ⌝ }
 {
-    let mut ors = [0u32; 136];
-    let mut oneofs = [0u32; 136];
-    let mut goal = [0u32; 17];
-    let mut moves = [0u32; 1120];
-    let decoded = sheet::decode(s, &mut ors, &mut oneofs, &mut goal, &mut moves);
+    let mut packed = [0u32; LENGTH];
+    let decoded = sheet::decode(s, &mut packed);
     let answer = decoded.answer;
     match answer {
         Answer::Refused(number, position) => starts::refuse_start(number, position),
         Answer::Accepted => {
             let sheet = decoded.sheet;
-            // References to whole arrays: their types have the lengths.
-            let ors = &ors;
-            let oneofs = &oneofs;
-            starts::first_table(sheet, ors, oneofs)
+            // A reference to the whole array: its type has the length.
+            let packed = &packed;
+            starts::first_table(sheet, packed)
         }
     }
 }
@@ -77,11 +74,8 @@ pub fn step_lent<'a, 'b, 'c>(
     requires { ⌜ (now us ≡ replicate 128 0) × (now gs ≡ replicate 128 0) ⌝ }
     ensures { λ r. ⌜ counted (lent k (now (ts .entry)) (now (fs .entry))) r (now (us .exit)) (now (gs .exit)) ≡ stepOf (sheetOf (now (s .entry))) (lent k (now (ts .entry)) (now (fs .entry))) number ⌝ }
 {
-    let mut ors = [0u32; 136];
-    let mut oneofs = [0u32; 136];
-    let mut goal = [0u32; 17];
-    let mut moves = [0u32; 1120];
-    let decoded = sheet::decode(s, &mut ors, &mut oneofs, &mut goal, &mut moves);
+    let mut packed = [0u32; LENGTH];
+    let decoded = sheet::decode(s, &mut packed);
     let answer = decoded.answer;
     match answer {
         Answer::Refused(fault, position) => Counted {
@@ -133,11 +127,8 @@ pub fn picture(s: &[u8], table: Table, buffer: &mut [u8]) -> PictureAnswer
     ensures { λ r. ⌜ r ≡ pictureOf (sheetOf (now (s .entry))) table (length (now (buffer .entry))) ⌝ }
     ensures { λ r. ⌜ now (buffer .exit) ≡ bufferOf (sheetOf (now (s .entry))) table (now (buffer .entry)) ⌝ }
 {
-    let mut ors = [0u32; 136];
-    let mut oneofs = [0u32; 136];
-    let mut goal = [0u32; 17];
-    let mut moves = [0u32; 1120];
-    let decoded = sheet::decode(s, &mut ors, &mut oneofs, &mut goal, &mut moves);
+    let mut packed = [0u32; LENGTH];
+    let decoded = sheet::decode(s, &mut packed);
     let answer = decoded.answer;
     match answer {
         Answer::Refused(number, position) => picture_bytes::refuse_picture(number, position),

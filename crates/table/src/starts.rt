@@ -14,6 +14,9 @@ use sheet::masks::flip;
 use sheet::masks::join;
 use sheet::masks::literal;
 use sheet::masks::next;
+use sheet::packed::GOAL;
+use sheet::packed::ONEOFS;
+use sheet::packed::ORS;
 use sheet::packed::count_of;
 use sheet::packed::set_at;
 use sheet::packed::set_from;
@@ -26,6 +29,7 @@ ghost use Rattle.sheet.specs.declared.Answer.the-variants.{Refused};
 ghost use Rattle.sheet.specs.Literals as L;
 ghost use Rattle.sheet.specs.Lists.{keep, collect};
 ghost use Rattle.sheet.specs.Packed as R;
+ghost use Rattle.sheet.specs.Decoded.{problemIn, Filled};
 ghost use Rattle.table.specs.Start as spec;
 ghost use Rattle.table.specs.Slots.{entriesOf, Room, Fresh, Held, Puts, tableOf};
 ghost use Rattle.table.specs.Calls.{orGiven};
@@ -316,47 +320,38 @@ pub(crate) fn grow_all<'a, 'b>(
     Started::To(filled)
 }
 
-// The first table, of the known literals, i or-clauses and j oneof-clauses, into arrays of zeros.
+// The first table of a sheet that was read, into arrays of zeros.
 pub fn first_into<'a, 'b>(
-    known: Literals,
-    ors: &'a [u32],
-    i: usize,
-    oneofs: &'a [u32],
-    j: usize,
+    sheet: Sheet,
+    packed: &'a [u32],
     to_trues: &'b mut [u32],
     to_falses: &'b mut [u32],
 ) -> Started
-    requires { ⌜ ClausesFit i (now ors) ⌝ }
-    requires { ⌜ ClausesFit j (now oneofs) ⌝ }
+    requires { ⌜ Filled sheet (now packed) ⌝ }
     requires { ⌜ Fresh (now «to_trues») (now «to_falses») ⌝ }
-    ensures { λ r. ⌜ startAnswer r (now («to_trues» .exit)) (now («to_falses» .exit)) ≡ orGiven (tableOf []) (spec.growAll 128 (map spec.orOf (R.clausesAt i (now (ors .entry))) ++ map spec.oneOf (R.clausesAt j (now (oneofs .entry)))) (known ∷ [])) ⌝ }
+    ensures { λ r. ⌜ startAnswer r (now («to_trues» .exit)) (now («to_falses» .exit)) ≡ orGiven (tableOf []) (spec.startTable 128 (problemIn sheet (now (packed .entry)))) ⌝ }
 {
+    let known = sheet.known;
     to_trues[0] = known.trues;
     to_falses[0] = known.falses;
-    match grow_all(false, ors, i, to_trues, to_falses, 1) {
-        Started::To(count) => grow_all(true, oneofs, j, to_trues, to_falses, count),
+    let ors = &packed[ORS..ONEOFS];
+    match grow_all(false, ors, sheet.ors, to_trues, to_falses, 1) {
+        Started::To(count) => {
+            let oneofs = &packed[ONEOFS..GOAL];
+            grow_all(true, oneofs, sheet.oneofs, to_trues, to_falses, count)
+        }
         Started::Refused(number) => Started::Refused(number),
     }
 }
 
 // The first table of a sheet that was read.
-pub(crate) fn first_table<'a>(sheet: Sheet, ors: &'a [u32], oneofs: &'a [u32]) -> TableAnswer
-    requires { ⌜ ClausesFit (sheet .ors) (now ors) ⌝ }
-    requires { ⌜ ClausesFit (sheet .oneofs) (now oneofs) ⌝ }
-    ensures { λ r. ⌜ r ≡ orGiven (tableOf []) (spec.growAll 128 (map spec.orOf (R.clausesAt (sheet .ors) (now (ors .entry))) ++ map spec.oneOf (R.clausesAt (sheet .oneofs) (now (oneofs .entry)))) (sheet .known ∷ [])) ⌝ }
+pub(crate) fn first_table(sheet: Sheet, packed: &[u32]) -> TableAnswer
+    requires { ⌜ Filled sheet (now packed) ⌝ }
+    ensures { λ r. ⌜ r ≡ orGiven (tableOf []) (spec.startTable 128 (problemIn sheet (now (packed .entry)))) ⌝ }
 {
     let mut trues = [0u32; 128];
     let mut falses = [0u32; 128];
-    let known = sheet.known;
-    match first_into(
-        known,
-        ors,
-        sheet.ors,
-        oneofs,
-        sheet.oneofs,
-        &mut trues,
-        &mut falses,
-    ) {
+    match first_into(sheet, packed, &mut trues, &mut falses) {
         Started::To(count) => TableAnswer {
             answer: Answer::Accepted,
             table: Table {
