@@ -18,14 +18,14 @@ use Rattle.sheet.proofs.ListFacts.{all-at}
 use Rattle.sheet.proofs.SlotLaws.{not-both}
 use Rattle.table.specs.declared.slots.Grown.{Grown}
 use Rattle.table.specs.declared.slots.Grown.the-variants as grown
-use Rattle.table.specs.declared.steps.Stepped.{Stepped}
-use Rattle.table.specs.declared.steps.Stepped.the-variants as stepped
+use Rattle.table.specs.declared.starts.Started.{Started}
+use Rattle.table.specs.declared.starts.Started.the-variants as started
 use Rattle.table.specs.declared.Table.{Table}
 use Rattle.table.specs.declared.TableAnswer.{TableAnswer}
 use Rattle.table.specs.Minimal.{putAll, Outcome, refused, table}
 use Rattle.table.specs.Start.{Clause, candidates, fresh, grow, onTable, growAll}
 use Rattle.table.specs.Slots.{pairs, entriesOf, Holds, Held, tableOf, Grew, Puts}
-use Rattle.table.specs.Moves.{tabled, lent}
+use Rattle.table.specs.Moves.{startAnswer, lent}
 use Rattle.table.specs.Calls.{orGiven, startOf, actionAt}
 use Rattle.table.proofs.Pads.{length-pad, length-entriesOf, holds-trues-long, holds-falses-long, holds-entries, held as held-of}
 use Rattle.table.proofs.PutLaws.{put-all-size}
@@ -38,19 +38,19 @@ at-proper p hp i l = all-at (ProperAction (p .n)) (p .actions) i _ l (hp .action
 -- ---- what is in the arrays
 
 -- what came of it, with the arrays, is the outcome
-abbrev pub Right : Outcome → Stepped → List ℕ → List ℕ → Type 0
-Right o r ts fs = tabled (tableOf []) r ts fs ≡ orGiven (tableOf []) o
+abbrev pub Right : Outcome → Started → List ℕ → List ℕ → Type 0
+Right o r ts fs = startAnswer (tableOf []) r ts fs ≡ orGiven (tableOf []) o
 
 -- the outcome is the table in the arrays
 pub record Readied (o : Outcome) (k : ℕ) (ts fs : List ℕ) : Type 0 where
   pub held : Held 128 k ts fs
   pub is : o ≡ table (entriesOf k ts fs)
 
-pub right-refused : (o : Outcome) (k : ℕ) (ts fs : List ℕ) → o ≡ refused k → Right o (stepped.Refused k) ts fs
+pub right-refused : (o : Outcome) (k : ℕ) (ts fs : List ℕ) → o ≡ refused k → Right o (started.Refused k) ts fs
 unfolding orGiven
 right-refused o k ts fs e = sym (ap (orGiven (tableOf [])) e)
 
-pub right-table : (o : Outcome) (k : ℕ) (ts fs : List ℕ) → Readied o k ts fs → Right o (stepped.To k) ts fs
+pub right-table : (o : Outcome) (k : ℕ) (ts fs : List ℕ) → Readied o k ts fs → Right o (started.To k) ts fs
 unfolding orGiven tableOf
 right-table o k ts fs m =
     let h = m .held in
@@ -61,11 +61,11 @@ right-table o k ts fs m =
 abbrev pub Small : Outcome → Type 0
 Small o = (u : List Literals) → o ≡ table u → length u ≤ 128
 
-pub ready : (o : Outcome) (r : Stepped) (k : ℕ) (ts fs : List ℕ) → Small o → Right o r ts fs → r ≡ stepped.To k → Readied o k ts fs
+pub ready : (o : Outcome) (r : Started) (k : ℕ) (ts fs : List ℕ) → Small o → Right o r ts fs → r ≡ started.To k → Readied o k ts fs
 unfolding orGiven tableOf
-ready o r k ts fs small w e = at o refl (subst (λ (x : Stepped). Right o x ts fs) e w)
+ready o r k ts fs small w e = at o refl (subst (λ (x : Started). Right o x ts fs) e w)
   where
-    at : (x : Outcome) → o ≡ x → Right x (stepped.To k) ts fs → Readied o k ts fs
+    at : (x : Outcome) → o ≡ x → Right x (started.To k) ts fs → Readied o k ts fs
     at (refused j) q v = not-both Accepted j 0 refl (ap (λ (y : TableAnswer). y .answer) v)
     at (table u) q v =
         let t : lent k ts fs ≡ tableOf u = ap (λ (y : TableAnswer). y .table) v in
@@ -79,12 +79,12 @@ ready o r k ts fs small w e = at o refl (subst (λ (x : Stepped). Right o x ts f
         record { held = held-of _ _ _ _ _ h; is = q ∙ sym (ap table (holds-entries _ _ _ _ _ h)) }
 
 -- a refusal stays
-pub refusal : (o : Outcome) (r : Stepped) (k : ℕ) (ts fs : List ℕ) (f : List Literals → Outcome) → Right o r ts fs → r ≡ stepped.Refused k
-    → Right (onTable o f) (stepped.Refused k) ts fs
+pub refusal : (o : Outcome) (r : Started) (k : ℕ) (ts fs : List ℕ) (f : List Literals → Outcome) → Right o r ts fs → r ≡ started.Refused k
+    → Right (onTable o f) (started.Refused k) ts fs
 unfolding orGiven
-refusal o r k ts fs f w e = at o (subst (λ (x : Stepped). Right o x ts fs) e w)
+refusal o r k ts fs f w e = at o (subst (λ (x : Started). Right o x ts fs) e w)
   where
-    at : (x : Outcome) → Right x (stepped.Refused k) ts fs → Right (onTable x f) (stepped.Refused k) ts fs
+    at : (x : Outcome) → Right x (started.Refused k) ts fs → Right (onTable x f) (started.Refused k) ts fs
     at (refused j) v = v
     at (table u) v = not-both (Refused k 0) k 0 (ap (λ (y : TableAnswer). y .answer) v) refl
 
@@ -167,7 +167,7 @@ module _ (c : Clause) (es : List Literals) (r : Grown) (ts fs : List ℕ) (w : P
 
     -- copied over the table that it is built from
     pub grown-copied : (k ≡ 0 → ⊥) → (m : ℕ) (ts₀ fs₀ : List ℕ) → Held 128 m ts₀ fs₀ → (top : ℕ) → (m ≤ top) × (k ≤ top) × (top ≤ 128) → (us gs : List ℕ)
-        → us ≡ paste ts₀ 0 (take top ts) (length (take top ts)) → gs ≡ paste fs₀ 0 (take top fs) (length (take top fs)) → Right (grow 128 c es) (stepped.To k) us gs
+        → us ≡ paste ts₀ 0 (take top ts) (length (take top ts)) → gs ≡ paste fs₀ 0 (take top fs) (length (take top fs)) → Right (grow 128 c es) (started.To k) us gs
     grown-copied z m ts₀ fs₀ g top l us gs p q =
         let w = grown-table z in
         let a = p ∙ trues-over top (l .2) m ts₀ fs₀ g k ts fs (w .held) (l .0) (l .1) in
@@ -180,20 +180,20 @@ pub record Sections (o : Outcome) (cs : List Clause) (k : ℕ) (ts fs : List ℕ
   pub held : Held 128 k ts fs
   pub onwards : growAll 128 cs (entriesOf k ts fs) ≡ o
 
-module _ (o : Outcome) (bs cs : List Clause) (c : Clause) (n : ℕ) (us gs : List ℕ) (g : Sections o bs n us gs) (is : bs ≡ c ∷ cs) (r : Stepped) (ts fs : List ℕ)
+module _ (o : Outcome) (bs cs : List Clause) (c : Clause) (n : ℕ) (us gs : List ℕ) (g : Sections o bs n us gs) (is : bs ≡ c ∷ cs) (r : Started) (ts fs : List ℕ)
     (w : Right (grow 128 c (entriesOf n us gs)) r ts fs) (k : ℕ) where
   unrolled : onTable (grow 128 c (entriesOf n us gs)) (λ u. growAll 128 cs u) ≡ o
   unrolled = sym (ap (λ (x : List Clause). growAll 128 x (entriesOf n us gs)) is) ∙ g .onwards
 
-  pub sections-on : r ≡ stepped.To k → Sections o cs k ts fs
+  pub sections-on : r ≡ started.To k → Sections o cs k ts fs
   sections-on e =
       let m = ready _ r k ts fs (grow-small c (entriesOf n us gs)) w e in
       record { held = m .held; onwards = sym (ap (λ (x : Outcome). onTable x (λ u. growAll 128 cs u)) (m .is)) ∙ unrolled }
 
-  pub sections-refused : r ≡ stepped.Refused k → Right o (stepped.Refused k) ts fs
-  sections-refused e = subst (λ (x : Outcome). Right x (stepped.Refused k) ts fs) unrolled (refusal _ r k ts fs (λ u. growAll 128 cs u) w e)
+  pub sections-refused : r ≡ started.Refused k → Right o (started.Refused k) ts fs
+  sections-refused e = subst (λ (x : Outcome). Right x (started.Refused k) ts fs) unrolled (refusal _ r k ts fs (λ u. growAll 128 cs u) w e)
 
-pub sections-end : (o : Outcome) (cs : List Clause) (k : ℕ) (ts fs : List ℕ) → Sections o cs k ts fs → cs ≡ [] → Right o (stepped.To k) ts fs
+pub sections-end : (o : Outcome) (cs : List Clause) (k : ℕ) (ts fs : List ℕ) → Sections o cs k ts fs → cs ≡ [] → Right o (started.To k) ts fs
 sections-end o cs k ts fs g e =
     right-table o k ts fs (record { held = g .held; is = sym (g .onwards) ∙ ap (λ (x : List Clause). growAll 128 x (entriesOf k ts fs)) e })
 
@@ -225,26 +225,26 @@ module _ (known : Literals) (ts fs : List ℕ) (p : ts ≡ replicate 128 0) (q :
   pub first-held : Held 128 1 (set ts 0 (known .trues)) (set fs 0 (known .falses))
   first-held = held-of _ _ _ _ _ one
 
-  module _ (cs ds : List Clause) (r : Stepped) (us gs : List ℕ) (w : Right (growAll 128 cs (entriesOf 1 (set ts 0 (known .trues)) (set fs 0 (known .falses)))) r us gs) (k : ℕ) where
+  module _ (cs ds : List Clause) (r : Started) (us gs : List ℕ) (w : Right (growAll 128 cs (entriesOf 1 (set ts 0 (known .trues)) (set fs 0 (known .falses)))) r us gs) (k : ℕ) where
     whole : onTable (growAll 128 cs (entriesOf 1 (set ts 0 (known .trues)) (set fs 0 (known .falses)))) (λ u. growAll 128 ds u) ≡ growAll 128 (cs ++ ds) (known ∷ [])
     whole = ap (λ (y : List Literals). onTable (growAll 128 cs y) (λ u. growAll 128 ds u)) (holds-entries _ _ _ _ _ one) ∙ sym (growAll-append cs ds (known ∷ []))
 
-    pub first-refused : r ≡ stepped.Refused k → Right (growAll 128 (cs ++ ds) (known ∷ [])) (stepped.Refused k) us gs
-    first-refused e = subst (λ (y : Outcome). Right y (stepped.Refused k) us gs) whole (refusal _ r k us gs (λ u. growAll 128 ds u) w e)
+    pub first-refused : r ≡ started.Refused k → Right (growAll 128 (cs ++ ds) (known ∷ [])) (started.Refused k) us gs
+    first-refused e = subst (λ (y : Outcome). Right y (started.Refused k) us gs) whole (refusal _ r k us gs (λ u. growAll 128 ds u) w e)
 
-    first-ready : r ≡ stepped.To k → Readied (growAll 128 cs (entriesOf 1 (set ts 0 (known .trues)) (set fs 0 (known .falses)))) k us gs
+    first-ready : r ≡ started.To k → Readied (growAll 128 cs (entriesOf 1 (set ts 0 (known .trues)) (set fs 0 (known .falses)))) k us gs
     first-ready e = ready _ r k us gs (growAll-small cs _ (omega (arith, length-entriesOf 1 (set ts 0 (known .trues)) (set fs 0 (known .falses))))) w e
 
-    pub first-grown : r ≡ stepped.To k → Held 128 k us gs
+    pub first-grown : r ≡ started.To k → Held 128 k us gs
     first-grown e = first-ready e .held
 
-    pub first-on : r ≡ stepped.To k → growAll 128 ds (entriesOf k us gs) ≡ growAll 128 (cs ++ ds) (known ∷ [])
+    pub first-on : r ≡ started.To k → growAll 128 ds (entriesOf k us gs) ≡ growAll 128 (cs ++ ds) (known ∷ [])
     first-on e = sym (ap (λ (y : Outcome). onTable y (λ u. growAll 128 ds u)) (first-ready e .is)) ∙ whole
 
 -- ---- the first table by value, and the call on bytes
-pub first-given : (o : Outcome) (r : Stepped) (ts fs : List ℕ) → Right o r ts fs → (k : ℕ) → r ≡ stepped.To k
+pub first-given : (o : Outcome) (r : Started) (ts fs : List ℕ) → Right o r ts fs → (k : ℕ) → r ≡ started.To k
     → record { answer = Accepted; table = record { count = k; trues = ts; falses = fs } } ≡ orGiven (tableOf []) o
-first-given o r ts fs e k q = sym (ap (λ (x : Stepped). tabled (tableOf []) x ts fs) q) ∙ e
+first-given o r ts fs e k q = sym (ap (λ (x : Started). startAnswer (tableOf []) x ts fs) q) ∙ e
 
 -- no table
 abbrev pub NoTable : TableAnswer → ℕ → ℕ → Type 0
@@ -253,8 +253,8 @@ NoTable d k p = (d .answer ≡ Refused k p) × (d .table ≡ tableOf [])
 none-is : (d : TableAnswer) (k p : ℕ) → NoTable d k p → d ≡ record { answer = Refused k p; table = tableOf [] }
 none-is d k p h = λ j. record { answer = h .0 j; table = h .1 j }
 
-pub first-none : (o : Outcome) (r : Stepped) (ts fs : List ℕ) → Right o r ts fs → (k : ℕ) → r ≡ stepped.Refused k → (d : TableAnswer) → NoTable d k 0 → d ≡ orGiven (tableOf []) o
-first-none o r ts fs e k q d h = none-is d k 0 h ∙ sym (ap (λ (x : Stepped). tabled (tableOf []) x ts fs) q) ∙ e
+pub first-none : (o : Outcome) (r : Started) (ts fs : List ℕ) → Right o r ts fs → (k : ℕ) → r ≡ started.Refused k → (d : TableAnswer) → NoTable d k 0 → d ≡ orGiven (tableOf []) o
+first-none o r ts fs e k q d h = none-is d k 0 h ∙ sym (ap (λ (x : Started). startAnswer (tableOf []) x ts fs) q) ∙ e
 
 pub start-fault : (s : List ℕ) (k p : ℕ) → sheetOf s ≡ faulty k p → (d : TableAnswer) → NoTable d k p → d ≡ startOf (sheetOf s)
 unfolding startOf

@@ -16,6 +16,8 @@ use Rattle.sheet.specs.Decoded.{statementIn}
 use Rattle.table.specs.declared.Table.{Table}
 use Rattle.table.specs.declared.TableAnswer.{TableAnswer}
 use Rattle.table.specs.declared.Counted.{Counted}
+use Rattle.table.specs.declared.starts.Started.{Started}
+use Rattle.table.specs.declared.starts.Started.the-variants as started
 use Rattle.table.specs.declared.steps.Stepped.{Stepped}
 use Rattle.table.specs.declared.steps.Stepped.the-variants as stepped
 use Rattle.table.specs.Slots.{entries}
@@ -31,6 +33,11 @@ fourWithin ts fs i l = within (slot ts fs i) l || within (slot ts fs (i + 1)) l 
 -- ---- a table in lent arrays
 abbrev pub lent : ℕ → List ℕ → List ℕ → Table
 lent n ts fs = record { count = n; trues = ts; falses = fs }
+
+-- what a start gave, with the arrays that it was put in; refused, the table t
+abbrev pub startAnswer : Table → Started → List ℕ → List ℕ → TableAnswer
+startAnswer t (started.To k) us gs = record { answer = Accepted; table = lent k us gs }
+startAnswer t (started.Refused number) us gs = record { answer = Refused number 0; table = t }
 
 -- what a step of the table t gave, with the arrays that it was put in
 abbrev pub tabled : Table → Stepped → List ℕ → List ℕ → TableAnswer

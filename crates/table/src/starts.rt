@@ -5,7 +5,6 @@ use crate::slots::Grown;
 use crate::slots::copy_masks;
 use crate::slots::offer;
 use crate::slots::offer_by_newest;
-use crate::steps::Stepped;
 use crate::steps::lacking;
 use sheet::Answer;
 use sheet::Literals;
@@ -31,7 +30,13 @@ ghost use Rattle.table.specs.Start as spec;
 ghost use Rattle.table.specs.Slots.{entriesOf, Held, Puts, tableOf};
 ghost use Rattle.table.specs.Calls.{orGiven};
 ghost use Rattle.table.specs.Reads.{clauseOf, others};
-ghost use Rattle.table.specs.Moves.{tabled};
+ghost use Rattle.table.specs.Moves.{startAnswer};
+
+// What the start gave: so many entries in the lent arrays, or the number of a refusal.
+pub enum Started {
+    To(usize),
+    Refused(u8),
+}
 
 // Puts a candidate if it is consistent.
 pub(crate) fn admit(trues: &mut [u32], falses: &mut [u32], k: usize, c: Literals) -> Grown
@@ -264,24 +269,24 @@ pub(crate) fn grow(
     trues: &mut [u32],
     falses: &mut [u32],
     m: usize,
-) -> Stepped
+) -> Started
     requires { ⌜ R.SetsFit (now alts) ⌝ }
     requires { ⌜ Held 128 m (now trues) (now falses) ⌝ }
-    ensures { λ r. ⌜ tabled (tableOf []) r (now (trues .exit)) (now (falses .exit)) ≡ orGiven (tableOf []) (spec.grow 128 (clauseOf exclusive (R.setsIn (now (alts .entry)))) (entriesOf m (now (trues .entry)) (now (falses .entry)))) ⌝ }
+    ensures { λ r. ⌜ startAnswer (tableOf []) r (now (trues .exit)) (now (falses .exit)) ≡ orGiven (tableOf []) (spec.grow 128 (clauseOf exclusive (R.setsIn (now (alts .entry)))) (entriesOf m (now (trues .entry)) (now (falses .entry)))) ⌝ }
 {
     let mut us = [0u32; 128];
     let mut gs = [0u32; 128];
     match widen_all(exclusive, alts, trues, falses, m, &mut us, &mut gs, 0) {
         Grown::To(k) => {
             if k == 0 {
-                return Stepped::Refused(20);
+                return Started::Refused(20);
             }
             let top = longer(m, k);
             copy_masks(trues, 0, &us[..top]);
             copy_masks(falses, 0, &gs[..top]);
-            Stepped::To(k)
+            Started::To(k)
         }
-        Grown::Full => Stepped::Refused(21),
+        Grown::Full => Started::Refused(21),
     }
 }
 
@@ -293,26 +298,26 @@ pub(crate) fn grow_all<'a, 'b>(
     trues: &'b mut [u32],
     falses: &'b mut [u32],
     m: usize,
-) -> Stepped
+) -> Started
     requires { ⌜ (count * 17 ≤ length (now clauses)) × All (λ (c : List Literals). length c ≤ 8) (R.clausesAt count (now clauses)) ⌝ }
     requires { ⌜ Held 128 m (now trues) (now falses) ⌝ }
-    ensures { λ r. ⌜ tabled (tableOf []) r (now (trues .exit)) (now (falses .exit)) ≡ orGiven (tableOf []) (spec.growAll 128 (map (clauseOf exclusive) (R.clausesAt count (now (clauses .entry)))) (entriesOf m (now (trues .entry)) (now (falses .entry)))) ⌝ }
+    ensures { λ r. ⌜ startAnswer (tableOf []) r (now (trues .exit)) (now (falses .exit)) ≡ orGiven (tableOf []) (spec.growAll 128 (map (clauseOf exclusive) (R.clausesAt count (now (clauses .entry)))) (entriesOf m (now (trues .entry)) (now (falses .entry)))) ⌝ }
 {
     let mut sum = m;
     let mut i: usize = 0;
     while i < count {
         let at = i * 17;
         match grow(exclusive, &clauses[at..at + 17], trues, falses, sum) {
-            Stepped::To(k) => {
+            Started::To(k) => {
                 sum = k;
             }
-            Stepped::Refused(number) => {
-                return Stepped::Refused(number);
+            Started::Refused(number) => {
+                return Started::Refused(number);
             }
         }
         i += 1;
     }
-    Stepped::To(sum)
+    Started::To(sum)
 }
 
 // The first table, of the known literals, i or-clauses and j oneof-clauses, into arrays of zeros.
@@ -324,17 +329,17 @@ pub fn first_into<'a, 'b>(
     j: usize,
     trues: &'b mut [u32],
     falses: &'b mut [u32],
-) -> Stepped
+) -> Started
     requires { ⌜ (i * 17 ≤ length (now ors)) × All (λ (c : List Literals). length c ≤ 8) (R.clausesAt i (now ors)) ⌝ }
     requires { ⌜ (j * 17 ≤ length (now oneofs)) × All (λ (c : List Literals). length c ≤ 8) (R.clausesAt j (now oneofs)) ⌝ }
     requires { ⌜ (now trues ≡ replicate 128 0) × (now falses ≡ replicate 128 0) ⌝ }
-    ensures { λ r. ⌜ tabled (tableOf []) r (now (trues .exit)) (now (falses .exit)) ≡ orGiven (tableOf []) (spec.growAll 128 (map spec.orOf (R.clausesAt i (now (ors .entry))) ++ map spec.oneOf (R.clausesAt j (now (oneofs .entry)))) (known ∷ [])) ⌝ }
+    ensures { λ r. ⌜ startAnswer (tableOf []) r (now (trues .exit)) (now (falses .exit)) ≡ orGiven (tableOf []) (spec.growAll 128 (map spec.orOf (R.clausesAt i (now (ors .entry))) ++ map spec.oneOf (R.clausesAt j (now (oneofs .entry)))) (known ∷ [])) ⌝ }
 {
     trues[0] = known.trues;
     falses[0] = known.falses;
     match grow_all(false, ors, i, trues, falses, 1) {
-        Stepped::To(k) => grow_all(true, oneofs, j, trues, falses, k),
-        Stepped::Refused(number) => Stepped::Refused(number),
+        Started::To(k) => grow_all(true, oneofs, j, trues, falses, k),
+        Started::Refused(number) => Started::Refused(number),
     }
 }
 
@@ -356,7 +361,7 @@ pub(crate) fn first_table<'a>(sheet: Sheet, ors: &'a [u32], oneofs: &'a [u32]) -
         &mut trues,
         &mut falses,
     ) {
-        Stepped::To(count) => TableAnswer {
+        Started::To(count) => TableAnswer {
             answer: Answer::Accepted,
             table: Table {
                 count,
@@ -364,6 +369,6 @@ pub(crate) fn first_table<'a>(sheet: Sheet, ors: &'a [u32], oneofs: &'a [u32]) -
                 falses,
             },
         },
-        Stepped::Refused(number) => refuse_start(number, 0),
+        Started::Refused(number) => refuse_start(number, 0),
     }
 }
