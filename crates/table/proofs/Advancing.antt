@@ -6,7 +6,6 @@ use Prim.Native.Nat.{ℕ, _≤_, _<_}
 use lib.Dec.{ltb}
 use lib.ListN.{length, take, drop, replicate}
 use borrow.Author.Tests.{lt-ltb, le-ltb, ltb-true}
-use Rattle.sheet.specs.declared.Answer.{Answer}
 use Rattle.sheet.specs.declared.Answer.the-variants.{Accepted, Refused}
 use Rattle.sheet.specs.declared.Literals.{Literals}
 use Rattle.sheet.specs.declared.Effect.{Effect}
@@ -23,7 +22,6 @@ use Rattle.table.specs.declared.slots.Grown.{Grown}
 use Rattle.table.specs.declared.slots.Grown.the-variants as grown
 use Rattle.table.specs.declared.Table.{Table}
 use Rattle.table.specs.declared.TableAnswer.{TableAnswer}
-use Rattle.table.specs.declared.Counted.{Counted}
 use Rattle.table.specs.Worlds.{results}
 use Rattle.table.specs.Minimal.{described, putAll, Outcome, refused}
 use Rattle.table.specs.Step.{pieces, image, orFull, stepClear, stepSure, stepTable}
@@ -33,7 +31,7 @@ use Rattle.table.specs.Calls.{orGiven, actionAt, stepKnown, stepMove, st
 use Rattle.table.specs.declared.steps.Stepped.{Stepped}
 use Rattle.table.specs.declared.steps.Stepped.the-variants as moved
 use Rattle.sheet.specs.Packed.{setFrom, actionBy, itemAt, countIn, actionFrom, countOf, actionOf, actionsAt}
-use Rattle.table.specs.Moves.{lent, tabled, toldOf, kept, counted, Fits}
+use Rattle.table.specs.Moves.{lent, stepAnswer, Fits}
 use Rattle.table.specs.Carry.{Steady}
 use Rattle.table.proofs.Pads.{length-entriesOf, fresh}
 use Rattle.sheet.proofs.PackedLaws.{items-length, item-at, item-of-all, effects-long}
@@ -128,22 +126,22 @@ module _ (a : Action) (n : ℕ) (ts fs : List ℕ) (h : Fits a (lent n ts fs)) w
     all-map (Proper (h .n)) (λ d. consistent d ≡ true) (proper-consistent (h .n)) (entriesOf n ts fs) (h .proper),
   )
 
-  pub lent-unsure : allOf (λ d. within (a .precondition) d) (entriesOf n ts fs) ≡ false → tabled given (moved.Refused 24) [] [] ≡ due
+  pub lent-unsure : allOf (λ d. within (a .precondition) d) (entriesOf n ts fs) ≡ false → stepAnswer given (moved.Refused 24 0) [] [] ≡ due
   unfolding entries orGiven
   lent-unsure s = sym (ap (orGiven given) (unsure a given h s))
 
   module _ (s : allOf (λ d. within (a .precondition) d) (entriesOf n ts fs) ≡ true) where
-    pub lent-conflicting : anyOf (λ d. contradicts (a .effects) d) (entriesOf n ts fs) ≡ true → tabled given (moved.Refused 25) [] [] ≡ due
+    pub lent-conflicting : anyOf (λ d. contradicts (a .effects) d) (entriesOf n ts fs) ≡ true → stepAnswer given (moved.Refused 25 0) [] [] ≡ due
     unfolding entries orGiven
     lent-conflicting u = sym (ap (orGiven given) (unclear a given h s u))
 
     module _ (u : anyOf (λ d. contradicts (a .effects) d) (entriesOf n ts fs) ≡ false) (us gs : List ℕ) (e : us ≡ replicate 128 0) (f : gs ≡ replicate 128 0)
         (r : Grown) (vs hs : List ℕ) (w : Puts (map (image (a .effects)) (collect (pieces (a .effects)) (entriesOf n ts fs))) 0 us gs r vs hs) where
-      pub lent-full : r ≡ grown.Full → tabled given (moved.Refused 21) vs hs ≡ due
+      pub lent-full : r ≡ grown.Full → stepAnswer given (moved.Refused 21 0) vs hs ≡ due
       unfolding entries orGiven
       lent-full q = sym (ap (orGiven given) (overfull a given h s u r vs hs (fresh-puts us gs e f _ r vs hs w) q))
 
-      pub lent-to : (k : ℕ) → r ≡ grown.To k → tabled given (moved.To k) vs hs ≡ due
+      pub lent-to : (k : ℕ) → r ≡ grown.To k → stepAnswer given (moved.To k) vs hs ≡ due
       unfolding entries
       lent-to k q = stepped a given h s u r vs hs (fresh-puts us gs e f _ r vs hs w) k q
 
@@ -209,19 +207,10 @@ on-sheet x ors oneofs goal moves t m =
     by true e = ap (λ (a : Action). stepMove true (x .n) a t) (sym (item-at 35 actionFrom (x .moves) moves m _ (ltb-true m (x .moves) e)))
     by false e = refl
 
--- a step as the answer of a call
-pub told-is : (t : Table) (r : Stepped) (c : Counted) (us gs : List ℕ) → c ≡ toldOf r → counted t c us gs ≡ tabled t r us gs
-told-is t (moved.To k) c us gs e = ap (λ (x : Counted). counted t x us gs) e
-told-is t (moved.Refused number) c us gs e = ap (λ (x : Counted). counted t x us gs) e
-
 pub call-fault : (s : List ℕ) (t : Table) (i k p : ℕ) → sheetOf s ≡ faulty k p → record { answer = Refused k p; table = t } ≡ stepOf (sheetOf s) t i
 unfolding stepOf
 call-fault s t i k p e = sym (ap (λ (j : Judgement). stepOf j t i) e)
 
--- the call by value: the table given, or the fresh one
-pub step-kept : (t : Table) (c : Counted) (us gs : List ℕ) (d : TableAnswer) (k p : ℕ) → c .answer ≡ Refused k p → counted t c us gs ≡ d → record { answer = c .answer; table = t } ≡ d
-step-kept t c us gs d k p e q = ap (λ (a : Answer). record { answer = c .answer; table = kept a t (lent (c .count) us gs) }) (sym e) ∙ q
-
-pub step-new : (t : Table) (c : Counted) (us gs : List ℕ) (d : TableAnswer) → c .answer ≡ Accepted → counted t c us gs ≡ d
-    → record { answer = c .answer; table = record { count = c .count; trues = us; falses = gs } } ≡ d
-step-new t c us gs d e q = ap (λ (a : Answer). record { answer = c .answer; table = kept a t (lent (c .count) us gs) }) (sym e) ∙ q
+-- the call by value
+pub step-by : (t : Table) (r x : Stepped) (us gs : List ℕ) (d : TableAnswer) → r ≡ x → stepAnswer t r us gs ≡ d → stepAnswer t x us gs ≡ d
+step-by t r x us gs d e q = sym (ap (λ (y : Stepped). stepAnswer t y us gs) e) ∙ q

@@ -1,10 +1,11 @@
 // Belief states as tables of entries: the first table of a sheet, the step of a move, and pictures.
+use crate::steps::Stepped;
 use sheet::Answer;
 ghost use mathlib.Core.Path.{_≡_};
 ghost use lib.ListN.{length, replicate};
 ghost use Rattle.sheet.specs.Format.{sheetOf};
 ghost use Rattle.table.specs.Calls.{startOf, stepOf};
-ghost use Rattle.table.specs.Moves.{lent, counted};
+ghost use Rattle.table.specs.Moves.{lent, stepAnswer};
 ghost use Rattle.table.specs.PictureCalls.{pictureOf, bufferOf};
 
 pub mod effects;
@@ -33,12 +34,6 @@ pub struct TableAnswer {
 pub struct PictureAnswer {
     pub answer: Answer,
     pub clauses: usize,
-}
-
-// What a call on lent arrays gives: the answer, and, if it is accepted, how many entries the arrays have.
-pub struct Counted {
-    pub answer: Answer,
-    pub count: usize,
 }
 
 // The first table of a sheet.
@@ -72,10 +67,10 @@ pub fn step_lent<'a, 'b, 'c>(
     k: usize,
     us: &'c mut [u32],
     gs: &'c mut [u32],
-) -> Counted
+) -> Stepped
     requires { ⌜ (length (now ts) ≡ 128) × (length (now fs) ≡ 128) ⌝ }
     requires { ⌜ (now us ≡ replicate 128 0) × (now gs ≡ replicate 128 0) ⌝ }
-    ensures { λ r. ⌜ counted (lent k (now (ts .entry)) (now (fs .entry))) r (now (us .exit)) (now (gs .exit)) ≡ stepOf (sheetOf (now (s .entry))) (lent k (now (ts .entry)) (now (fs .entry))) number ⌝ }
+    ensures { λ r. ⌜ stepAnswer (lent k (now (ts .entry)) (now (fs .entry))) r (now (us .exit)) (now (gs .exit)) ≡ stepOf (sheetOf (now (s .entry))) (lent k (now (ts .entry)) (now (fs .entry))) number ⌝ }
 {
     let mut ors = [0u32; 136];
     let mut oneofs = [0u32; 136];
@@ -84,16 +79,12 @@ pub fn step_lent<'a, 'b, 'c>(
     let decoded = sheet::decode(s, &mut ors, &mut oneofs, &mut goal, &mut moves);
     let answer = decoded.answer;
     match answer {
-        Answer::Refused(fault, position) => Counted {
-            answer: Answer::Refused(fault, position),
-            count: 0,
-        },
+        Answer::Refused(fault, position) => Stepped::Refused(fault, position),
         Answer::Accepted => {
             let sheet = decoded.sheet;
             // A reference to the whole array: its type has the length.
             let moves = &moves;
-            let moved = steps::step_in(sheet.n, moves, sheet.moves, number, ts, fs, k, us, gs);
-            steps::told(moved)
+            steps::step_in(sheet.n, moves, sheet.moves, number, ts, fs, k, us, gs)
         }
     }
 }
@@ -105,7 +96,7 @@ pub fn step(s: &[u8], table: Table, number: usize) -> TableAnswer
     let count = table.count;
     let mut trues = [0u32; 128];
     let mut falses = [0u32; 128];
-    let stepped = step_lent(
+    match step_lent(
         s,
         number,
         &table.trues,
@@ -113,17 +104,18 @@ pub fn step(s: &[u8], table: Table, number: usize) -> TableAnswer
         count,
         &mut trues,
         &mut falses,
-    );
-    let answer = stepped.answer;
-    match answer {
-        Answer::Refused(_, _) => TableAnswer { answer, table },
-        Answer::Accepted => TableAnswer {
-            answer,
+    ) {
+        Stepped::To(count) => TableAnswer {
+            answer: Answer::Accepted,
             table: Table {
-                count: stepped.count,
+                count,
                 trues,
                 falses,
             },
+        },
+        Stepped::Refused(fault, position) => TableAnswer {
+            answer: Answer::Refused(fault, position),
+            table,
         },
     }
 }

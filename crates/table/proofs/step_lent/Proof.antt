@@ -5,7 +5,7 @@ use Rattle.sheet.specs.Format.{Judgement}
 use Rattle.sheet.proofs.SlotLaws.{refused-says, accepted-says, accepted-proper, n-few, moves-few, moves-proper}
 use Rattle.table.specs.Calls.{stepOf}
 use Rattle.table.specs.Moves.{lent}
-use Rattle.table.proofs.Advancing.{call-fault, on-sheet, told-is}
+use Rattle.table.proofs.Advancing.{call-fault, on-sheet}
 use borrow.Author.Needs.{needs}
 use Rattle.table.proofs.step_lent.Statement.{statement}
 use Rattle.table.proofs.step_lent.Tie as tie
@@ -24,9 +24,6 @@ step-in-requires c κs =
     let h = accepted-proper _ _ _ _ _ _ (c .before .before .before .before .before .before .before .decode .ensures .0) (c .before .before .before .before .before .enum-told .given .1) in
     ((n-few _ _ _ _ _ h .1, omega (arith, moves-few _ _ _ _ _ h .1), moves-proper _ _ _ _ _ h), c .before .before .before .before .before .before .before .before .before .before .before .before .before .before .before .before .before .pre)
 
-told-requires : tie.Need-told-requires
-told-requires c κs = search needs
-
 returns : tie.Need-returns
 returns c = call-fault _ _ _ _ _ (refused-says _ _ _ _ _ _ (c .before .before .before .decode .ensures .0) _ _ (c .before .answer .given .1))
 
@@ -38,13 +35,12 @@ same-length-2 c = search needs
 
 returns-2 : tie.Need-returns-2
 returns-2 c =
-    let z = c .before .before .before .before .before .before .before .before .before .before .before .before .before .before .before .before .before .before .before .before .before .before .before in
+    let z = c .before .before .before .before .before .before .before .before .before .before .before .before .before .before .before .before .before .before .before .before .before .before in
     let t = lent (z .args .k) (z .args .ts .now) (z .args .fs .now) in
-    let d = c .before .before .before .before .before .before .before .before .before .before .before .before .before .decode in
-    told-is t (c .before .before .before .before .before .step-in .result) _ _ _ (c .told .ensures)
-    ∙ c .before .before .before .before .before .step-in .ensures
+    let d = c .before .before .before .before .before .before .before .before .before .before .before .before .decode in
+    c .before .before .before .before .step-in .ensures
     ∙ on-sheet (d .result .sheet) (d .last .1 .0) (d .last .1 .1 .0) (d .last .1 .1 .1 .0) (d .last .1 .1 .1 .1 .0) t (z .args .number)
-    ∙ sym (ap (λ (j : Judgement). stepOf j t (z .args .number)) (accepted-says _ _ _ _ _ _ (d .ensures .0) (c .before .before .before .before .before .before .before .before .before .before .before .enum-told .given .1)))
+    ∙ sym (ap (λ (j : Judgement). stepOf j t (z .args .number)) (accepted-says _ _ _ _ _ _ (d .ensures .0) (c .before .before .before .before .before .before .before .before .before .before .enum-told .given .1)))
 
 pub step-lent-spec : {M : Type 1} → statement M
 step-lent-spec =
@@ -54,7 +50,6 @@ step-lent-spec =
     enum-known-answer
     enum-told
     step-in-requires
-    told-requires
     returns
     same-length
     same-length-2
