@@ -58,47 +58,53 @@ pub fn start(s: &[u8]) -> TableAnswer
     }
 }
 
-// The step of a lent table by the move of a number on a sheet, into arrays of zeros.
+// The step of a lent table by the move of a number on a sheet, into arrays of zeros: a fault of the sheet, 7, 22, then the step.
 pub fn step_lent<'a, 'b, 'c>(
-    s: &'a [u8],
-    number: usize,
-    ts: &'b [u32],
-    fs: &'b [u32],
-    k: usize,
-    us: &'c mut [u32],
-    gs: &'c mut [u32],
+    bytes: &'a [u8],
+    index: usize,
+    trues: &'b [u32],
+    falses: &'b [u32],
+    count: usize,
+    to_trues: &'c mut [u32],
+    to_falses: &'c mut [u32],
 ) -> Stepped
-    requires { ⌜ (length (now ts) ≡ 128) × (length (now fs) ≡ 128) ⌝ }
-    requires { ⌜ (now us ≡ replicate 128 0) × (now gs ≡ replicate 128 0) ⌝ }
-    ensures { λ r. ⌜ stepAnswer (lent k (now (ts .entry)) (now (fs .entry))) r (now (us .exit)) (now (gs .exit)) ≡ stepOf (sheetOf (now (s .entry))) (lent k (now (ts .entry)) (now (fs .entry))) number ⌝ }
+    requires { ⌜ (length (now trues) ≡ 128) × (length (now falses) ≡ 128) ⌝ }
+    requires { ⌜ (now «to_trues» ≡ replicate 128 0) × (now «to_falses» ≡ replicate 128 0) ⌝ }
+    ensures { λ r. ⌜ stepAnswer (lent count (now (trues .entry)) (now (falses .entry))) r (now («to_trues» .exit)) (now («to_falses» .exit)) ≡ stepOf (sheetOf (now (bytes .entry))) (lent count (now (trues .entry)) (now (falses .entry))) index ⌝ }
 {
     let mut ors = [0u32; 136];
     let mut oneofs = [0u32; 136];
     let mut goal = [0u32; 17];
     let mut moves = [0u32; 1120];
-    let decoded = sheet::decode(s, &mut ors, &mut oneofs, &mut goal, &mut moves);
+    let decoded = sheet::decode(bytes, &mut ors, &mut oneofs, &mut goal, &mut moves);
     let answer = decoded.answer;
     match answer {
-        Answer::Refused(fault, position) => Stepped::Refused(fault, position),
+        Answer::Refused(number, position) => Stepped::Refused(number, position),
         Answer::Accepted => {
             let sheet = decoded.sheet;
+            if sheet.moves <= index {
+                return Stepped::Refused(7, 0);
+            }
+            if !tables::described(sheet.n, trues, falses, count) {
+                return Stepped::Refused(22, 0);
+            }
             // A reference to the whole array: its type has the length.
             let moves = &moves;
-            steps::step_in(sheet.n, moves, sheet.moves, number, ts, fs, k, us, gs)
+            steps::step_at(moves, index, trues, falses, count, to_trues, to_falses)
         }
     }
 }
 
 // The step of a table by the move of a number on a sheet.
-pub fn step(s: &[u8], table: Table, number: usize) -> TableAnswer
-    ensures { λ r. ⌜ r ≡ stepOf (sheetOf (now (s .entry))) table number ⌝ }
+pub fn step(bytes: &[u8], table: Table, index: usize) -> TableAnswer
+    ensures { λ r. ⌜ r ≡ stepOf (sheetOf (now (bytes .entry))) table index ⌝ }
 {
     let count = table.count;
     let mut trues = [0u32; 128];
     let mut falses = [0u32; 128];
     match step_lent(
-        s,
-        number,
+        bytes,
+        index,
         &table.trues,
         &table.falses,
         count,
@@ -113,8 +119,8 @@ pub fn step(s: &[u8], table: Table, number: usize) -> TableAnswer
                 falses,
             },
         },
-        Stepped::Refused(fault, position) => TableAnswer {
-            answer: Answer::Refused(fault, position),
+        Stepped::Refused(number, position) => TableAnswer {
+            answer: Answer::Refused(number, position),
             table,
         },
     }

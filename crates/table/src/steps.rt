@@ -2,7 +2,6 @@
 use crate::effects::effect_at;
 use crate::slots;
 use crate::slots::Grown;
-use crate::tables::described;
 use crate::tables::entry_at;
 use sheet::Effect;
 use sheet::Literals;
@@ -16,15 +15,13 @@ ghost use Prim.Native.Nat.{_≤_, _<_, _+_, _*_};
 ghost use lib.ListN.{length, drop, replicate};
 ghost use Rattle.sheet.specs.Literals as L;
 ghost use Rattle.sheet.specs.Lists.{All, anyOf, allOf, collect};
-ghost use lib.Dec.{ltb};
-ghost use Rattle.sheet.specs.Encoding.{ProperAction};
 ghost use Rattle.sheet.specs.Packed as R;
 ghost use Rattle.table.specs.Step as S;
 ghost use Rattle.table.specs.Slots.{entriesOf, Held, Puts, entries};
 ghost use Rattle.table.specs.Pairs as P;
 ghost use Rattle.table.specs.Moves as M;
 ghost use Rattle.table.specs.Carry.{Steady, Carried, Splits, Skips, minus, partAt, carriedAt};
-ghost use Rattle.table.specs.Calls.{orGiven, stepMove};
+ghost use Rattle.table.specs.Calls.{orGiven};
 
 // The precondition lies in every entry (24 if not).
 pub(crate) fn sure<'a>(
@@ -370,30 +367,4 @@ pub fn step_at<'a, 'b, 'c>(
         us,
         gs,
     )
-}
-
-// The step of a lent table by the move of a number among the `count` of a sheet over n propositions: 7, 22, then the step.
-pub(crate) fn step_in<'a, 'b, 'c>(
-    n: usize,
-    moves: &'a [u32],
-    count: usize,
-    number: usize,
-    ts: &'b [u32],
-    fs: &'b [u32],
-    k: usize,
-    us: &'c mut [u32],
-    gs: &'c mut [u32],
-) -> Stepped
-    requires { ⌜ (n ≤ 32) × (count * 35 ≤ length (now moves)) × All (ProperAction n) (R.actionsAt count (now moves)) ⌝ }
-    requires { ⌜ (length (now ts) ≡ 128) × (length (now fs) ≡ 128) ⌝ }
-    requires { ⌜ (now us ≡ replicate 128 0) × (now gs ≡ replicate 128 0) ⌝ }
-    ensures { λ r. ⌜ M.stepAnswer (M.lent k (now (ts .entry)) (now (fs .entry))) r (now (us .exit)) (now (gs .exit)) ≡ stepMove (ltb number count) n (R.actionOf (now (moves .entry)) number) (M.lent k (now (ts .entry)) (now (fs .entry))) ⌝ }
-{
-    if count <= number {
-        return Stepped::Refused(7, 0);
-    }
-    if !described(n, ts, fs, k) {
-        return Stepped::Refused(22, 0);
-    }
-    step_at(moves, number, ts, fs, k, us, gs)
 }

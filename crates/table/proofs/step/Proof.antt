@@ -16,14 +16,14 @@ step-lent-requires c κs = search needs
 enum-known-count : tie.Need-enum-known-count
 enum-known-count c = search needs
 
-enum-known-fault : tie.Need-enum-known-fault
-enum-known-fault c = search needs
+enum-known-number : tie.Need-enum-known-number
+enum-known-number c = search needs
 
 returns : tie.Need-returns
 returns c = step-by (c .before .before .before .before .before .before .before .before .before .before .before .before .before .before .args .t2) _ _ _ _ _ (c .before .count .given .1) (c .before .before .before .before .before .step-lent .ensures)
 
 returns-2 : tie.Need-returns-2
-returns-2 c = step-by (c .before .before .before .before .before .before .before .before .before .before .before .before .before .before .args .t2) _ _ _ _ _ (c .before .fault .given .1) (c .before .before .before .before .before .step-lent .ensures)
+returns-2 c = step-by (c .before .before .before .before .before .before .before .before .before .before .before .before .before .before .args .t2) _ _ _ _ _ (c .before .number .given .1) (c .before .before .before .before .before .step-lent .ensures)
 
 pub step-spec : {M : Type 1} → statement M
 step-spec =
@@ -33,6 +33,6 @@ step-spec =
     slice-aggregate-step-lent-2
     step-lent-requires
     enum-known-count
-    enum-known-fault
+    enum-known-number
     returns
     returns-2)
