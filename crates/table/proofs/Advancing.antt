@@ -2,11 +2,11 @@
 use mathlib.Core.Path.{_≡_, refl, sym, ap, ap₂, _∙_, subst}
 use mathlib.Core.Bool.{Bool, true, false, not, _&&_, _||_}
 use mathlib.Core.List.{List, [], _∷_, _++_, map}
-use Prim.Native.Nat.{ℕ, _≤_, _<_}
+use Prim.Native.Nat.{ℕ, _≤_, _<_, _+_, _*_}
+use native.Mathlib.Omega.{arith}
 use lib.Dec.{ltb}
 use lib.ListN.{length, take, drop, replicate}
 use borrow.Author.Tests.{lt-ltb, le-ltb, ltb-true}
-use Rattle.sheet.specs.declared.Answer.{Answer}
 use Rattle.sheet.specs.declared.Answer.the-variants.{Accepted, Refused}
 use Rattle.sheet.specs.declared.Literals.{Literals}
 use Rattle.sheet.specs.declared.Effect.{Effect}
@@ -14,16 +14,16 @@ use Rattle.sheet.specs.Literals.{consistent, within, Proper}
 use Rattle.sheet.specs.Lists.{All, anyOf, allOf, collect, pad}
 use Rattle.sheet.specs.declared.Sheet.{Sheet}
 use Rattle.sheet.specs.Problem.{Action}
-use Rattle.sheet.specs.Format.{Judgement, accepted, refused as faulty, sheetOf}
-use Rattle.sheet.specs.Decoded.{problemIn, statementIn}
-use Rattle.sheet.specs.Encoding.{ProperEffect, ProperAction}
+use Rattle.sheet.specs.Format.{Judgement, sheetOf}
+use Rattle.sheet.specs.declared.Decoded.{Decoded}
+use Rattle.sheet.specs.Decoded.{problemIn, statementIn, judgementIn}
+use Rattle.sheet.specs.Encoding.{ProperEffect, ProperAction, ProperStatement}
 use Rattle.sheet.proofs.base.ListFacts.{all-map}
 use Rattle.sheet.proofs.LiteralSets.{proper-consistent}
 use Rattle.table.specs.declared.slots.Grown.{Grown}
 use Rattle.table.specs.declared.slots.Grown.the-variants as grown
 use Rattle.table.specs.declared.Table.{Table}
 use Rattle.table.specs.declared.TableAnswer.{TableAnswer}
-use Rattle.table.specs.declared.Counted.{Counted}
 use Rattle.table.specs.Worlds.{results}
 use Rattle.table.specs.Minimal.{described, putAll, Outcome, refused}
 use Rattle.table.specs.Step.{pieces, image, orFull, stepClear, stepSure, stepTable}
@@ -33,10 +33,11 @@ use Rattle.table.specs.Calls.{orGiven, actionAt, stepKnown, stepMove, st
 use Rattle.table.specs.declared.steps.Stepped.{Stepped}
 use Rattle.table.specs.declared.steps.Stepped.the-variants as moved
 use Rattle.sheet.specs.Packed.{setFrom, actionBy, itemAt, countIn, actionFrom, countOf, actionOf, actionsAt}
-use Rattle.table.specs.Moves.{lent, tabled, toldOf, kept, counted, Fits}
+use Rattle.table.specs.Moves.{lent, stepAnswer, Fits}
 use Rattle.table.specs.Carry.{Steady}
 use Rattle.table.proofs.Pads.{length-entriesOf, fresh}
 use Rattle.sheet.proofs.PackedLaws.{items-length, item-at, item-of-all, effects-long}
+use Rattle.sheet.proofs.SlotLaws.{refused-says, accepted-says, accepted-proper, n-few, moves-few, moves-proper}
 use Rattle.table.proofs.PairLaws.{pairs-contradict}
 use Rattle.table.proofs.Describing.{described-iff}
 
@@ -128,22 +129,22 @@ module _ (a : Action) (n : ℕ) (ts fs : List ℕ) (h : Fits a (lent n ts fs)) w
     all-map (Proper (h .n)) (λ d. consistent d ≡ true) (proper-consistent (h .n)) (entriesOf n ts fs) (h .proper),
   )
 
-  pub lent-unsure : allOf (λ d. within (a .precondition) d) (entriesOf n ts fs) ≡ false → tabled given (moved.Refused 24) [] [] ≡ due
+  pub lent-unsure : allOf (λ d. within (a .precondition) d) (entriesOf n ts fs) ≡ false → stepAnswer given (moved.Refused 24 0) [] [] ≡ due
   unfolding entries orGiven
   lent-unsure s = sym (ap (orGiven given) (unsure a given h s))
 
   module _ (s : allOf (λ d. within (a .precondition) d) (entriesOf n ts fs) ≡ true) where
-    pub lent-conflicting : anyOf (λ d. contradicts (a .effects) d) (entriesOf n ts fs) ≡ true → tabled given (moved.Refused 25) [] [] ≡ due
+    pub lent-conflicting : anyOf (λ d. contradicts (a .effects) d) (entriesOf n ts fs) ≡ true → stepAnswer given (moved.Refused 25 0) [] [] ≡ due
     unfolding entries orGiven
     lent-conflicting u = sym (ap (orGiven given) (unclear a given h s u))
 
     module _ (u : anyOf (λ d. contradicts (a .effects) d) (entriesOf n ts fs) ≡ false) (us gs : List ℕ) (e : us ≡ replicate 128 0) (f : gs ≡ replicate 128 0)
         (r : Grown) (vs hs : List ℕ) (w : Puts (map (image (a .effects)) (collect (pieces (a .effects)) (entriesOf n ts fs))) 0 us gs r vs hs) where
-      pub lent-full : r ≡ grown.Full → tabled given (moved.Refused 21) vs hs ≡ due
+      pub lent-full : r ≡ grown.Full → stepAnswer given (moved.Refused 21 0) vs hs ≡ due
       unfolding entries orGiven
       lent-full q = sym (ap (orGiven given) (overfull a given h s u r vs hs (fresh-puts us gs e f _ r vs hs w) q))
 
-      pub lent-to : (k : ℕ) → r ≡ grown.To k → tabled given (moved.To k) vs hs ≡ due
+      pub lent-to : (k : ℕ) → r ≡ grown.To k → stepAnswer given (moved.To k) vs hs ≡ due
       unfolding entries
       lent-to k q = stepped a given h s u r vs hs (fresh-puts us gs e f _ r vs hs w) k q
 
@@ -153,75 +154,73 @@ pub action-is : (moves : List ℕ) (m : ℕ) (row : List ℕ) (p : Literals) (si
 unfolding actionFrom
 action-is moves m row p size r a b = ap₂ (λ (q : Literals) (n : ℕ). actionBy q n (take 32 (drop 3 row))) a b ∙ ap actionFrom r
 
--- the moves of a sheet over n propositions: 7, 22, then the step
-module _ (n : ℕ) (hn : n ≤ 32) (moves : List ℕ) (count : ℕ) (h : All (ProperAction n) (actionsAt count moves)) (t : Table) (i : ℕ) where
-  abbrev it : Action
-  it = actionOf moves i
-
-  abbrev whole : TableAnswer
-  whole = stepMove (ltb i count) n it t
-
-  pub off-sheet : count ≤ i → record { answer = Refused 7 0; table = t } ≡ whole
-  off-sheet k = sym (ap (λ (b : Bool). stepMove b n it t) (le-ltb i count k))
-
-  module _ (lt : i < count) where
-    its-action : ProperAction n it
-    its-action = item-of-all 35 actionFrom (ProperAction n) count moves i lt h
-
-    pub its-count : countOf moves i ≤ 8
-    unfolding actionFrom
-    its-count = subst (λ (k : ℕ). k ≤ 8) (effects-long (countOf moves i) (take 32 (drop 3 (itemAt 35 moves i)))) (its-action .effects .most)
-
-    by-known : (b : Bool) → described 128 n (entries t) ≡ b → stepKnown b it t ≡ whole
-    by-known b d =
-        ap (λ (z : Bool). stepKnown z it t) (sym d)
-        ∙ sym (ap (λ (z : Bool). stepMove z n it t) (lt-ltb i count lt))
-
-    pub undescribed : described 128 n (entries t) ≡ false → record { answer = Refused 22 0; table = t } ≡ whole
-    undescribed d = by-known false d
-
-    module _ (d : described 128 n (entries t) ≡ true) where
-      pub its-fits : Fits it t
-      unfolding entries
-      its-fits =
-          let k = described-iff 128 n (entries t) .0 d in
-          record {
-            n = n;
-            n-most = hn;
-            entries-most = subst (λ (z : ℕ). z ≤ 128) (length-entriesOf (t .count) (t .trues) (t .falses)) (k .most);
-            action = its-action;
-            proper = k .proper;
-          }
-
-      pub known-step : orGiven t (stepTable 128 it (entries t)) ≡ whole
-      known-step = by-known true d
-
 -- ---- the call on bytes
--- the step by a move of a sheet that was read
-pub on-sheet : (x : Sheet) (ors oneofs goal moves : List ℕ) (t : Table) (m : ℕ)
-    → stepMove (ltb m (x .moves)) (x .n) (actionOf moves m) t ≡ stepOf (accepted (statementIn x ors oneofs goal moves)) t m
-unfolding stepOf statementIn problemIn actionAt
-on-sheet x ors oneofs goal moves t m =
-    by (ltb m (x .moves)) refl
-    ∙ ap (λ (k : ℕ). stepMove (ltb m k) (x .n) (actionAt (problemIn x ors oneofs goal moves) m) t) (sym (items-length 35 actionFrom (x .moves) moves))
-  where
-    by : (b : Bool) → ltb m (x .moves) ≡ b → stepMove b (x .n) (actionOf moves m) t ≡ stepMove b (x .n) (actionAt (problemIn x ors oneofs goal moves) m) t
-    by true e = ap (λ (a : Action). stepMove true (x .n) a t) (sym (item-at 35 actionFrom (x .moves) moves m _ (ltb-true m (x .moves) e)))
-    by false e = refl
+module _ (s : List ℕ) (d : Decoded) (ors oneofs goal moves : List ℕ) (e : judgementIn d ors oneofs goal moves ≡ sheetOf s) (t : Table) (i : ℕ) where
+  abbrev whole : TableAnswer
+  whole = stepOf (sheetOf s) t i
 
--- a step as the answer of a call
-pub told-is : (t : Table) (r : Stepped) (c : Counted) (us gs : List ℕ) → c ≡ toldOf r → counted t c us gs ≡ tabled t r us gs
-told-is t (moved.To k) c us gs e = ap (λ (x : Counted). counted t x us gs) e
-told-is t (moved.Refused number) c us gs e = ap (λ (x : Counted). counted t x us gs) e
+  pub call-fault : (k p : ℕ) → d .answer ≡ Refused k p → stepAnswer t (moved.Refused k p) [] [] ≡ whole
+  unfolding stepOf
+  call-fault k p a = sym (ap (λ (j : Judgement). stepOf j t i) (refused-says d ors oneofs goal moves s e k p a))
 
-pub call-fault : (s : List ℕ) (t : Table) (i k p : ℕ) → sheetOf s ≡ faulty k p → record { answer = Refused k p; table = t } ≡ stepOf (sheetOf s) t i
-unfolding stepOf
-call-fault s t i k p e = sym (ap (λ (j : Judgement). stepOf j t i) e)
+  -- a sheet that was read: 7, 22, then the step
+  module _ (a : d .answer ≡ Accepted) where
+    abbrev x : Sheet
+    x = d .sheet
 
--- the call by value: the table given, or the fresh one
-pub step-kept : (t : Table) (c : Counted) (us gs : List ℕ) (d : TableAnswer) (k p : ℕ) → c .answer ≡ Refused k p → counted t c us gs ≡ d → record { answer = c .answer; table = t } ≡ d
-step-kept t c us gs d k p e q = ap (λ (a : Answer). record { answer = c .answer; table = kept a t (lent (c .count) us gs) }) (sym e) ∙ q
+    abbrev its : Action
+    its = actionOf moves i
 
-pub step-new : (t : Table) (c : Counted) (us gs : List ℕ) (d : TableAnswer) → c .answer ≡ Accepted → counted t c us gs ≡ d
-    → record { answer = c .answer; table = record { count = c .count; trues = us; falses = gs } } ≡ d
-step-new t c us gs d e q = ap (λ (a : Answer). record { answer = c .answer; table = kept a t (lent (c .count) us gs) }) (sym e) ∙ q
+    abbrev proper : ProperStatement (statementIn x ors oneofs goal moves)
+    proper = accepted-proper d ors oneofs goal moves s e a
+
+    by-move : (b : Bool) → ltb i (x .moves) ≡ b → stepMove b (x .n) its t ≡ whole
+    unfolding stepOf statementIn problemIn actionAt
+    by-move b q =
+        known b q
+        ∙ ap (λ (z : Bool). stepMove z (x .n) (actionAt (problemIn x ors oneofs goal moves) i) t) (sym q ∙ sym (ap (ltb i) (items-length 35 actionFrom (x .moves) moves)))
+        ∙ sym (ap (λ (j : Judgement). stepOf j t i) (accepted-says d ors oneofs goal moves s e a))
+      where
+        known : (z : Bool) → ltb i (x .moves) ≡ z → stepMove z (x .n) its t ≡ stepMove z (x .n) (actionAt (problemIn x ors oneofs goal moves) i) t
+        known true q = ap (λ (y : Action). stepMove true (x .n) y t) (sym (item-at 35 actionFrom (x .moves) moves i _ (ltb-true i (x .moves) q)))
+        known false q = refl
+
+    pub off-sheet : x .moves ≤ i → stepAnswer t (moved.Refused 7 0) [] [] ≡ whole
+    off-sheet k = by-move false (le-ltb i (x .moves) k)
+
+    module _ (lt : i < x .moves) where
+      its-action : ProperAction (x .n) its
+      its-action = item-of-all 35 actionFrom (ProperAction (x .n)) (x .moves) moves i lt (moves-proper x ors oneofs goal moves proper)
+
+      pub its-room : i * 35 + 35 ≤ 1120
+      its-room = omega (arith, moves-few x ors oneofs goal moves proper .1)
+
+      pub its-count : countOf moves i ≤ 8
+      unfolding actionFrom
+      its-count = subst (λ (k : ℕ). k ≤ 8) (effects-long (countOf moves i) (take 32 (drop 3 (itemAt 35 moves i)))) (its-action .effects .most)
+
+      by-known : (b : Bool) → described 128 (x .n) (entries t) ≡ b → stepKnown b its t ≡ whole
+      by-known b k = ap (λ (z : Bool). stepKnown z its t) (sym k) ∙ by-move true (lt-ltb i (x .moves) lt)
+
+      pub undescribed : described 128 (x .n) (entries t) ≡ false → stepAnswer t (moved.Refused 22 0) [] [] ≡ whole
+      undescribed k = by-known false k
+
+      module _ (k : described 128 (x .n) (entries t) ≡ true) where
+        pub its-fits : Fits its t
+        unfolding entries
+        its-fits =
+            let w = described-iff 128 (x .n) (entries t) .0 k in
+            record {
+              n = x .n;
+              n-most = n-few x ors oneofs goal moves proper .1;
+              entries-most = subst (λ (z : ℕ). z ≤ 128) (length-entriesOf (t .count) (t .trues) (t .falses)) (w .most);
+              action = its-action;
+              proper = w .proper;
+            }
+
+        pub known-step : orGiven t (stepTable 128 its (entries t)) ≡ whole
+        known-step = by-known true k
+
+-- the call by value
+pub step-by : (t : Table) (r x : Stepped) (us gs : List ℕ) (d : TableAnswer) → r ≡ x → stepAnswer t r us gs ≡ d → stepAnswer t x us gs ≡ d
+step-by t r x us gs d e q = sym (ap (λ (y : Stepped). stepAnswer t y us gs) e) ∙ q

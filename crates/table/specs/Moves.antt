@@ -5,7 +5,6 @@ use mathlib.Core.List.{List}
 use Prim.Native.Nat.{ℕ, _+_, _≤_}
 use lib.ListN.{length, getD}
 use Rattle.sheet.specs.declared.Literals.{Literals}
-use Rattle.sheet.specs.declared.Answer.{Answer}
 use Rattle.sheet.specs.declared.Answer.the-variants.{Accepted, Refused}
 use Rattle.sheet.specs.Literals.{within, Proper}
 use Rattle.sheet.specs.Lists.{All}
@@ -13,7 +12,6 @@ use Rattle.sheet.specs.Problem.{Action}
 use Rattle.sheet.specs.Encoding.{ProperAction}
 use Rattle.table.specs.declared.Table.{Table}
 use Rattle.table.specs.declared.TableAnswer.{TableAnswer}
-use Rattle.table.specs.declared.Counted.{Counted}
 use Rattle.table.specs.declared.steps.Stepped.{Stepped}
 use Rattle.table.specs.declared.steps.Stepped.the-variants as stepped
 use Rattle.table.specs.Slots.{entries}
@@ -31,22 +29,9 @@ abbrev pub lent : ℕ → List ℕ → List ℕ → Table
 lent n ts fs = record { count = n; trues = ts; falses = fs }
 
 -- what a step of the table t gave, with the arrays that it was put in
-abbrev pub tabled : Table → Stepped → List ℕ → List ℕ → TableAnswer
-tabled t (stepped.To k) us gs = record { answer = Accepted; table = lent k us gs }
-tabled t (stepped.Refused number) us gs = record { answer = Refused number 0; table = t }
-
--- a step as the answer of a call
-abbrev pub toldOf : Stepped → Counted
-toldOf (stepped.To k) = record { answer = Accepted; count = k }
-toldOf (stepped.Refused number) = record { answer = Refused number 0; count = 0 }
-
--- what a call on the table t gave, with the arrays that it was put in
-abbrev pub kept : Answer → Table → Table → Table
-kept Accepted t u = u
-kept (Refused number position) t u = t
-
-abbrev pub counted : Table → Counted → List ℕ → List ℕ → TableAnswer
-counted t c us gs = record { answer = c .answer; table = kept (c .answer) t (lent (c .count) us gs) }
+abbrev pub stepAnswer : Table → Stepped → List ℕ → List ℕ → TableAnswer
+stepAnswer t (stepped.To k) us gs = record { answer = Accepted; table = lent k us gs }
+stepAnswer t (stepped.Refused number position) us gs = record { answer = Refused number position; table = t }
 
 -- an action and a table over the same n propositions
 pub record Fits (a : Action) (t : Table) : Type 0 where

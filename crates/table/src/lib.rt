@@ -1,11 +1,13 @@
 // Belief states as tables of entries: the first table of a sheet, the step of a move, and pictures.
+use crate::steps::Stepped;
 use sheet::Answer;
 use sheet::packed::LENGTH;
+use sheet::packed::MOVES;
 ghost use mathlib.Core.Path.{_≡_};
 ghost use lib.ListN.{length, replicate};
 ghost use Rattle.sheet.specs.Format.{sheetOf};
 ghost use Rattle.table.specs.Calls.{startOf, stepOf};
-ghost use Rattle.table.specs.Moves.{lent, counted};
+ghost use Rattle.table.specs.Moves.{lent, stepAnswer};
 ghost use Rattle.table.specs.PictureCalls.{pictureOf, bufferOf};
 
 pub mod effects;
@@ -36,12 +38,6 @@ pub struct PictureAnswer {
     pub clauses: usize,
 }
 
-// What a call on lent arrays gives: the answer, and, if it is accepted, how many entries the arrays have.
-pub struct Counted {
-    pub answer: Answer,
-    pub count: usize,
-}
-
 // The first table of a sheet.
 pub fn start(s: &[u8]) -> TableAnswer
     ensures { λ r. ⌜ r ≡ startOf (sheetOf (now (s .entry))) ⌝ }
@@ -60,64 +56,66 @@ pub fn start(s: &[u8]) -> TableAnswer
     }
 }
 
-// The step of a lent table by the move of a number on a sheet, into arrays of zeros.
+// The step of a lent table by the move of a number on a sheet, into arrays of zeros: a fault of the sheet, 7, 22, then the step.
 pub fn step_lent<'a, 'b, 'c>(
-    s: &'a [u8],
-    number: usize,
-    ts: &'b [u32],
-    fs: &'b [u32],
-    k: usize,
-    us: &'c mut [u32],
-    gs: &'c mut [u32],
-) -> Counted
-    requires { ⌜ (length (now ts) ≡ 128) × (length (now fs) ≡ 128) ⌝ }
-    requires { ⌜ (now us ≡ replicate 128 0) × (now gs ≡ replicate 128 0) ⌝ }
-    ensures { λ r. ⌜ counted (lent k (now (ts .entry)) (now (fs .entry))) r (now (us .exit)) (now (gs .exit)) ≡ stepOf (sheetOf (now (s .entry))) (lent k (now (ts .entry)) (now (fs .entry))) number ⌝ }
+    bytes: &'a [u8],
+    index: usize,
+    trues: &'b [u32],
+    falses: &'b [u32],
+    count: usize,
+    to_trues: &'c mut [u32],
+    to_falses: &'c mut [u32],
+) -> Stepped
+    requires { ⌜ (length (now trues) ≡ 128) × (length (now falses) ≡ 128) ⌝ }
+    requires { ⌜ (now «to_trues» ≡ replicate 128 0) × (now «to_falses» ≡ replicate 128 0) ⌝ }
+    ensures { λ r. ⌜ stepAnswer (lent count (now (trues .entry)) (now (falses .entry))) r (now («to_trues» .exit)) (now («to_falses» .exit)) ≡ stepOf (sheetOf (now (bytes .entry))) (lent count (now (trues .entry)) (now (falses .entry))) index ⌝ }
 {
     let mut packed = [0u32; LENGTH];
-    let decoded = sheet::decode(s, &mut packed);
+    let decoded = sheet::decode(bytes, &mut packed);
     let answer = decoded.answer;
     match answer {
-        Answer::Refused(fault, position) => Counted {
-            answer: Answer::Refused(fault, position),
-            count: 0,
-        },
+        Answer::Refused(number, position) => Stepped::Refused(number, position),
         Answer::Accepted => {
             let sheet = decoded.sheet;
-            // A reference to the whole array: its type has the length.
-            let moves = &moves;
-            let moved = steps::step_in(sheet.n, moves, sheet.moves, number, ts, fs, k, us, gs);
-            steps::told(moved)
+            if sheet.moves <= index {
+                return Stepped::Refused(7, 0);
+            }
+            if !tables::described(sheet.n, trues, falses, count) {
+                return Stepped::Refused(22, 0);
+            }
+            let moves = &packed[MOVES..LENGTH];
+            steps::step_at(moves, index, trues, falses, count, to_trues, to_falses)
         }
     }
 }
 
 // The step of a table by the move of a number on a sheet.
-pub fn step(s: &[u8], table: Table, number: usize) -> TableAnswer
-    ensures { λ r. ⌜ r ≡ stepOf (sheetOf (now (s .entry))) table number ⌝ }
+pub fn step(bytes: &[u8], table: Table, index: usize) -> TableAnswer
+    ensures { λ r. ⌜ r ≡ stepOf (sheetOf (now (bytes .entry))) table index ⌝ }
 {
     let count = table.count;
     let mut trues = [0u32; 128];
     let mut falses = [0u32; 128];
-    let stepped = step_lent(
-        s,
-        number,
+    match step_lent(
+        bytes,
+        index,
         &table.trues,
         &table.falses,
         count,
         &mut trues,
         &mut falses,
-    );
-    let answer = stepped.answer;
-    match answer {
-        Answer::Refused(_, _) => TableAnswer { answer, table },
-        Answer::Accepted => TableAnswer {
-            answer,
+    ) {
+        Stepped::To(count) => TableAnswer {
+            answer: Answer::Accepted,
             table: Table {
-                count: stepped.count,
+                count,
                 trues,
                 falses,
             },
+        },
+        Stepped::Refused(number, position) => TableAnswer {
+            answer: Answer::Refused(number, position),
+            table,
         },
     }
 }

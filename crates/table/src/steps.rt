@@ -1,11 +1,8 @@
 // The step of a table over lent slices: 24, then 25 by pairs of effects, then the pieces of each entry, each image put in its turn.
-use crate::Counted;
 use crate::effects::effect_at;
 use crate::slots;
 use crate::slots::Grown;
-use crate::tables::described;
 use crate::tables::entry_at;
-use sheet::Answer;
 use sheet::Effect;
 use sheet::Literals;
 use sheet::masks;
@@ -18,15 +15,13 @@ ghost use Prim.Native.Nat.{_≤_, _<_, _+_, _*_};
 ghost use lib.ListN.{length, drop, replicate};
 ghost use Rattle.sheet.specs.Literals as L;
 ghost use Rattle.sheet.specs.Lists.{All, anyOf, allOf, collect};
-ghost use lib.Dec.{ltb};
-ghost use Rattle.sheet.specs.Encoding.{ProperAction};
 ghost use Rattle.sheet.specs.Packed as R;
 ghost use Rattle.table.specs.Step as S;
 ghost use Rattle.table.specs.Slots.{entriesOf, Held, Puts, entries};
 ghost use Rattle.table.specs.Pairs as P;
 ghost use Rattle.table.specs.Moves as M;
 ghost use Rattle.table.specs.Carry.{Steady, Carried, Splits, Skips, minus, partAt, carriedAt};
-ghost use Rattle.table.specs.Calls.{orGiven, stepMove};
+ghost use Rattle.table.specs.Calls.{orGiven};
 
 // The precondition lies in every entry (24 if not).
 pub(crate) fn sure<'a>(
@@ -309,10 +304,10 @@ pub(crate) fn branch_all<'a, 'b, 'c>(
     Grown::To(sum)
 }
 
-// What a step gave: so many entries in the lent arrays, or the number of a refusal.
+// What a step gave: so many entries in the lent arrays, or the number of a refusal with its position.
 pub enum Stepped {
     To(usize),
-    Refused(u8),
+    Refused(u8, usize),
 }
 
 // The step of a lent table, its effects laid out, into arrays of zeros.
@@ -330,17 +325,17 @@ pub(crate) fn step_into<'a, 'b, 'c>(
     requires { ⌜ M.Fits (R.actionBy precondition size (now effects)) (M.lent n (now ts) (now fs)) ⌝ }
     requires { ⌜ (n ≤ length (now ts)) × (n ≤ length (now fs)) ⌝ }
     requires { ⌜ (now us ≡ replicate 128 0) × (now gs ≡ replicate 128 0) ⌝ }
-    ensures { λ r. ⌜ M.tabled (M.lent n (now (ts .entry)) (now (fs .entry))) r (now (us .exit)) (now (gs .exit)) ≡ orGiven (M.lent n (now (ts .entry)) (now (fs .entry))) (S.stepTable 128 (R.actionBy precondition size (now (effects .entry))) (entriesOf n (now (ts .entry)) (now (fs .entry)))) ⌝ }
+    ensures { λ r. ⌜ M.stepAnswer (M.lent n (now (ts .entry)) (now (fs .entry))) r (now (us .exit)) (now (gs .exit)) ≡ orGiven (M.lent n (now (ts .entry)) (now (fs .entry))) (S.stepTable 128 (R.actionBy precondition size (now (effects .entry))) (entriesOf n (now (ts .entry)) (now (fs .entry)))) ⌝ }
 {
     if !sure(precondition, ts, fs, n) {
-        return Stepped::Refused(24);
+        return Stepped::Refused(24, 0);
     }
     if conflicting(effects, size, ts, fs, n) {
-        return Stepped::Refused(25);
+        return Stepped::Refused(25, 0);
     }
     match branch_all(effects, size, ts, fs, n, us, gs, 0) {
         Grown::To(k) => Stepped::To(k),
-        Grown::Full => Stepped::Refused(21),
+        Grown::Full => Stepped::Refused(21, 0),
     }
 }
 
@@ -358,7 +353,7 @@ pub fn step_at<'a, 'b, 'c>(
     requires { ⌜ M.Fits (R.actionOf (now moves) m) (M.lent n (now ts) (now fs)) ⌝ }
     requires { ⌜ (n ≤ length (now ts)) × (n ≤ length (now fs)) ⌝ }
     requires { ⌜ (now us ≡ replicate 128 0) × (now gs ≡ replicate 128 0) ⌝ }
-    ensures { λ r. ⌜ M.tabled (M.lent n (now (ts .entry)) (now (fs .entry))) r (now (us .exit)) (now (gs .exit)) ≡ orGiven (M.lent n (now (ts .entry)) (now (fs .entry))) (S.stepTable 128 (R.actionOf (now (moves .entry)) m) (entriesOf n (now (ts .entry)) (now (fs .entry)))) ⌝ }
+    ensures { λ r. ⌜ M.stepAnswer (M.lent n (now (ts .entry)) (now (fs .entry))) r (now (us .exit)) (now (gs .exit)) ≡ orGiven (M.lent n (now (ts .entry)) (now (fs .entry))) (S.stepTable 128 (R.actionOf (now (moves .entry)) m) (entriesOf n (now (ts .entry)) (now (fs .entry)))) ⌝ }
 {
     let i = m * 35;
     let row = &moves[i..i + 35];
@@ -372,46 +367,4 @@ pub fn step_at<'a, 'b, 'c>(
         us,
         gs,
     )
-}
-
-// The step of a lent table by the move of a number among the `count` of a sheet over n propositions: 7, 22, then the step.
-pub(crate) fn step_in<'a, 'b, 'c>(
-    n: usize,
-    moves: &'a [u32],
-    count: usize,
-    number: usize,
-    ts: &'b [u32],
-    fs: &'b [u32],
-    k: usize,
-    us: &'c mut [u32],
-    gs: &'c mut [u32],
-) -> Stepped
-    requires { ⌜ (n ≤ 32) × (count * 35 ≤ length (now moves)) × All (ProperAction n) (R.actionsAt count (now moves)) ⌝ }
-    requires { ⌜ (length (now ts) ≡ 128) × (length (now fs) ≡ 128) ⌝ }
-    requires { ⌜ (now us ≡ replicate 128 0) × (now gs ≡ replicate 128 0) ⌝ }
-    ensures { λ r. ⌜ M.tabled (M.lent k (now (ts .entry)) (now (fs .entry))) r (now (us .exit)) (now (gs .exit)) ≡ stepMove (ltb number count) n (R.actionOf (now (moves .entry)) number) (M.lent k (now (ts .entry)) (now (fs .entry))) ⌝ }
-{
-    if count <= number {
-        return Stepped::Refused(7);
-    }
-    if !described(n, ts, fs, k) {
-        return Stepped::Refused(22);
-    }
-    step_at(moves, number, ts, fs, k, us, gs)
-}
-
-// A step as the answer of a call.
-pub(crate) fn told(r: Stepped) -> Counted
-    ensures { λ c. ⌜ c ≡ M.toldOf r ⌝ }
-{
-    match r {
-        Stepped::To(count) => Counted {
-            answer: Answer::Accepted,
-            count,
-        },
-        Stepped::Refused(number) => Counted {
-            answer: Answer::Refused(number, 0),
-            count: 0,
-        },
-    }
 }

@@ -1,11 +1,10 @@
 -- `table::step_lent` meets its contract. Assumes nothing.
-use mathlib.Core.Path.{sym, ap, _∙_}
+use mathlib.Core.Path.{sym, _∙_}
 use native.Mathlib.Omega.{arith}
-use Rattle.sheet.specs.Format.{Judgement}
-use Rattle.sheet.proofs.SlotLaws.{refused-says, accepted-says, accepted-proper, n-few, moves-few, moves-proper}
-use Rattle.table.specs.Calls.{stepOf}
+use borrow.Author.Tests.{not-true, not-false}
+use Rattle.table.specs.Slots.{entries}
 use Rattle.table.specs.Moves.{lent}
-use Rattle.table.proofs.Advancing.{call-fault, on-sheet, told-is}
+use Rattle.table.proofs.Advancing.{call-fault, off-sheet, its-room, its-count, undescribed, its-fits, known-step}
 use borrow.Author.Needs.{needs}
 use Rattle.table.proofs.step_lent.Statement.{statement}
 use Rattle.table.proofs.step_lent.Tie as tie
@@ -19,16 +18,32 @@ enum-known-answer c = search needs
 enum-told : tie.Need-enum-told
 enum-told c = search needs
 
-step-in-requires : tie.Need-step-in-requires
-step-in-requires c κs =
-    let h = accepted-proper _ _ _ _ _ _ (c .before .before .before .before .before .before .before .decode .ensures .0) (c .before .before .before .before .before .enum-told .given .1) in
-    ((n-few _ _ _ _ _ h .1, omega (arith, moves-few _ _ _ _ _ h .1), moves-proper _ _ _ _ _ h), c .before .before .before .before .before .before .before .before .before .before .before .before .before .before .before .before .before .pre)
-
-told-requires : tie.Need-told-requires
-told-requires c κs = search needs
-
 returns : tie.Need-returns
-returns c = call-fault _ _ _ _ _ (refused-says _ _ _ _ _ _ (c .before .before .before .decode .ensures .0) _ _ (c .before .answer .given .1))
+returns c = off-sheet _ _ _ _ _ _ (c .before .before .before .before .before .decode .ensures .0) _ _ (c .before .before .before .enum-told .given .1) (c .if1 .taken)
+
+described-requires : tie.Need-described-requires
+described-requires c κs = search needs
+
+returns-2 : tie.Need-returns-2
+unfolding entries
+returns-2 c =
+    undescribed _ _ _ _ _ _ (c .before .before .before .before .before .before .before .decode .ensures .0) _ _ (c .before .before .before .before .before .enum-told .given .1) (c .before .before .if1 .left) (sym (c .before .described .ensures) ∙ not-true _ (c .if2 .taken))
+
+step-at-requires : tie.Need-step-at-requires
+unfolding entries
+step-at-requires c κs =
+    let o = c .before .before .before .before .before .before .before .before .before .before .before .before .before .before .before .before .before .before .before .before .before in
+    let t = lent (o .args .count) (o .args .trues .now) (o .args .falses .now) in
+    let e = c .before .before .before .before .before .before .before .before .before .before .before .decode .ensures .0 in
+    let a = c .before .before .before .before .before .before .before .before .before .enum-told .given .1 in
+    let lt = c .before .before .before .before .before .before .if1 .left in
+    let f = its-fits _ _ _ _ _ _ e t _ a lt (sym (c .before .before .before .before .before .described .ensures) ∙ not-false _ (c .before .before .before .before .if2 .left)) in (
+      (omega (arith, its-room _ _ _ _ _ _ e t _ a lt), its-count _ _ _ _ _ _ e t _ a lt),
+      (f, ((omega (arith, f .entries-most, o .pre .0 .0), omega (arith, f .entries-most, o .pre .0 .1)), o .pre .1)),
+    )
+
+returns-3 : tie.Need-returns-3
+returns-3 c = call-fault _ _ _ _ _ _ (c .before .before .before .decode .ensures .0) _ _ _ _ (c .before .answer .given .1)
 
 same-length : tie.Need-same-length
 same-length c = search needs
@@ -36,15 +51,11 @@ same-length c = search needs
 same-length-2 : tie.Need-same-length-2
 same-length-2 c = search needs
 
-returns-2 : tie.Need-returns-2
-returns-2 c =
-    let z = c .before .before .before .before .before .before .before .before .before .before .before .before .before .before .before .before .before .before .before .before .before .before .before in
-    let t = lent (z .args .k) (z .args .ts .now) (z .args .fs .now) in
-    let d = c .before .before .before .before .before .before .before .before .before .before .before .before .before .decode in
-    told-is t (c .before .before .before .before .before .step-in .result) _ _ _ (c .told .ensures)
-    ∙ c .before .before .before .before .before .step-in .ensures
-    ∙ on-sheet (d .result .sheet) (d .last .1 .0) (d .last .1 .1 .0) (d .last .1 .1 .1 .0) (d .last .1 .1 .1 .1 .0) t (z .args .number)
-    ∙ sym (ap (λ (j : Judgement). stepOf j t (z .args .number)) (accepted-says _ _ _ _ _ _ (d .ensures .0) (c .before .before .before .before .before .before .before .before .before .before .before .enum-told .given .1)))
+returns-4 : tie.Need-returns-4
+unfolding entries
+returns-4 c =
+    c .before .before .before .before .step-at .ensures
+    ∙ known-step _ _ _ _ _ _ (c .before .before .before .before .before .before .before .before .before .before .before .before .before .before .before .before .decode .ensures .0) _ _ (c .before .before .before .before .before .before .before .before .before .before .before .before .before .before .enum-told .given .1) (c .before .before .before .before .before .before .before .before .before .before .before .if1 .left) (sym (c .before .before .before .before .before .before .before .before .before .before .described .ensures) ∙ not-false _ (c .before .before .before .before .before .before .before .before .before .if2 .left))
 
 pub step-lent-spec : {M : Type 1} → statement M
 step-lent-spec =
@@ -53,9 +64,11 @@ step-lent-spec =
     decode-requires
     enum-known-answer
     enum-told
-    step-in-requires
-    told-requires
     returns
+    described-requires
+    returns-2
+    step-at-requires
+    returns-3
     same-length
     same-length-2
-    returns-2)
+    returns-4)
