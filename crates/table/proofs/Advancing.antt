@@ -32,7 +32,7 @@ use Rattle.table.specs.Slots.{pairs, entriesOf, entries, tableOf, Grew, 
 use Rattle.table.specs.Calls.{orGiven, actionAt, stepKnown, stepMove, stepOf}
 use Rattle.table.specs.declared.steps.Stepped.{Stepped}
 use Rattle.table.specs.declared.steps.Stepped.the-variants as moved
-use Rattle.sheet.specs.Packed.{setFrom, actionBy, itemAt, countIn, actionFrom, countOf, actionOf, actionsAt}
+use Rattle.sheet.specs.Packed.{movesIn, setFrom, actionBy, itemAt, countIn, actionFrom, countOf, actionOf, actionsAt}
 use Rattle.table.specs.Moves.{lent, stepAnswer, Fits}
 use Rattle.table.specs.Carry.{Steady}
 use Rattle.table.proofs.Pads.{length-entriesOf, fresh}
@@ -155,13 +155,13 @@ unfolding actionFrom
 action-is moves m row p size r a b = ap₂ (λ (q : Literals) (n : ℕ). actionBy q n (take 32 (drop 3 row))) a b ∙ ap actionFrom r
 
 -- ---- the call on bytes
-module _ (s : List ℕ) (d : Decoded) (ors oneofs goal moves : List ℕ) (e : judgementIn d ors oneofs goal moves ≡ sheetOf s) (t : Table) (i : ℕ) where
+module _ (s : List ℕ) (d : Decoded) (packed : List ℕ) (e : judgementIn d packed ≡ sheetOf s) (t : Table) (i : ℕ) where
   abbrev whole : TableAnswer
   whole = stepOf (sheetOf s) t i
 
   pub call-fault : (k p : ℕ) → d .answer ≡ Refused k p → stepAnswer t (moved.Refused k p) [] [] ≡ whole
   unfolding stepOf
-  call-fault k p a = sym (ap (λ (j : Judgement). stepOf j t i) (refused-says d ors oneofs goal moves s e k p a))
+  call-fault k p a = sym (ap (λ (j : Judgement). stepOf j t i) (refused-says d packed s e k p a))
 
   -- a sheet that was read: 7, 22, then the step
   module _ (a : d .answer ≡ Accepted) where
@@ -169,20 +169,20 @@ module _ (s : List ℕ) (d : Decoded) (ors oneofs goal moves : List ℕ) (e : ju
     x = d .sheet
 
     abbrev its : Action
-    its = actionOf moves i
+    its = actionOf (movesIn packed) i
 
-    abbrev proper : ProperStatement (statementIn x ors oneofs goal moves)
-    proper = accepted-proper d ors oneofs goal moves s e a
+    abbrev proper : ProperStatement (statementIn x packed)
+    proper = accepted-proper d packed s e a
 
     by-move : (b : Bool) → ltb i (x .moves) ≡ b → stepMove b (x .n) its t ≡ whole
     unfolding stepOf statementIn problemIn actionAt
     by-move b q =
         known b q
-        ∙ ap (λ (z : Bool). stepMove z (x .n) (actionAt (problemIn x ors oneofs goal moves) i) t) (sym q ∙ sym (ap (ltb i) (items-length 35 actionFrom (x .moves) moves)))
-        ∙ sym (ap (λ (j : Judgement). stepOf j t i) (accepted-says d ors oneofs goal moves s e a))
+        ∙ ap (λ (z : Bool). stepMove z (x .n) (actionAt (problemIn x packed) i) t) (sym q ∙ sym (ap (ltb i) (items-length 35 actionFrom (x .moves) (movesIn packed))))
+        ∙ sym (ap (λ (j : Judgement). stepOf j t i) (accepted-says d packed s e a))
       where
-        known : (z : Bool) → ltb i (x .moves) ≡ z → stepMove z (x .n) its t ≡ stepMove z (x .n) (actionAt (problemIn x ors oneofs goal moves) i) t
-        known true q = ap (λ (y : Action). stepMove true (x .n) y t) (sym (item-at 35 actionFrom (x .moves) moves i _ (ltb-true i (x .moves) q)))
+        known : (z : Bool) → ltb i (x .moves) ≡ z → stepMove z (x .n) its t ≡ stepMove z (x .n) (actionAt (problemIn x packed) i) t
+        known true q = ap (λ (y : Action). stepMove true (x .n) y t) (sym (item-at 35 actionFrom (x .moves) (movesIn packed) i _ (ltb-true i (x .moves) q)))
         known false q = refl
 
     pub off-sheet : x .moves ≤ i → stepAnswer t (moved.Refused 7 0) [] [] ≡ whole
@@ -190,14 +190,14 @@ module _ (s : List ℕ) (d : Decoded) (ors oneofs goal moves : List ℕ) (e : ju
 
     module _ (lt : i < x .moves) where
       its-action : ProperAction (x .n) its
-      its-action = item-of-all 35 actionFrom (ProperAction (x .n)) (x .moves) moves i lt (moves-proper x ors oneofs goal moves proper)
+      its-action = item-of-all 35 actionFrom (ProperAction (x .n)) (x .moves) (movesIn packed) i lt (moves-proper x packed proper)
 
       pub its-room : i * 35 + 35 ≤ 1120
-      its-room = omega (arith, moves-few x ors oneofs goal moves proper .1)
+      its-room = omega (arith, moves-few x packed proper .1)
 
-      pub its-count : countOf moves i ≤ 8
+      pub its-count : countOf (movesIn packed) i ≤ 8
       unfolding actionFrom
-      its-count = subst (λ (k : ℕ). k ≤ 8) (effects-long (countOf moves i) (take 32 (drop 3 (itemAt 35 moves i)))) (its-action .effects .most)
+      its-count = subst (λ (k : ℕ). k ≤ 8) (effects-long (countOf (movesIn packed) i) (take 32 (drop 3 (itemAt 35 (movesIn packed) i)))) (its-action .effects .most)
 
       by-known : (b : Bool) → described 128 (x .n) (entries t) ≡ b → stepKnown b its t ≡ whole
       by-known b k = ap (λ (z : Bool). stepKnown z its t) (sym k) ∙ by-move true (lt-ltb i (x .moves) lt)
@@ -212,7 +212,7 @@ module _ (s : List ℕ) (d : Decoded) (ors oneofs goal moves : List ℕ) (e : ju
             let w = described-iff 128 (x .n) (entries t) .0 k in
             record {
               n = x .n;
-              n-most = n-few x ors oneofs goal moves proper .1;
+              n-most = n-few x packed proper .1;
               entries-most = subst (λ (z : ℕ). z ≤ 128) (length-entriesOf (t .count) (t .trues) (t .falses)) (w .most);
               action = its-action;
               proper = w .proper;

@@ -21,11 +21,16 @@ use Rattle.table.specs.declared.slots.Grown.the-variants as grown
 use Rattle.table.specs.declared.starts.Started.{Started}
 use Rattle.table.specs.declared.starts.Started.the-variants as started
 use Rattle.table.specs.declared.Table.{Table}
+use Rattle.sheet.specs.declared.Sheet.{Sheet}
+use Rattle.sheet.specs.Packed.{orsIn, oneofsIn}
+use Rattle.sheet.specs.Decoded.{Filled}
+use Rattle.sheet.proofs.PackedLaws.{part-long}
+use Rattle.sheet.proofs.SlotLaws.{ors-few, oneofs-few}
 use Rattle.table.specs.declared.TableAnswer.{TableAnswer}
 use Rattle.table.specs.Minimal.{putAll, Outcome, refused, table}
 use Rattle.table.specs.Start.{Clause, candidates, fresh, grow, onTable, growAll}
 use Rattle.table.specs.Slots.{pairs, entriesOf, Fresh, Holds, Held, tableOf, Grew, Puts}
-use Rattle.table.specs.Reads.{startAnswer}
+use Rattle.table.specs.Reads.{ClausesFit, startAnswer}
 use Rattle.table.specs.Calls.{orGiven, startOf, actionAt}
 use Rattle.table.proofs.Pads.{length-pad, length-entriesOf, holds-trues-long, holds-falses-long, holds-entries, held as held-of, holds-table, table-holds}
 use Rattle.table.proofs.PutLaws.{put-all-size}
@@ -231,6 +236,18 @@ module _ (known : Literals) (ts fs : List ℕ) (zeros : Fresh ts fs) where
 
     pub first-on : r ≡ started.To k → growAll 128 ds (entriesOf k us gs) ≡ growAll 128 (cs ++ ds) (known ∷ [])
     first-on e = sym (ap (λ (y : Outcome). onTable y (λ u. growAll 128 ds u)) (first-ready e .is)) ∙ whole
+
+-- ---- the clauses of a sheet that was read, in their sections
+module _ (x : Sheet) (packed : List ℕ) (h : Filled x packed) where
+  pub ors-fit : ClausesFit (x .ors) (orsIn packed)
+  ors-fit =
+      let f = ors-few x packed (h .proper) in
+      record { room = omega (arith, f .0, part-long 0 136 packed (omega (arith, h .long))); few = f .1 }
+
+  pub oneofs-fit : ClausesFit (x .oneofs) (oneofsIn packed)
+  oneofs-fit =
+      let f = oneofs-few x packed (h .proper) in
+      record { room = omega (arith, f .0, part-long 136 136 packed (omega (arith, h .long))); few = f .1 }
 
 -- ---- the first table by value, and the call on bytes
 pub first-given : (o : Outcome) (r : Started) (ts fs : List ℕ) → Right o r ts fs → (k : ℕ) → r ≡ started.To k → Right o (started.To k) ts fs

@@ -22,14 +22,14 @@ draw-requires : tie.Need-draw-requires
 draw-requires c κs = search needs
 
 returns : tie.Need-returns
-returns c = sheet-refused _ _ _ _ _ (refused-says _ _ _ _ _ _ (c .before .before .before .before .decode .ensures .0) _ _ (c .before .before .answer .given .1)) _ (c .refuse-picture .ensures)
+returns c = sheet-refused _ _ _ _ _ (refused-says _ _ _ (c .before .before .before .before .decode .ensures .0) _ _ (c .before .before .answer .given .1)) _ (c .refuse-picture .ensures)
 
 same-length : tie.Need-same-length
 same-length c = search needs
 
 returns-2 : tie.Need-returns-2
 unfolding statementIn problemIn
-returns-2 c = sheet-accepted _ _ _ _ (accepted-says _ _ _ _ _ _ (c .before .before .before .before .before .before .before .before .before .before .before .before .decode .ensures .0) (c .before .before .before .before .before .before .before .before .before .before .enum-told .given .1)) _ _ (c .before .before .draw .ensures)
+returns-2 c = sheet-accepted _ _ _ _ (accepted-says _ _ _ (c .before .before .before .before .before .before .before .before .before .before .before .before .decode .ensures .0) (c .before .before .before .before .before .before .before .before .before .before .enum-told .given .1)) _ _ (c .before .before .draw .ensures)
 
 pub picture-spec : {M : Type 1} → statement M
 picture-spec =

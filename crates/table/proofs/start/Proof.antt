@@ -1,10 +1,8 @@
 -- `table::start` meets its contract. Assumes nothing.
 use mathlib.Core.Path.{sym, ap, _∙_}
-use native.Mathlib.Omega.{arith}
 use borrow.Author.Needs.{needs}
-use Rattle.sheet.specs.Decoded.{problemIn, statementIn}
-use Rattle.sheet.proofs.SlotLaws.{refused-says, accepted-says, accepted-proper, ors-few, oneofs-few}
-use Rattle.table.specs.Start.{startClauses, startTable}
+use Rattle.sheet.specs.Decoded.{statementIn}
+use Rattle.sheet.proofs.SlotLaws.{refused-says, accepted-says, filled}
 use Rattle.table.specs.Calls.{startOf}
 use Rattle.table.proofs.Started.{start-fault}
 use Rattle.table.proofs.start.Statement.{statement}
@@ -23,18 +21,14 @@ enum-told : tie.Need-enum-told
 enum-told c = search needs
 
 first-table-requires : tie.Need-first-table-requires
-first-table-requires c κs =
-    let h = accepted-proper _ _ _ _ _ _ (c .before .before .before .before .before .before .before .decode .ensures .0) (c .before .before .before .before .before .enum-told .given .1) in
-    let f = ors-few _ _ _ _ _ h in
-    let g = oneofs-few _ _ _ _ _ h in
-    (record { room = omega (arith, f .0); few = f .1 }, record { room = omega (arith, g .0); few = g .1 })
+first-table-requires c κs = filled _ _ _ (c .before .before .before .before .before .decode .ensures) (c .before .before .before .enum-told .given .1) (search needs)
 
 returns : tie.Need-returns
-returns c = start-fault _ _ _ (refused-says _ _ _ _ _ _ (c .before .before .before .before .decode .ensures .0) _ _ (c .before .before .answer .given .1)) _ (c .refuse-start .ensures)
+returns c = start-fault _ _ _ (refused-says _ _ _ (c .before .before .before .before .decode .ensures .0) _ _ (c .before .before .answer .given .1)) _ (c .refuse-start .ensures)
 
 returns-2 : tie.Need-returns-2
-unfolding startOf startTable startClauses statementIn problemIn
-returns-2 c = c .first-table .ensures ∙ sym (ap startOf (accepted-says _ _ _ _ _ _ (c .before .before .before .before .before .before .before .before .decode .ensures .0) (c .before .before .before .before .before .before .enum-told .given .1)))
+unfolding startOf statementIn
+returns-2 c = c .first-table .ensures ∙ sym (ap startOf (accepted-says _ _ _ (c .before .before .before .before .before .before .decode .ensures .0) (c .before .before .before .before .enum-told .given .1)))
 
 pub start-spec : {M : Type 1} → statement M
 start-spec =

@@ -19,7 +19,7 @@ enum-told : tie.Need-enum-told
 enum-told c = search needs
 
 returns : tie.Need-returns
-returns c = off-sheet _ _ _ _ _ _ (c .before .before .before .before .before .decode .ensures .0) _ _ (c .before .before .before .enum-told .given .1) (c .if1 .taken)
+returns c = off-sheet _ _ _ (c .before .before .before .before .before .decode .ensures .0) _ _ (c .before .before .before .enum-told .given .1) (c .if1 .taken)
 
 described-requires : tie.Need-described-requires
 described-requires c κs = search needs
@@ -27,7 +27,7 @@ described-requires c κs = search needs
 returns-2 : tie.Need-returns-2
 unfolding entries
 returns-2 c =
-    undescribed _ _ _ _ _ _ (c .before .before .before .before .before .before .before .decode .ensures .0) _ _ (c .before .before .before .before .before .enum-told .given .1) (c .before .before .if1 .left) (sym (c .before .described .ensures) ∙ not-true _ (c .if2 .taken))
+    undescribed _ _ _ (c .before .before .before .before .before .before .before .decode .ensures .0) _ _ (c .before .before .before .before .before .enum-told .given .1) (c .before .before .if1 .left) (sym (c .before .described .ensures) ∙ not-true _ (c .if2 .taken))
 
 step-at-requires : tie.Need-step-at-requires
 unfolding entries
@@ -37,13 +37,13 @@ step-at-requires c κs =
     let e = c .before .before .before .before .before .before .before .before .before .before .before .decode .ensures .0 in
     let a = c .before .before .before .before .before .before .before .before .before .enum-told .given .1 in
     let lt = c .before .before .before .before .before .before .if1 .left in
-    let f = its-fits _ _ _ _ _ _ e t _ a lt (sym (c .before .before .before .before .before .described .ensures) ∙ not-false _ (c .before .before .before .before .if2 .left)) in (
-      (omega (arith, its-room _ _ _ _ _ _ e t _ a lt), its-count _ _ _ _ _ _ e t _ a lt),
+    let f = its-fits _ _ _ e t _ a lt (sym (c .before .before .before .before .before .described .ensures) ∙ not-false _ (c .before .before .before .before .if2 .left)) in (
+      (omega (arith, its-room _ _ _ e t _ a lt), its-count _ _ _ e t _ a lt),
       (f, ((omega (arith, f .entries-most, o .pre .0 .0), omega (arith, f .entries-most, o .pre .0 .1)), o .pre .1)),
     )
 
 returns-3 : tie.Need-returns-3
-returns-3 c = call-fault _ _ _ _ _ _ (c .before .before .before .decode .ensures .0) _ _ _ _ (c .before .answer .given .1)
+returns-3 c = call-fault _ _ _ (c .before .before .before .decode .ensures .0) _ _ _ _ (c .before .answer .given .1)
 
 same-length : tie.Need-same-length
 same-length c = search needs
@@ -55,7 +55,7 @@ returns-4 : tie.Need-returns-4
 unfolding entries
 returns-4 c =
     c .before .before .before .before .step-at .ensures
-    ∙ known-step _ _ _ _ _ _ (c .before .before .before .before .before .before .before .before .before .before .before .before .before .before .before .before .decode .ensures .0) _ _ (c .before .before .before .before .before .before .before .before .before .before .before .before .before .before .enum-told .given .1) (c .before .before .before .before .before .before .before .before .before .before .before .if1 .left) (sym (c .before .before .before .before .before .before .before .before .before .before .described .ensures) ∙ not-false _ (c .before .before .before .before .before .before .before .before .before .if2 .left))
+    ∙ known-step _ _ _ (c .before .before .before .before .before .before .before .before .before .before .before .before .before .before .before .before .decode .ensures .0) _ _ (c .before .before .before .before .before .before .before .before .before .before .before .before .before .before .enum-told .given .1) (c .before .before .before .before .before .before .before .before .before .before .before .if1 .left) (sym (c .before .before .before .before .before .before .before .before .before .before .described .ensures) ∙ not-false _ (c .before .before .before .before .before .before .before .before .before .if2 .left))
 
 pub step-lent-spec : {M : Type 1} → statement M
 step-lent-spec =

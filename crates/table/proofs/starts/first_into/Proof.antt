@@ -1,81 +1,88 @@
+-- `table::starts::first_into` meets its contract. Assumes nothing.
+use mathlib.Core.Path.{_≡_, ap, _∙_}
+use mathlib.Core.List.{[], map}
+use native.Mathlib.Omega.{arith}
+use lib.ListN.{length, length-set}
+use Rattle.sheet.specs.Packed.{orsIn, oneofsIn, clausesAt}
+use Rattle.sheet.specs.Decoded.{problemIn}
+use Rattle.table.specs.Start.{orOf, oneOf, startClauses, startTable}
+use Rattle.table.specs.Slots.{tableOf}
+use Rattle.table.specs.Calls.{orGiven}
+use Rattle.table.proofs.Started.{first-held, first-grown, first-on, first-refused, ors-fit, oneofs-fit}
 use borrow.Author.Needs.{needs}
 use Rattle.table.proofs.starts.first_into.Statement.{statement}
 use Rattle.table.proofs.starts.first_into.Tie as tie
-use Rattle.table.proofs.starts.first_into.Reads as reads
-use Rattle.table.proofs.starts.first_into.Lts as lts
-use Rattle.table.proofs.starts.grow_all.Reads as grow-all-reads
 
--- src/starts.rt:335:5
 slice-write-to-trues : tie.Need-slice-write-to-trues
-slice-write-to-trues c = ?
+slice-write-to-trues c = let l : length (c .before .before .before .before .args .to-trues .now) ≡ 128 = ap length (c .before .before .before .before .pre .1 .trues) in omega arith
 
--- src/starts.rt:336:5
 slice-write-to-falses : tie.Need-slice-write-to-falses
-slice-write-to-falses c = ?
+slice-write-to-falses c = let l : length (c .before .before .before .before .args .to-falses .now) ≡ 128 = ap length (c .before .before .before .before .pre .1 .falses) in omega arith
 
--- src/starts.rt:337:15
 sub-ors : tie.Need-sub-ors
 sub-ors c = search needs
 
--- src/starts.rt:337:15
 part-ors-start : tie.Need-part-ors-start
 part-ors-start c = search needs
 
--- src/starts.rt:337:15
 part-ors-end : tie.Need-part-ors-end
 part-ors-end c = search needs
 
--- src/starts.rt:338:11
 grow-all-requires : tie.Need-grow-all-requires
-grow-all-requires c κs = ?
+grow-all-requires c κs = (ors-fit _ _ (c .before .before .before .before .before .before .before .pre .0), first-held (c .before .before .before .before .before .before .before .args .sheet .known) _ _ (c .before .before .before .before .before .before .before .pre .1))
 
--- src/starts.rt:339:21
 enum-known-count : tie.Need-enum-known-count
 enum-known-count c = search needs
 
--- src/starts.rt:340:26
 sub-oneofs : tie.Need-sub-oneofs
 sub-oneofs c = search needs
 
--- src/starts.rt:340:26
 part-oneofs-start : tie.Need-part-oneofs-start
 part-oneofs-start c = search needs
 
--- src/starts.rt:340:26
 part-oneofs-end : tie.Need-part-oneofs-end
 part-oneofs-end c = search needs
 
--- src/starts.rt:341:13
 grow-all-requires-2 : tie.Need-grow-all-requires-2
-grow-all-requires-2 c κs = ?
+grow-all-requires-2 c κs =
+    let x = c .before .before .before .before .before .before .before .before .before .before .before .before .before .before .before .before .before .before .args .sheet in
+    let packed = c .before .before .before .before .before .before .before .before .before .before .before .before .before .before .before .before .before .before .args .packed .now in
+    let cs = map orOf (clausesAt (x .ors) (orsIn packed)) in
+    let ds = map oneOf (clausesAt (x .oneofs) (oneofsIn packed)) in
+    (oneofs-fit _ _ (c .before .before .before .before .before .before .before .before .before .before .before .before .before .before .before .before .before .before .pre .0), first-grown (x .known) _ _ (c .before .before .before .before .before .before .before .before .before .before .before .before .before .before .before .before .before .before .pre .1) cs ds _ _ _ (c .before .before .before .before .before .before .before .before .before .before .grow-all .ensures) _ (c .before .before .before .before .count .given .1))
 
--- src/starts.rt:343:26
 enum-known-number : tie.Need-enum-known-number
 enum-known-number c = search needs
 
--- src/starts.rt:324:1
 same-length : tie.Need-same-length
-same-length c = ?
+same-length c = c .before .before .before .before .grow-all2 .kept .1 .1 .1 .0 ∙ c .before .before .before .before .before .before .before .before .before .before .before .before .before .before .before .grow-all .kept .1 .1 .1 .0 ∙ simp length-set
 
--- src/starts.rt:324:1
 same-length-2 : tie.Need-same-length-2
-same-length-2 c = ?
+same-length-2 c = c .before .before .before .before .grow-all2 .kept .1 .1 .1 .1 .0 ∙ c .before .before .before .before .before .before .before .before .before .before .before .before .before .before .before .grow-all .kept .1 .1 .1 .1 .0 ∙ simp length-set
 
--- src/starts.rt:324:1
 returns : tie.Need-returns
-returns c = ?
+unfolding startTable startClauses problemIn
+returns c =
+    let x = c .before .before .before .before .before .before .before .before .before .before .before .before .before .before .before .before .before .before .before .before .before .before .before .args .sheet in
+    let packed = c .before .before .before .before .before .before .before .before .before .before .before .before .before .before .before .before .before .before .before .before .before .before .before .args .packed .now in
+    let cs = map orOf (clausesAt (x .ors) (orsIn packed)) in
+    let ds = map oneOf (clausesAt (x .oneofs) (oneofsIn packed)) in
+    c .before .before .before .before .grow-all2 .ensures ∙ ap (orGiven (tableOf [])) (first-on (x .known) _ _ (c .before .before .before .before .before .before .before .before .before .before .before .before .before .before .before .before .before .before .before .before .before .before .before .pre .1) cs ds _ _ _ (c .before .before .before .before .before .before .before .before .before .before .before .before .before .before .before .grow-all .ensures) _ (c .before .before .before .before .before .before .before .before .before .count .given .1))
 
--- src/starts.rt:324:1
 same-length-3 : tie.Need-same-length-3
-same-length-3 c = ?
+same-length-3 c = c .before .before .before .before .before .before .before .grow-all .kept .1 .1 .1 .0 ∙ simp length-set
 
--- src/starts.rt:324:1
 same-length-4 : tie.Need-same-length-4
-same-length-4 c = ?
+same-length-4 c = c .before .before .before .before .before .before .before .grow-all .kept .1 .1 .1 .1 .0 ∙ simp length-set
 
--- src/starts.rt:324:1
 returns-2 : tie.Need-returns-2
-returns-2 c = ?
+unfolding startTable startClauses problemIn
+returns-2 c =
+    let x = c .before .before .before .before .before .before .before .before .before .before .before .before .before .before .before .args .sheet in
+    let packed = c .before .before .before .before .before .before .before .before .before .before .before .before .before .before .before .args .packed .now in
+    let cs = map orOf (clausesAt (x .ors) (orsIn packed)) in
+    let ds = map oneOf (clausesAt (x .oneofs) (oneofsIn packed)) in
+    first-refused (x .known) _ _ (c .before .before .before .before .before .before .before .before .before .before .before .before .before .before .before .pre .1) cs ds _ _ _ (c .before .before .before .before .before .before .before .grow-all .ensures) _ (c .before .number .given .1)
 
 pub first-into-spec : {M : Type 1} → statement M
 first-into-spec =
