@@ -2,7 +2,7 @@
 use mathlib.Core.Path.{_≡_}
 use mathlib.Core.Bool.{Bool, _||_}
 use mathlib.Core.List.{List}
-use Prim.Native.Nat.{ℕ, _+_, _≤_}
+use Prim.Native.Nat.{ℕ, _+_, _*_, _≤_}
 use lib.ListN.{length, getD}
 use Rattle.sheet.specs.declared.Literals.{Literals}
 use Rattle.sheet.specs.declared.Sheet.{Sheet}
@@ -12,13 +12,14 @@ use Rattle.sheet.specs.Lists.{All}
 use Rattle.sheet.specs.Problem.{Action}
 use Rattle.sheet.specs.Encoding.{ProperAction, ProperStatement}
 use Rattle.sheet.specs.Decoded.{statementIn}
+use Rattle.sheet.specs.Packed.{countOf, actionOf}
 use Rattle.table.specs.declared.Table.{Table}
 use Rattle.table.specs.declared.TableAnswer.{TableAnswer}
 use Rattle.table.specs.declared.starts.Started.{Started}
 use Rattle.table.specs.declared.starts.Started.the-variants as started
 use Rattle.table.specs.declared.steps.Stepped.{Stepped}
 use Rattle.table.specs.declared.steps.Stepped.the-variants as stepped
-use Rattle.table.specs.Slots.{entries}
+use Rattle.table.specs.Slots.{entries, Room, Fresh}
 
 -- the set in slot i of two arrays
 unfoldable pub slot : List ℕ → List ℕ → ℕ → Literals
@@ -49,6 +50,14 @@ pub record Fits (a : Action) (t : Table) : Type 0 where
   pub entries-most : t .count ≤ 128
   pub action : ProperAction n a
   pub proper : All (Proper n) (entries t)
+
+-- what a step asks: the row of the move of a number, of at most eight effects, and the table, over the same propositions; arrays of zeros
+pub record StepFits (moves : List ℕ) (index : ℕ) (ts fs : List ℕ) (count : ℕ) (us gs : List ℕ) : Type 0 where
+  pub move-room : index * 35 + 35 ≤ length moves
+  pub effects-few : countOf moves index ≤ 8
+  pub fits : Fits (actionOf moves index) (lent count ts fs)
+  pub room : Room count ts fs
+  pub fresh : Fresh us gs
 
 -- a sheet that was read, with the rows of its or-clauses, its oneof-clauses, its goal and its moves
 pub record Filled (x : Sheet) (ors oneofs goal moves : List ℕ) : Type 0 where

@@ -37,10 +37,14 @@ step-at-requires c κs =
     let e = c .before .before .before .before .before .before .before .before .before .before .before .decode .ensures .0 in
     let a = c .before .before .before .before .before .before .before .before .before .enum-told .given .1 in
     let lt = c .before .before .before .before .before .before .if1 .left in
-    let f = its-fits _ _ _ _ _ _ e t _ a lt (sym (c .before .before .before .before .before .described .ensures) ∙ not-false _ (c .before .before .before .before .if2 .left)) in (
-      (omega (arith, its-room _ _ _ _ _ _ e t _ a lt), its-count _ _ _ _ _ _ e t _ a lt),
-      (f, ((omega (arith, f .entries-most, o .pre .0 .0), omega (arith, f .entries-most, o .pre .0 .1)), o .pre .1)),
-    )
+    let f = its-fits _ _ _ _ _ _ e t _ a lt (sym (c .before .before .before .before .before .described .ensures) ∙ not-false _ (c .before .before .before .before .if2 .left)) in
+    record {
+      move-room = omega (arith, its-room _ _ _ _ _ _ e t _ a lt);
+      effects-few = its-count _ _ _ _ _ _ e t _ a lt;
+      fits = f;
+      room = record { trues = omega (arith, f .entries-most, o .pre .0 .0); falses = omega (arith, f .entries-most, o .pre .0 .1) };
+      fresh = record { trues = o .pre .1 .0; falses = o .pre .1 .1 };
+    }
 
 returns-3 : tie.Need-returns-3
 returns-3 c = call-fault _ _ _ _ _ _ (c .before .before .before .decode .ensures .0) _ _ _ _ (c .before .answer .given .1)
