@@ -2,10 +2,11 @@
 use crate::steps::Stepped;
 use sheet::Answer;
 ghost use mathlib.Core.Path.{_≡_};
-ghost use lib.ListN.{length, replicate};
+ghost use lib.ListN.{length};
 ghost use Rattle.sheet.specs.Format.{sheetOf};
 ghost use Rattle.table.specs.Calls.{startOf, stepOf};
 ghost use Rattle.table.specs.Moves.{lent, stepAnswer};
+ghost use Rattle.table.specs.Slots.{TableRoom, Fresh};
 ghost use Rattle.table.specs.PictureCalls.{pictureOf, bufferOf};
 
 pub mod effects;
@@ -68,8 +69,8 @@ pub fn step_lent<'a, 'b, 'c>(
     to_trues: &'c mut [u32],
     to_falses: &'c mut [u32],
 ) -> Stepped
-    requires { ⌜ (length (now trues) ≡ 128) × (length (now falses) ≡ 128) ⌝ }
-    requires { ⌜ (now «to_trues» ≡ replicate 128 0) × (now «to_falses» ≡ replicate 128 0) ⌝ }
+    requires { ⌜ TableRoom (now trues) (now falses) ⌝ }
+    requires { ⌜ Fresh (now «to_trues») (now «to_falses») ⌝ }
     ensures { λ r. ⌜ stepAnswer (lent count (now (trues .entry)) (now (falses .entry))) r (now («to_trues» .exit)) (now («to_falses» .exit)) ≡ stepOf (sheetOf (now (bytes .entry))) (lent count (now (trues .entry)) (now (falses .entry))) index ⌝ }
 {
     let mut ors = [0u32; 136];

@@ -16,7 +16,7 @@ ghost use Rattle.sheet.specs.Literals as L;
 ghost use Rattle.sheet.specs.Lists.{anyOf, allOf, collect};
 ghost use Rattle.sheet.specs.Packed as R;
 ghost use Rattle.table.specs.Step as S;
-ghost use Rattle.table.specs.Slots.{entriesOf, Puts};
+ghost use Rattle.table.specs.Slots.{entriesOf, Room, Puts};
 ghost use Rattle.table.specs.Pairs as P;
 ghost use Rattle.table.specs.Moves as M;
 ghost use Rattle.table.specs.Carry.{Carried, Splits, Skips, SplitFits, BranchFits, BranchesFit, minus, partAt, carriedAt};
@@ -29,7 +29,7 @@ pub(crate) fn sure<'a>(
     falses: &'a [u32],
     count: usize,
 ) -> bool
-    requires { ⌜ (count ≤ length (now trues)) × (count ≤ length (now falses)) ⌝ }
+    requires { ⌜ Room count (now trues) (now falses) ⌝ }
     ensures { λ r. ⌜ r ≡ allOf (λ d. L.within precondition d) (entriesOf count (now (trues .entry)) (now (falses .entry))) ⌝ }
 {
     let mut i: usize = 0;
@@ -44,7 +44,7 @@ pub(crate) fn sure<'a>(
 
 // Some entry admits c: both together are consistent. The scan has no way out before its end, so that the compiler can test several at a time.
 pub(crate) fn admitted<'a>(c: Literals, trues: &'a [u32], falses: &'a [u32], count: usize) -> bool
-    requires { ⌜ (count ≤ length (now trues)) × (count ≤ length (now falses)) ⌝ }
+    requires { ⌜ Room count (now trues) (now falses) ⌝ }
     ensures { λ r. ⌜ r ≡ anyOf (λ d. L.consistent (L.join d c)) (entriesOf count (now (trues .entry)) (now (falses .entry))) ⌝ }
 {
     let mut found = false;
@@ -66,7 +66,7 @@ pub(crate) fn opposed<'a>(
     falses: &'a [u32],
     count: usize,
 ) -> bool
-    requires { ⌜ (count ≤ length (now trues)) × (count ≤ length (now falses)) ⌝ }
+    requires { ⌜ Room count (now trues) (now falses) ⌝ }
     ensures { λ r. ⌜ r ≡ anyOf (λ d. P.opposed e d f) (entriesOf count (now (trues .entry)) (now (falses .entry))) ⌝ }
 {
     if masks::clash(e.result, f.result) {
@@ -86,7 +86,7 @@ pub(crate) fn opposes<'a, 'b>(
     count: usize,
 ) -> bool
     requires { ⌜ 4 * size ≤ length (now effects) ⌝ }
-    requires { ⌜ (count ≤ length (now trues)) × (count ≤ length (now falses)) ⌝ }
+    requires { ⌜ Room count (now trues) (now falses) ⌝ }
     ensures { λ r. ⌜ r ≡ anyOf (λ f. anyOf (λ d. P.opposed e d f) (entriesOf count (now (trues .entry)) (now (falses .entry)))) (drop from (R.effectsAt size (now (effects .entry)))) ⌝ }
 {
     let mut j = from;
@@ -108,7 +108,7 @@ pub(crate) fn conflicting<'a, 'b>(
     count: usize,
 ) -> bool
     requires { ⌜ 4 * size ≤ length (now effects) ⌝ }
-    requires { ⌜ (count ≤ length (now trues)) × (count ≤ length (now falses)) ⌝ }
+    requires { ⌜ Room count (now trues) (now falses) ⌝ }
     ensures { λ r. ⌜ r ≡ anyOf (λ d. P.contradicts (R.effectsAt size (now (effects .entry))) d) (entriesOf count (now (trues .entry)) (now (falses .entry))) ⌝ }
 {
     let mut i: usize = 0;

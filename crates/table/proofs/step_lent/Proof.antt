@@ -42,8 +42,8 @@ step-at-requires c κs =
       move-room = omega (arith, its-room _ _ _ _ _ _ e t _ a lt);
       effects-few = its-count _ _ _ _ _ _ e t _ a lt;
       fits = f;
-      room = record { trues = omega (arith, f .entries-most, o .pre .0 .0); falses = omega (arith, f .entries-most, o .pre .0 .1) };
-      fresh = record { trues = o .pre .1 .0; falses = o .pre .1 .1 };
+      room = record { trues = omega (arith, f .entries-most, o .pre .0 .trues); falses = omega (arith, f .entries-most, o .pre .0 .falses) };
+      fresh = o .pre .1;
     }
 
 returns-3 : tie.Need-returns-3

@@ -67,7 +67,7 @@ returns : tie.Need-returns
 returns c = lent-unsure _ _ _ _ (c .before .before .before .before .before .before .before .before .before .before .before .before .pre .fits) _ (its-move (c .before .before .before)) (sym (c .before .sure .ensures) ∙ not-true _ (c .if1 .taken))
 
 conflicting-requires : tie.Need-conflicting-requires
-conflicting-requires c κs = (its-effects (c .before .before .before), (c .before .before .before .before .before .before .before .before .before .before .before .before .pre .room .trues, c .before .before .before .before .before .before .before .before .before .before .before .before .pre .room .falses))
+conflicting-requires c κs = (its-effects (c .before .before .before), c .before .before .before .before .before .before .before .before .before .before .before .before .pre .room)
 
 returns-2 : tie.Need-returns-2
 returns-2 c = lent-conflicting _ _ _ _ (c .before .before .before .before .before .before .before .before .before .before .before .before .before .before .pre .fits) _ (its-move (c .before .before .before .before .before)) (sym (c .before .before .before .sure .ensures) ∙ not-false _ (c .before .before .if1 .left)) (sym (c .before .conflicting .ensures) ∙ c .if2 .taken)
