@@ -227,12 +227,12 @@ pub(crate) fn split<'a, 'b>(
         let p = part(piece, condition, t);
         let s = skip_decided(effects, size, next, p, carried(results, e.result, t));
         if s.at < size {
-            let Grown::To(m) = split(effects, size, s, p, to_trues, to_falses, filled) else {
+            let Grown::To(grown) = split(effects, size, s, p, to_trues, to_falses, filled) else {
                 return Grown::Full;
             };
-            filled = m;
+            filled = grown;
         } else {
-            let Grown::To(m) = slots::offer_by_newest(
+            let Grown::To(grown) = slots::offer_by_newest(
                 to_trues,
                 to_falses,
                 filled,
@@ -240,7 +240,7 @@ pub(crate) fn split<'a, 'b>(
             ) else {
                 return Grown::Full;
             };
-            filled = m;
+            filled = grown;
         }
         t = masks::next(missing, t) + 1;
     }
@@ -287,10 +287,10 @@ pub(crate) fn branch_all<'a, 'b, 'c>(
     let mut i: usize = 0;
     while i < count {
         let entry = entry_at(trues, falses, i);
-        let Grown::To(m) = branch(effects, size, entry, to_trues, to_falses, filled) else {
+        let Grown::To(grown) = branch(effects, size, entry, to_trues, to_falses, filled) else {
             return Grown::Full;
         };
-        filled = m;
+        filled = grown;
         i += 1;
     }
     Grown::To(filled)

@@ -119,8 +119,8 @@ split-split-requires t c κs =
       },
     )
 
-split-enum-known-m : (t : ℕ) → split-lts.Need-enum-known-m (claims t) (split-at t) split.Post split-Inv-loop split-μ-loop
-split-enum-known-m t c = search needs
+split-enum-known-grown : (t : ℕ) → split-lts.Need-enum-known-grown (claims t) (split-at t) split.Post split-Inv-loop split-μ-loop
+split-enum-known-grown t c = search needs
 
 split-enum-told : (t : ℕ) → split-lts.Need-enum-told (claims t) (split-at t) split.Post split-Inv-loop split-μ-loop
 split-enum-told t c = search needs
@@ -145,8 +145,8 @@ split-replace-requires t c κs = search needs
 split-offer-by-newest-requires : (t : ℕ) → split-lts.Need-offer-by-newest-requires (claims t) (split-at t) split.Post split-Inv-loop split-μ-loop
 split-offer-by-newest-requires t c κs = held-own _ _ _ _ (c .before .before .before .before .before .before .before .before .before .loop .inv .1 .held)
 
-split-enum-known-m-2 : (t : ℕ) → split-lts.Need-enum-known-m-2 (claims t) (split-at t) split.Post split-Inv-loop split-μ-loop
-split-enum-known-m-2 t c = search needs
+split-enum-known-grown-2 : (t : ℕ) → split-lts.Need-enum-known-grown-2 (claims t) (split-at t) split.Post split-Inv-loop split-μ-loop
+split-enum-known-grown-2 t c = search needs
 
 split-enum-told-2 : (t : ℕ) → split-lts.Need-enum-told-2 (claims t) (split-at t) split.Post split-Inv-loop split-μ-loop
 split-enum-told-2 t c = search needs
@@ -216,14 +216,14 @@ pub +split-spec : {M : Type 1} → statement M
     (split-carried-requires t)
     (split-skip-decided-requires t)
     (split-split-requires t)
-    (split-enum-known-m t)
+    (split-enum-known-grown t)
     (split-enum-told t)
     (split-same-length t)
     (split-same-length-2 t)
     (split-returns t)
     (split-replace-requires t)
     (split-offer-by-newest-requires t)
-    (split-enum-known-m-2 t)
+    (split-enum-known-grown-2 t)
     (split-enum-told-2 t)
     (split-same-length-3 t)
     (split-same-length-4 t)

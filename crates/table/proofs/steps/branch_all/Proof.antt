@@ -47,8 +47,8 @@ branch-requires c κs =
       held = held-own _ _ _ _ (v .inv .1 .held);
     }
 
-enum-known-m : tie.Need-enum-known-m Inv-loop μ-loop
-enum-known-m c = search needs
+enum-known-grown : tie.Need-enum-known-grown Inv-loop μ-loop
+enum-known-grown c = search needs
 
 enum-told : tie.Need-enum-told Inv-loop μ-loop
 enum-told c = search needs
@@ -85,7 +85,7 @@ loop-again c =
       going-on _ _ _ _ _ _ _ _ _ _ _ _ _ (c .before .before .before .before .before .before .before .before .before .before .before .before .loop .inv .1)
           (entries-ways (effectsAt (a .size) (a .effects .now)) _ _ _
           (entries-next (a .count) (a .trues .now) (a .falses .now) (c .before .before .before .before .before .before .before .before .before .before .before .before .loop .i) (c .before .before .before .before .before .before .before .before .before .before .entry-at .result) (c .before .before .before .before .before .before .before .before .before .before .before .loop-test .taken) (c .before .before .before .before .before .before .before .before .before .before .entry-at .ensures)))
-          (c .before .before .before .before .before .before .before .branch .ensures) _ (c .before .m .given .1),
+          (c .before .before .before .before .before .before .before .branch .ensures) _ (c .before .grown .given .1),
     )
 
 same-length-3 : tie.Need-same-length-3 Inv-loop μ-loop
@@ -110,7 +110,7 @@ branch-all-spec =
     loop-holds
     entry-at-requires
     branch-requires
-    enum-known-m
+    enum-known-grown
     enum-told
     same-length
     same-length-2
