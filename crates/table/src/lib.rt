@@ -128,15 +128,15 @@ pub fn step(bytes: &[u8], table: Table, index: usize) -> TableAnswer
 }
 
 // The picture of a table, written into the buffer.
-pub fn picture(s: &[u8], table: Table, buffer: &mut [u8]) -> PictureAnswer
-    ensures { λ r. ⌜ r ≡ pictureOf (sheetOf (now (s .entry))) table (length (now (buffer .entry))) ⌝ }
-    ensures { λ r. ⌜ now (buffer .exit) ≡ bufferOf (sheetOf (now (s .entry))) table (now (buffer .entry)) ⌝ }
+pub fn picture(bytes: &[u8], table: Table, buffer: &mut [u8]) -> PictureAnswer
+    ensures { λ r. ⌜ r ≡ pictureOf (sheetOf (now (bytes .entry))) table (length (now (buffer .entry))) ⌝ }
+    ensures { λ r. ⌜ now (buffer .exit) ≡ bufferOf (sheetOf (now (bytes .entry))) table (now (buffer .entry)) ⌝ }
 {
     let mut ors = [0u32; 136];
     let mut oneofs = [0u32; 136];
     let mut goal = [0u32; 17];
     let mut moves = [0u32; 1120];
-    let decoded = sheet::decode(s, &mut ors, &mut oneofs, &mut goal, &mut moves);
+    let decoded = sheet::decode(bytes, &mut ors, &mut oneofs, &mut goal, &mut moves);
     let answer = decoded.answer;
     match answer {
         Answer::Refused(number, position) => picture_bytes::refuse_picture(number, position),
