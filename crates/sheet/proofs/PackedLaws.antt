@@ -107,6 +107,11 @@ pub item-lent : (w i : ℕ) (xs : List ℕ) → take (i * w + w - i * w) (drop (
 unfolding itemAt
 item-lent w i xs = let e : i * w + w - i * w ≡ w = omega arith in ap (λ (k : ℕ). take k (drop (i * w) xs)) e
 
+-- the masks of a move's effects
+pub effects-room : (i : ℕ) (xs : List ℕ) → i * 35 + 35 ≤ length xs → length (part 3 32 (itemAt 35 xs i)) ≡ 32
+unfolding itemAt
+effects-room i xs room = part-long 3 32 (part (i * 35) 35 xs) (omega (arith, part-long (i * 35) 35 xs room))
+
 module _ {A : Type 0} (w : ℕ) (f : List ℕ → A) where
   items-none : (zs : List ℕ) → itemsAt w f 0 zs ≡ []
   unfolding itemsAt

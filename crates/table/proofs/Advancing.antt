@@ -28,7 +28,7 @@ use Rattle.table.specs.Worlds.{results}
 use Rattle.table.specs.Minimal.{described, putAll, Outcome, refused}
 use Rattle.table.specs.Step.{pieces, image, orFull, stepClear, stepSure, stepTable}
 use Rattle.table.specs.Pairs.{contradicts}
-use Rattle.table.specs.Slots.{pairs, entriesOf, entries, tableOf, Grew, Held, Puts}
+use Rattle.table.specs.Slots.{pairs, entriesOf, entries, tableOf, Fresh, Grew, Held, Puts}
 use Rattle.table.specs.Calls.{orGiven, actionAt, stepKnown, stepMove, stepOf}
 use Rattle.table.specs.declared.steps.Stepped.{Stepped}
 use Rattle.table.specs.declared.steps.Stepped.the-variants as moved
@@ -106,53 +106,61 @@ module _ (a : Action) (t : Table) (h : Fits a t) where
           (λ j. record { answer = Accepted; table = record { count = f .count-is j; trues = f .trues-are j; falses = f .falses-are j } })
           ∙ sym (ap (orGiven t) (by-clear false u ∙ ap orFull (g .0)))
 
--- ---- the same in lent arrays, into arrays of zeros
-module _ (us gs : List ℕ) (e : us ≡ replicate 128 0) (f : gs ≡ replicate 128 0) where
-  pub fresh-held : Held (length us) 0 us gs
-  fresh-held = subst (λ (x : List ℕ). Held (length x) 0 x gs) (sym e) (subst (λ (y : List ℕ). Held 128 0 (replicate 128 0) y) (sym f) (fresh 128))
+-- ---- the same in lent arrays, into arrays of zeros, by what was read of a move
+pub fresh-held : (us gs : List ℕ) → Fresh us gs → Held (length us) 0 us gs
+fresh-held us gs z =
+    subst (λ (x : List ℕ). Held (length x) 0 x gs) (sym (z .trues)) (subst (λ (y : List ℕ). Held 128 0 (replicate 128 0) y) (sym (z .falses)) (fresh 128))
 
-  fresh-puts : (cs : List Literals) (r : Grown) (vs hs : List ℕ) → Puts cs 0 us gs r vs hs → Puts cs 0 (replicate 128 0) (replicate 128 0) r vs hs
-  fresh-puts cs r vs hs p = subst (λ (y : List ℕ). Puts cs 0 (replicate 128 0) y r vs hs) f (subst (λ (x : List ℕ). Puts cs 0 x gs r vs hs) e p)
+fresh-puts : (us gs : List ℕ) → Fresh us gs → (cs : List Literals) (r : Grown) (vs hs : List ℕ) → Puts cs 0 us gs r vs hs → Puts cs 0 (replicate 128 0) (replicate 128 0) r vs hs
+fresh-puts us gs z cs r vs hs p =
+    subst (λ (y : List ℕ). Puts cs 0 (replicate 128 0) y r vs hs) (z .falses) (subst (λ (x : List ℕ). Puts cs 0 x gs r vs hs) (z .trues) p)
 
-module _ (a : Action) (n : ℕ) (ts fs : List ℕ) (h : Fits a (lent n ts fs)) where
+module _ (a : Action) (n : ℕ) (ts fs : List ℕ) (h : Fits a (lent n ts fs)) (b : Action) (is : b ≡ a) where
   abbrev given : Table
   given = lent n ts fs
 
   abbrev due : TableAnswer
   due = orGiven given (stepTable 128 a (entriesOf n ts fs))
 
-  -- no condition and no entry contradicts itself
-  pub lent-steady : Steady (a .effects) × All (λ d. consistent d ≡ true) (entriesOf n ts fs)
+  fits : Fits b given
+  fits = subst (λ (x : Action). Fits x given) (sym is) h
+
+  due-is : orGiven given (stepTable 128 b (entriesOf n ts fs)) ≡ due
+  due-is = ap (λ (x : Action). orGiven given (stepTable 128 x (entriesOf n ts fs))) is
+
+  -- no condition contradicts itself
+  pub effects-steady : Steady (b .effects)
+  effects-steady = all-map (ProperEffect (fits .n)) (λ e. consistent (e .condition) ≡ true) (λ e x. proper-consistent (fits .n) (e .condition) (x .condition .proper)) (b .effects) (fits .action .effects .each)
+
+  -- no entry contradicts itself
+  pub entries-steady : All (λ d. consistent d ≡ true) (entriesOf n ts fs)
   unfolding entries
-  lent-steady = (
-    all-map (ProperEffect (h .n)) (λ e. consistent (e .condition) ≡ true) (λ e x. proper-consistent (h .n) (e .condition) (x .condition .proper)) (a .effects) (h .action .effects .each),
-    all-map (Proper (h .n)) (λ d. consistent d ≡ true) (proper-consistent (h .n)) (entriesOf n ts fs) (h .proper),
-  )
+  entries-steady = all-map (Proper (h .n)) (λ d. consistent d ≡ true) (proper-consistent (h .n)) (entriesOf n ts fs) (h .proper)
 
-  pub lent-unsure : allOf (λ d. within (a .precondition) d) (entriesOf n ts fs) ≡ false → stepAnswer given (moved.Refused 24 0) [] [] ≡ due
+  pub lent-unsure : allOf (λ d. within (b .precondition) d) (entriesOf n ts fs) ≡ false → stepAnswer given (moved.Refused 24 0) [] [] ≡ due
   unfolding entries orGiven
-  lent-unsure s = sym (ap (orGiven given) (unsure a given h s))
+  lent-unsure s = sym (ap (orGiven given) (unsure b given fits s)) ∙ due-is
 
-  module _ (s : allOf (λ d. within (a .precondition) d) (entriesOf n ts fs) ≡ true) where
-    pub lent-conflicting : anyOf (λ d. contradicts (a .effects) d) (entriesOf n ts fs) ≡ true → stepAnswer given (moved.Refused 25 0) [] [] ≡ due
+  module _ (s : allOf (λ d. within (b .precondition) d) (entriesOf n ts fs) ≡ true) where
+    pub lent-conflicting : anyOf (λ d. contradicts (b .effects) d) (entriesOf n ts fs) ≡ true → stepAnswer given (moved.Refused 25 0) [] [] ≡ due
     unfolding entries orGiven
-    lent-conflicting u = sym (ap (orGiven given) (unclear a given h s u))
+    lent-conflicting u = sym (ap (orGiven given) (unclear b given fits s u)) ∙ due-is
 
-    module _ (u : anyOf (λ d. contradicts (a .effects) d) (entriesOf n ts fs) ≡ false) (us gs : List ℕ) (e : us ≡ replicate 128 0) (f : gs ≡ replicate 128 0)
-        (r : Grown) (vs hs : List ℕ) (w : Puts (map (image (a .effects)) (collect (pieces (a .effects)) (entriesOf n ts fs))) 0 us gs r vs hs) where
+    module _ (u : anyOf (λ d. contradicts (b .effects) d) (entriesOf n ts fs) ≡ false) (us gs : List ℕ) (z : Fresh us gs)
+        (r : Grown) (vs hs : List ℕ) (w : Puts (map (image (b .effects)) (collect (pieces (b .effects)) (entriesOf n ts fs))) 0 us gs r vs hs) where
       pub lent-full : r ≡ grown.Full → stepAnswer given (moved.Refused 21 0) vs hs ≡ due
       unfolding entries orGiven
-      lent-full q = sym (ap (orGiven given) (overfull a given h s u r vs hs (fresh-puts us gs e f _ r vs hs w) q))
+      lent-full q = sym (ap (orGiven given) (overfull b given fits s u r vs hs (fresh-puts us gs z _ r vs hs w) q)) ∙ due-is
 
       pub lent-to : (k : ℕ) → r ≡ grown.To k → stepAnswer given (moved.To k) vs hs ≡ due
       unfolding entries
-      lent-to k q = stepped a given h s u r vs hs (fresh-puts us gs e f _ r vs hs w) k q
+      lent-to k q = stepped b given fits s u r vs hs (fresh-puts us gs z _ r vs hs w) k q ∙ due-is
 
--- ---- the move of a number, laid out among others
-pub action-is : (moves : List ℕ) (m : ℕ) (row : List ℕ) (p : Literals) (size : ℕ) → row ≡ itemAt 35 moves m → p ≡ setFrom row 0 → size ≡ countIn row
-    → actionBy p size (take 32 (drop 3 row)) ≡ actionOf moves m
+-- what was read of the row of a move is the move
+pub action-is : (moves : List ℕ) (m : ℕ) (item : List ℕ) (p : Literals) (size : ℕ) → item ≡ itemAt 35 moves m → p ≡ setFrom item 0 → size ≡ countIn item
+    → actionBy p size (take 32 (drop 3 item)) ≡ actionOf moves m
 unfolding actionFrom
-action-is moves m row p size r a b = ap₂ (λ (q : Literals) (n : ℕ). actionBy q n (take 32 (drop 3 row))) a b ∙ ap actionFrom r
+action-is moves m item p size r a b = ap₂ (λ (q : Literals) (n : ℕ). actionBy q n (take 32 (drop 3 item))) a b ∙ ap actionFrom r
 
 -- ---- the call on bytes
 module _ (s : List ℕ) (d : Decoded) (packed : List ℕ) (e : judgementIn d packed ≡ sheetOf s) (t : Table) (i : ℕ) where
@@ -192,8 +200,8 @@ module _ (s : List ℕ) (d : Decoded) (packed : List ℕ) (e : judgementIn d pac
       its-action : ProperAction (x .n) its
       its-action = item-of-all 35 actionFrom (ProperAction (x .n)) (x .moves) (movesIn packed) i lt (moves-proper x packed proper)
 
-      pub its-room : i * 35 + 35 ≤ 1120
-      its-room = omega (arith, moves-few x packed proper .1)
+      pub its-most : i < 32
+      its-most = omega (arith, lt, moves-few x packed proper .1)
 
       pub its-count : countOf (movesIn packed) i ≤ 8
       unfolding actionFrom

@@ -21,7 +21,8 @@ use Rattle.table.specs.Step.{pieces, image}
 use Rattle.table.specs.declared.slots.Grown.{Grown}
 use Rattle.table.specs.declared.steps.Undecided.{Undecided}
 use Rattle.table.specs.Slots.{Puts}
-use Rattle.table.specs.Carry.{Steady, Carried, Skips, minus, partAt, carriedAt}
+use Rattle.table.specs.Carry.{Steady, Carried, Skips, partAt, carriedAt}
+use Rattle.sheet.specs.Literals.{minus}
 use Rattle.table.proofs.Growing.{puts-is}
 use Rattle.table.proofs.Lacking.{contains-lacks}
 use Rattle.table.proofs.Walks.{Turn, at-leaf, at-whole}

@@ -19,7 +19,7 @@ use Rattle.table.specs.Slots.{Puts}
 use Rattle.table.specs.Start.{falsify, Pick, picks, candidates, oneOf}
 use Rattle.table.specs.Reads.{others}
 use Rattle.table.specs.Step.{missing}
-use Rattle.table.specs.Carry.{minus}
+use Rattle.sheet.specs.Literals.{minus}
 use Rattle.table.proofs.Lacking.{contains-lacks, members-lacks, members-first}
 use Rattle.sheet.specs.Packed.{setsAt}
 use Rattle.table.proofs.Compact.{keep-append}

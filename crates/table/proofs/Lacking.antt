@@ -11,7 +11,7 @@ use Rattle.sheet.proofs.Bits.{has-minus}
 use Rattle.sheet.proofs.LiteralSets.{single-is, within-refl}
 use Rattle.sheet.proofs.Bytes.{byte-of, within-literal, down, members-end, members-here, members-step, members-cons}
 use Rattle.table.specs.Step.{missing}
-use Rattle.table.specs.Carry.{minus}
+use Rattle.sheet.specs.Literals.{minus}
 
 module _ (c d : Literals) where
   mem-lacks : (s : Bool) (p : ℕ) → mem (minus c d) s p ≡ (mem c s p && not (mem d s p))

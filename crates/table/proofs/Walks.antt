@@ -11,7 +11,8 @@ use Rattle.sheet.specs.Literals.{join, flip, literal, within, clash, next, memb
 use Rattle.sheet.specs.Lists.{collect}
 use Rattle.sheet.proofs.Bytes.{scan, next-end, next-here, next-step, next-next, next-ge, members-next, members-loop, members-end}
 use Rattle.table.specs.Step.{splitBy, split, pieces, image}
-use Rattle.table.specs.Carry.{minus, partAt}
+use Rattle.table.specs.Carry.{partAt}
+use Rattle.sheet.specs.Literals.{minus}
 use Rattle.table.proofs.Lacking.{members-lacks}
 use Rattle.table.proofs.Growing.{Going}
 

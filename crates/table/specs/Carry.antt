@@ -2,16 +2,17 @@
 use mathlib.Core.Path.{_≡_}
 use mathlib.Core.Bool.{true, false}
 use mathlib.Core.List.{List}
-use Prim.Native.Nat.{ℕ, zero, suc, _-_, _≤_}
-use lib.Bits.{bitAnd}
-use lib.ListN.{take, drop}
+use Prim.Native.Nat.{ℕ, zero, suc, _-_, _*_, _≤_, _<_}
+use lib.ListN.{length, take, drop}
 use Rattle.sheet.specs.declared.Literals.{Literals}
 use Rattle.sheet.specs.declared.Effect.{Effect}
 use Rattle.sheet.specs.Literals.{within, clash, consistent, join, flip, literal}
 use Rattle.sheet.specs.Lists.{All}
+use Rattle.sheet.specs.Packed.{effectAt, effectsAt}
 use Rattle.table.specs.declared.steps.Undecided.{Undecided}
 use Rattle.table.specs.Worlds.{results}
 use Rattle.table.specs.Step.{pieces}
+use Rattle.table.specs.Slots.{entriesOf, Room, Held}
 
 -- each condition is consistent
 abbrev pub Steady : List Effect → Type 0
@@ -34,11 +35,29 @@ pub record Skips (es : List Effect) (at : ℕ) (piece : Literals) (r : Undecided
   pub carried : Carried es (r .at) piece (r .results)
   pub whole : pieces (drop (r .at) es) piece ≡ pieces (drop at es) piece
 
--- ---- the parts of a piece that a condition splits
--- the literals of c that are not in d
-unfoldable pub minus : Literals → Literals → Literals
-minus c d = record { trues = c .trues - bitAnd (c .trues) (d .trues); falses = c .falses - bitAnd (c .falses) (d .falses) }
+-- ---- what branching asks of the effects in a row of masks, of what it branches, and of the count entries that the images are put after
+pub record SplitFits (effects : List ℕ) (size : ℕ) (u : Undecided) (piece : Literals) (ts fs : List ℕ) (count : ℕ) : Type 0 where
+  pub effects-room : 4 * size ≤ length effects
+  pub below : u .at < size
+  pub splits : Splits (effectAt effects (u .at) .condition) piece
+  pub carried : Carried (effectsAt size effects) (u .at) piece (u .results)
+  pub held : Held (length ts) count ts fs
 
+pub record BranchFits (effects : List ℕ) (size : ℕ) (entry : Literals) (ts fs : List ℕ) (count : ℕ) : Type 0 where
+  pub effects-room : 4 * size ≤ length effects
+  pub steady : Steady (effectsAt size effects)
+  pub entry-steady : consistent entry ≡ true
+  pub held : Held (length ts) count ts fs
+
+-- all entries of a table, into arrays with no entry
+pub record BranchesFit (effects : List ℕ) (size : ℕ) (ts fs : List ℕ) (count : ℕ) (us gs : List ℕ) : Type 0 where
+  pub effects-room : 4 * size ≤ length effects
+  pub steady : Steady (effectsAt size effects)
+  pub room : Room count ts fs
+  pub entries-steady : All (λ d. consistent d ≡ true) (entriesOf count ts fs)
+  pub held : Held (length us) 0 us gs
+
+-- ---- the parts of a piece that a condition splits
 -- part 0 is d with all of c, part l + 1 is d with the complement of the literal l
 unfoldable pub partAt : Literals → Literals → ℕ → Literals
 partAt d c zero = join d c

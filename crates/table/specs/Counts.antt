@@ -7,7 +7,13 @@ use lib.ListN.{length}
 use Rattle.sheet.specs.declared.Literals.{Literals}
 use Rattle.sheet.specs.Lists.{pad}
 use Rattle.table.specs.declared.picture_clauses.Clauses.{Clauses}
-use Rattle.table.specs.Slots.{trues-of, falses-of}
+use Rattle.table.specs.Slots.{trues-of, falses-of, Room, Held}
+
+-- what joining two lists of clauses asks: their slots, and arrays with no clause
+pub record JoinFits (ts fs : List ℕ) (count : ℕ) (us vs : List ℕ) (others : ℕ) (trues falses : List ℕ) : Type 0 where
+  pub room : Room count ts fs
+  pub others-room : Room others us vs
+  pub held : Held (length trues) 0 trues falses
 
 -- clauses with zeros after them; all zero where they were too many
 unfoldable pub clauseSlots : Option (List Literals) → Clauses

@@ -2,7 +2,7 @@
 use mathlib.Core.Path.{_≡_}
 use mathlib.Core.Bool.{Bool, _||_}
 use mathlib.Core.List.{List}
-use Prim.Native.Nat.{ℕ, _+_, _≤_}
+use Prim.Native.Nat.{ℕ, _+_, _<_, _≤_}
 use lib.ListN.{length, getD}
 use Rattle.sheet.specs.declared.Literals.{Literals}
 use Rattle.sheet.specs.declared.Answer.the-variants.{Accepted, Refused}
@@ -10,11 +10,12 @@ use Rattle.sheet.specs.Literals.{within, Proper}
 use Rattle.sheet.specs.Lists.{All}
 use Rattle.sheet.specs.Problem.{Action}
 use Rattle.sheet.specs.Encoding.{ProperAction}
+use Rattle.sheet.specs.Packed.{movesIn, countOf, actionOf}
 use Rattle.table.specs.declared.Table.{Table}
 use Rattle.table.specs.declared.TableAnswer.{TableAnswer}
 use Rattle.table.specs.declared.steps.Stepped.{Stepped}
 use Rattle.table.specs.declared.steps.Stepped.the-variants as stepped
-use Rattle.table.specs.Slots.{entries}
+use Rattle.table.specs.Slots.{entries, Room, Fresh}
 
 -- the set in slot i of two arrays
 unfoldable pub slot : List ℕ → List ℕ → ℕ → Literals
@@ -40,3 +41,13 @@ pub record Fits (a : Action) (t : Table) : Type 0 where
   pub entries-most : t .count ≤ 128
   pub action : ProperAction n a
   pub proper : All (Proper n) (entries t)
+
+-- what a step asks: the packed array with the move of a number, of at most eight effects, and the table, over the same propositions; arrays of
+-- zeros
+pub record StepFits (packed : List ℕ) (index : ℕ) (ts fs : List ℕ) (count : ℕ) (us gs : List ℕ) : Type 0 where
+  pub long : length packed ≡ 1409
+  pub move-most : index < 32
+  pub effects-few : countOf (movesIn packed) index ≤ 8
+  pub fits : Fits (actionOf (movesIn packed) index) (lent count ts fs)
+  pub room : Room count ts fs
+  pub fresh : Fresh us gs

@@ -2,15 +2,14 @@
 use crate::steps::Stepped;
 use sheet::Answer;
 use sheet::packed::LENGTH;
-use sheet::packed::MOVES;
 ghost use mathlib.Core.Path.{_≡_};
-ghost use lib.ListN.{length, replicate};
+ghost use lib.ListN.{length};
 ghost use Rattle.sheet.specs.Format.{sheetOf};
 ghost use Rattle.table.specs.Calls.{startOf, stepOf};
 ghost use Rattle.table.specs.Moves.{lent, stepAnswer};
+ghost use Rattle.table.specs.Slots.{TableRoom, Fresh};
 ghost use Rattle.table.specs.PictureCalls.{pictureOf, bufferOf};
 
-pub mod effects;
 pub mod picture_bytes;
 pub mod picture_clauses;
 pub mod picture_order;
@@ -39,11 +38,11 @@ pub struct PictureAnswer {
 }
 
 // The first table of a sheet.
-pub fn start(s: &[u8]) -> TableAnswer
-    ensures { λ r. ⌜ r ≡ startOf (sheetOf (now (s .entry))) ⌝ }
+pub fn start(bytes: &[u8]) -> TableAnswer
+    ensures { λ r. ⌜ r ≡ startOf (sheetOf (now (bytes .entry))) ⌝ }
 {
     let mut packed = [0u32; LENGTH];
-    let decoded = sheet::decode(s, &mut packed);
+    let decoded = sheet::decode(bytes, &mut packed);
     let answer = decoded.answer;
     match answer {
         Answer::Refused(number, position) => starts::refuse_start(number, position),
@@ -66,8 +65,8 @@ pub fn step_lent<'a, 'b, 'c>(
     to_trues: &'c mut [u32],
     to_falses: &'c mut [u32],
 ) -> Stepped
-    requires { ⌜ (length (now trues) ≡ 128) × (length (now falses) ≡ 128) ⌝ }
-    requires { ⌜ (now «to_trues» ≡ replicate 128 0) × (now «to_falses» ≡ replicate 128 0) ⌝ }
+    requires { ⌜ TableRoom (now trues) (now falses) ⌝ }
+    requires { ⌜ Fresh (now «to_trues») (now «to_falses») ⌝ }
     ensures { λ r. ⌜ stepAnswer (lent count (now (trues .entry)) (now (falses .entry))) r (now («to_trues» .exit)) (now («to_falses» .exit)) ≡ stepOf (sheetOf (now (bytes .entry))) (lent count (now (trues .entry)) (now (falses .entry))) index ⌝ }
 {
     let mut packed = [0u32; LENGTH];
@@ -83,8 +82,9 @@ pub fn step_lent<'a, 'b, 'c>(
             if !tables::described(sheet.n, trues, falses, count) {
                 return Stepped::Refused(22, 0);
             }
-            let moves = &packed[MOVES..LENGTH];
-            steps::step_at(moves, index, trues, falses, count, to_trues, to_falses)
+            // A reference to the whole array: its type has the length.
+            let packed = &packed;
+            steps::step_at(packed, index, trues, falses, count, to_trues, to_falses)
         }
     }
 }
@@ -121,12 +121,12 @@ pub fn step(bytes: &[u8], table: Table, index: usize) -> TableAnswer
 }
 
 // The picture of a table, written into the buffer.
-pub fn picture(s: &[u8], table: Table, buffer: &mut [u8]) -> PictureAnswer
-    ensures { λ r. ⌜ r ≡ pictureOf (sheetOf (now (s .entry))) table (length (now (buffer .entry))) ⌝ }
-    ensures { λ r. ⌜ now (buffer .exit) ≡ bufferOf (sheetOf (now (s .entry))) table (now (buffer .entry)) ⌝ }
+pub fn picture(bytes: &[u8], table: Table, buffer: &mut [u8]) -> PictureAnswer
+    ensures { λ r. ⌜ r ≡ pictureOf (sheetOf (now (bytes .entry))) table (length (now (buffer .entry))) ⌝ }
+    ensures { λ r. ⌜ now (buffer .exit) ≡ bufferOf (sheetOf (now (bytes .entry))) table (now (buffer .entry)) ⌝ }
 {
     let mut packed = [0u32; LENGTH];
-    let decoded = sheet::decode(s, &mut packed);
+    let decoded = sheet::decode(bytes, &mut packed);
     let answer = decoded.answer;
     match answer {
         Answer::Refused(number, position) => picture_bytes::refuse_picture(number, position),

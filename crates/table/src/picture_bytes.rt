@@ -10,35 +10,35 @@ ghost use Prim.Native.Nat.{_+_, _*_, _≤_};
 ghost use lib.ListN.{length, take, drop};
 ghost use Rattle.table.specs.Minimal as M;
 ghost use Rattle.table.specs.Picture as P;
-ghost use Rattle.table.specs.Slots.{entriesOf};
+ghost use Rattle.table.specs.Slots.{entriesOf, Room, TableRoom};
 ghost use Rattle.table.specs.PictureCalls.{refusal, given, written};
 
 // A mask in four bytes, high byte first.
-pub(crate) fn write_mask(buffer: &mut [u8], at: usize, m: u32)
+pub(crate) fn write_mask(buffer: &mut [u8], at: usize, mask: u32)
     requires { ⌜ at + 4 ≤ length (now buffer) ⌝ }
-    ensures { λ r. ⌜ now (buffer .exit) ≡ take at (now (buffer .entry)) ++ P.maskBytes m (drop (at + 4) (now (buffer .entry))) ⌝ }
+    ensures { λ r. ⌜ now (buffer .exit) ≡ take at (now (buffer .entry)) ++ P.maskBytes mask (drop (at + 4) (now (buffer .entry))) ⌝ }
 {
-    buffer[at] = (m / 16777216 % 256) as u8;
-    buffer[at + 1] = (m / 65536 % 256) as u8;
-    buffer[at + 2] = (m / 256 % 256) as u8;
-    buffer[at + 3] = (m % 256) as u8;
+    buffer[at] = (mask / 16777216 % 256) as u8;
+    buffer[at + 1] = (mask / 65536 % 256) as u8;
+    buffer[at + 2] = (mask / 256 % 256) as u8;
+    buffer[at + 3] = (mask % 256) as u8;
 }
 
 // The count in two bytes, then the masks of each clause. Later bytes are kept.
 pub(crate) fn write_picture<'a, 'b>(
     trues: &'a [u32],
     falses: &'a [u32],
-    n: usize,
+    count: usize,
     buffer: &'b mut [u8],
 )
-    requires { ⌜ (n ≤ length (now trues)) × (n ≤ length (now falses)) ⌝ }
-    requires { ⌜ (n ≤ 256) × (2 + 8 * n ≤ length (now buffer)) ⌝ }
-    ensures { λ r. ⌜ now (buffer .exit) ≡ P.pictureBytes (entriesOf n (now (trues .entry)) (now (falses .entry))) ++ drop (2 + 8 * n) (now (buffer .entry)) ⌝ }
+    requires { ⌜ Room count (now trues) (now falses) ⌝ }
+    requires { ⌜ (count ≤ 256) × (2 + 8 * count ≤ length (now buffer)) ⌝ }
+    ensures { λ r. ⌜ now (buffer .exit) ≡ P.pictureBytes (entriesOf count (now (trues .entry)) (now (falses .entry))) ++ drop (2 + 8 * count) (now (buffer .entry)) ⌝ }
 {
-    buffer[0] = (n / 256 % 256) as u8;
-    buffer[1] = (n % 256) as u8;
+    buffer[0] = (count / 256 % 256) as u8;
+    buffer[1] = (count % 256) as u8;
     let mut i: usize = 0;
-    while i < n {
+    while i < count {
         let at = 2 + 8 * i;
         write_mask(buffer, at, trues[i]);
         write_mask(buffer, at + 4, falses[i]);
@@ -64,24 +64,24 @@ pub(crate) fn draw<'a, 'b>(
     count: usize,
     buffer: &'b mut [u8],
 ) -> PictureAnswer
-    requires { ⌜ (length (now trues) ≡ 128) × (length (now falses) ≡ 128) ⌝ }
+    requires { ⌜ TableRoom (now trues) (now falses) ⌝ }
     ensures { λ r. ⌜ r ≡ cond (M.described 128 n (entriesOf count (now (trues .entry)) (now (falses .entry)))) (given (P.picture (entriesOf count (now (trues .entry)) (now (falses .entry)))) (length (now (buffer .entry)))) (refusal 22 0) ⌝ }
     ensures { λ r. ⌜ now (buffer .exit) ≡ cond (M.described 128 n (entriesOf count (now (trues .entry)) (now (falses .entry)))) (written (P.picture (entriesOf count (now (trues .entry)) (now (falses .entry)))) (now (buffer .entry))) (now (buffer .entry)) ⌝ }
 {
     if !described(n, trues, falses, count) {
         return refuse_picture(22, 0);
     }
-    let c = sorted_clauses(trues, falses, count);
-    if c.full {
+    let sorted = sorted_clauses(trues, falses, count);
+    if sorted.full {
         return refuse_picture(21, 0);
     }
-    let k = c.count;
-    if buffer.len() < 2 + 8 * k {
+    let clauses = sorted.count;
+    if buffer.len() < 2 + 8 * clauses {
         return refuse_picture(23, 0);
     }
-    write_picture(&c.trues, &c.falses, k, buffer);
+    write_picture(&sorted.trues, &sorted.falses, clauses, buffer);
     PictureAnswer {
         answer: Answer::Accepted,
-        clauses: k,
+        clauses,
     }
 }

@@ -15,8 +15,8 @@ ghost use lib.ListN.{length};
 ghost use Rattle.sheet.specs.Literals as L;
 ghost use Rattle.sheet.specs.Lists.{Any, keep};
 ghost use Rattle.table.specs.Picture as P;
-ghost use Rattle.table.specs.Slots.{entriesOf, Holds, Held, Puts};
-ghost use Rattle.table.specs.Counts.{clauseSlots, sizeOf};
+ghost use Rattle.table.specs.Slots.{entriesOf, Room, Holds, Held, Puts};
+ghost use Rattle.table.specs.Counts.{JoinFits, clauseSlots, sizeOf};
 
 // The clauses of a table, in the first count slots; none if they are too many.
 pub struct Clauses {
@@ -26,160 +26,197 @@ pub struct Clauses {
     pub falses: [u32; 256],
 }
 
-// The literals of e as one-literal clauses, ascending. The result is how many.
-pub(crate) fn units(e: Literals, trues: &mut [u32], falses: &mut [u32]) -> usize
-    requires { ⌜ Held (length (now trues)) 0 (now trues) (now falses) ⌝ }
-    requires { ⌜ 64 ≤ length (now trues) ⌝ }
-    ensures { λ r. ⌜ Holds (length (now (trues .entry))) (P.units e) r (now (trues .exit)) (now (falses .exit)) ⌝ }
+// The literals of an entry as one-literal clauses, ascending. The result is how many.
+pub(crate) fn units(entry: Literals, to_trues: &mut [u32], to_falses: &mut [u32]) -> usize
+    requires { ⌜ Held (length (now «to_trues»)) 0 (now «to_trues») (now «to_falses») ⌝ }
+    requires { ⌜ 64 ≤ length (now «to_trues») ⌝ }
+    ensures { λ r. ⌜ Holds (length (now («to_trues» .entry))) (P.units entry) r (now («to_trues» .exit)) (now («to_falses» .exit)) ⌝ }
 {
-    let mut n: usize = 0;
-    let mut l = next(e, 0);
+    let mut filled: usize = 0;
+    let mut l = next(entry, 0);
     while l < 64 {
         let one = literal(l);
-        trues[n] = one.trues;
-        falses[n] = one.falses;
-        n += 1;
-        l = next(e, l + 1);
+        to_trues[filled] = one.trues;
+        to_falses[filled] = one.falses;
+        filled += 1;
+        l = next(entry, l + 1);
     }
-    n
+    filled
 }
 
-// Puts the clause c joined with each of the first m clauses of us and vs.
+// Puts the clause joined with each of some others.
 pub(crate) fn put_joined<'a, 'b>(
-    c: Literals,
-    us: &'a [u32],
-    vs: &'a [u32],
-    m: usize,
-    trues: &'b mut [u32],
-    falses: &'b mut [u32],
-    n: usize,
+    clause: Literals,
+    other_trues: &'a [u32],
+    other_falses: &'a [u32],
+    others: usize,
+    to_trues: &'b mut [u32],
+    to_falses: &'b mut [u32],
+    count: usize,
 ) -> Grown
-    requires { ⌜ (m ≤ length (now us)) × (m ≤ length (now vs)) ⌝ }
-    requires { ⌜ Held (length (now trues)) n (now trues) (now falses) ⌝ }
-    ensures { λ r. ⌜ Puts (keep L.consistent (map (L.join c) (entriesOf m (now (us .entry)) (now (vs .entry))))) n (now (trues .entry)) (now (falses .entry)) r (now (trues .exit)) (now (falses .exit)) ⌝ }
+    requires { ⌜ Room others (now «other_trues») (now «other_falses») ⌝ }
+    requires { ⌜ Held (length (now «to_trues»)) count (now «to_trues») (now «to_falses») ⌝ }
+    ensures { λ r. ⌜ Puts (keep L.consistent (map (L.join clause) (entriesOf others (now («other_trues» .entry)) (now («other_falses» .entry))))) count (now («to_trues» .entry)) (now («to_falses» .entry)) r (now («to_trues» .exit)) (now («to_falses» .exit)) ⌝ }
 {
-    let mut count = n;
+    let mut filled = count;
     let mut i: usize = 0;
-    while i < m {
-        let u = Literals {
-            trues: us[i],
-            falses: vs[i],
+    while i < others {
+        let other = Literals {
+            trues: other_trues[i],
+            falses: other_falses[i],
         };
-        let Grown::To(k) = admit(trues, falses, count, join(c, u)) else {
+        let Grown::To(grown) = admit(to_trues, to_falses, filled, join(clause, other)) else {
             return Grown::Full;
         };
-        count = k;
+        filled = grown;
         i += 1;
     }
-    Grown::To(count)
+    Grown::To(filled)
 }
 
-// Some of the first m clauses of us and vs lies in c, and there is room for m clauses more.
-pub(crate) fn absorbs<'a>(c: Literals, us: &'a [u32], vs: &'a [u32], m: usize, room: usize) -> bool
-    requires { ⌜ (m ≤ length (now us)) × (m ≤ length (now vs)) ⌝ }
-    ensures { λ r. ⌜ (r ≡ true → Any (λ u. T (L.within u c)) (entriesOf m (now (us .entry)) (now (vs .entry))) × (m ≤ room)) ⌝ }
+// Some of the first count clauses lies in the given one, and there is room for count clauses more.
+pub(crate) fn absorbs<'a>(
+    clause: Literals,
+    trues: &'a [u32],
+    falses: &'a [u32],
+    count: usize,
+    room: usize,
+) -> bool
+    requires { ⌜ Room count (now trues) (now falses) ⌝ }
+    ensures { λ r. ⌜ (r ≡ true → Any (λ u. T (L.within u clause)) (entriesOf count (now (trues .entry)) (now (falses .entry))) × (count ≤ room)) ⌝ }
 {
-    if room < m {
+    if room < count {
         return false;
     }
-    some_within(us, vs, m, c)
+    some_within(trues, falses, count, clause)
 }
 
-// The same as `spread`. Where one of these clauses lies in c, c is among what is joined and lies in all of it: it is put alone, if there is
-// room for all.
+// The same as `put_joined`. Where one of the others lies in the clause, the clause is among what is joined and lies in all of it: it is put
+// alone, if there is room for all.
 pub(crate) fn distribute<'a, 'b>(
-    c: Literals,
-    us: &'a [u32],
-    vs: &'a [u32],
-    m: usize,
-    trues: &'b mut [u32],
-    falses: &'b mut [u32],
-    n: usize,
+    clause: Literals,
+    other_trues: &'a [u32],
+    other_falses: &'a [u32],
+    others: usize,
+    to_trues: &'b mut [u32],
+    to_falses: &'b mut [u32],
+    count: usize,
 ) -> Grown
-    requires { ⌜ (m ≤ length (now us)) × (m ≤ length (now vs)) ⌝ }
-    requires { ⌜ Held (length (now trues)) n (now trues) (now falses) ⌝ }
-    ensures { λ r. ⌜ Puts (keep L.consistent (map (L.join c) (entriesOf m (now (us .entry)) (now (vs .entry))))) n (now (trues .entry)) (now (falses .entry)) r (now (trues .exit)) (now (falses .exit)) ⌝ }
+    requires { ⌜ Room others (now «other_trues») (now «other_falses») ⌝ }
+    requires { ⌜ Held (length (now «to_trues»)) count (now «to_trues») (now «to_falses») ⌝ }
+    ensures { λ r. ⌜ Puts (keep L.consistent (map (L.join clause) (entriesOf others (now («other_trues» .entry)) (now («other_falses» .entry))))) count (now («to_trues» .entry)) (now («to_falses» .entry)) r (now («to_trues» .exit)) (now («to_falses» .exit)) ⌝ }
 {
-    if absorbs(c, us, vs, m, trues.len() - n) {
-        return admit(trues, falses, n, c);
+    let room = to_trues.len() - count;
+    if absorbs(clause, other_trues, other_falses, others, room) {
+        return admit(to_trues, to_falses, count, clause);
     }
-    put_joined(c, us, vs, m, trues, falses, n)
+    put_joined(
+        clause,
+        other_trues,
+        other_falses,
+        others,
+        to_trues,
+        to_falses,
+        count,
+    )
 }
 
-// Puts the first n clauses of ts and fs, each joined with the first m of us and vs, into fresh slices.
+// Puts each of the first count clauses joined with each of the others, into fresh slices.
 pub(crate) fn join_lists<'a, 'b, 'c>(
-    ts: &'a [u32],
-    fs: &'a [u32],
-    n: usize,
-    us: &'b [u32],
-    vs: &'b [u32],
-    m: usize,
-    trues: &'c mut [u32],
-    falses: &'c mut [u32],
+    trues: &'a [u32],
+    falses: &'a [u32],
+    count: usize,
+    other_trues: &'b [u32],
+    other_falses: &'b [u32],
+    others: usize,
+    to_trues: &'c mut [u32],
+    to_falses: &'c mut [u32],
 ) -> Grown
-    requires { ⌜ (n ≤ length (now ts)) × (n ≤ length (now fs)) ⌝ }
-    requires { ⌜ (m ≤ length (now us)) × (m ≤ length (now vs)) ⌝ }
-    requires { ⌜ Held (length (now trues)) 0 (now trues) (now falses) ⌝ }
-    ensures { λ r. ⌜ Puts (P.unions (entriesOf n (now (ts .entry)) (now (fs .entry))) (entriesOf m (now (us .entry)) (now (vs .entry)))) 0 (now (trues .entry)) (now (falses .entry)) r (now (trues .exit)) (now (falses .exit)) ⌝ }
+    requires { ⌜ JoinFits (now trues) (now falses) count (now «other_trues») (now «other_falses») others (now «to_trues») (now «to_falses») ⌝ }
+    ensures { λ r. ⌜ Puts (P.unions (entriesOf count (now (trues .entry)) (now (falses .entry))) (entriesOf others (now («other_trues» .entry)) (now («other_falses» .entry)))) 0 (now («to_trues» .entry)) (now («to_falses» .entry)) r (now («to_trues» .exit)) (now («to_falses» .exit)) ⌝ }
 {
-    let mut count: usize = 0;
+    let mut filled: usize = 0;
     let mut i: usize = 0;
-    while i < n {
-        let c = Literals {
-            trues: ts[i],
-            falses: fs[i],
+    while i < count {
+        let clause = Literals {
+            trues: trues[i],
+            falses: falses[i],
         };
-        let Grown::To(k) = distribute(c, us, vs, m, trues, falses, count) else {
+        let Grown::To(grown) = distribute(
+            clause,
+            other_trues,
+            other_falses,
+            others,
+            to_trues,
+            to_falses,
+            filled,
+        ) else {
             return Grown::Full;
         };
-        count = k;
+        filled = grown;
         i += 1;
     }
-    Grown::To(count)
+    Grown::To(filled)
 }
 
 // The clauses so far with the literals of the next entry added, in fresh slices.
 pub(crate) fn fold<'a, 'b>(
-    e: Literals,
-    ts: &'a [u32],
-    fs: &'a [u32],
-    n: usize,
-    trues: &'b mut [u32],
-    falses: &'b mut [u32],
+    entry: Literals,
+    trues: &'a [u32],
+    falses: &'a [u32],
+    count: usize,
+    to_trues: &'b mut [u32],
+    to_falses: &'b mut [u32],
 ) -> Grown
-    requires { ⌜ (n ≤ length (now ts)) × (n ≤ length (now fs)) ⌝ }
-    requires { ⌜ Held (length (now trues)) 0 (now trues) (now falses) ⌝ }
-    ensures { λ r. ⌜ Puts (P.unions (entriesOf n (now (ts .entry)) (now (fs .entry))) (P.units e)) 0 (now (trues .entry)) (now (falses .entry)) r (now (trues .exit)) (now (falses .exit)) ⌝ }
+    requires { ⌜ Room count (now trues) (now falses) ⌝ }
+    requires { ⌜ Held (length (now «to_trues»)) 0 (now «to_trues») (now «to_falses») ⌝ }
+    ensures { λ r. ⌜ Puts (P.unions (entriesOf count (now (trues .entry)) (now (falses .entry))) (P.units entry)) 0 (now («to_trues» .entry)) (now («to_falses» .entry)) r (now («to_trues» .exit)) (now («to_falses» .exit)) ⌝ }
 {
-    let mut us = [0u32; 64];
-    let mut vs = [0u32; 64];
-    let m = units(e, &mut us, &mut vs);
-    join_lists(ts, fs, n, &us, &vs, m, trues, falses)
+    let mut unit_trues = [0u32; 64];
+    let mut unit_falses = [0u32; 64];
+    let others = units(entry, &mut unit_trues, &mut unit_falses);
+    join_lists(
+        trues,
+        falses,
+        count,
+        &unit_trues,
+        &unit_falses,
+        others,
+        to_trues,
+        to_falses,
+    )
 }
 
 // The clauses of the first count entries: a fresh list of at most 256 for each entry after the first.
-pub(crate) fn clauses_of<'a>(ts: &'a [u32], fs: &'a [u32], count: usize) -> Clauses
+pub(crate) fn clauses_of<'a>(trues: &'a [u32], falses: &'a [u32], count: usize) -> Clauses
     requires { ⌜ 1 ≤ count ⌝ }
-    requires { ⌜ (count ≤ length (now ts)) × (count ≤ length (now fs)) ⌝ }
-    ensures { λ r. ⌜ r ≡ clauseSlots (P.primes 256 (entriesOf count (now (ts .entry)) (now (fs .entry)))) ⌝ }
+    requires { ⌜ Room count (now trues) (now falses) ⌝ }
+    ensures { λ r. ⌜ r ≡ clauseSlots (P.primes 256 (entriesOf count (now (trues .entry)) (now (falses .entry)))) ⌝ }
     ensures { λ r. ⌜ r .count ≤ 256 ⌝ }
 {
     let first = Literals {
-        trues: ts[0],
-        falses: fs[0],
+        trues: trues[0],
+        falses: falses[0],
     };
-    let mut trues = [0u32; 256];
-    let mut falses = [0u32; 256];
-    let mut n = units(first, &mut trues, &mut falses);
-    let mut i: usize = 1;
-    while i < count {
-        let e = Literals {
-            trues: ts[i],
-            falses: fs[i],
+    let mut clause_trues = [0u32; 256];
+    let mut clause_falses = [0u32; 256];
+    let mut filled = units(first, &mut clause_trues, &mut clause_falses);
+    let mut at: usize = 1;
+    while at < count {
+        let entry = Literals {
+            trues: trues[at],
+            falses: falses[at],
         };
         let mut to_trues = [0u32; 256];
         let mut to_falses = [0u32; 256];
-        let Grown::To(k) = fold(e, &trues, &falses, n, &mut to_trues, &mut to_falses) else {
+        let Grown::To(grown) = fold(
+            entry,
+            &clause_trues,
+            &clause_falses,
+            filled,
+            &mut to_trues,
+            &mut to_falses,
+        ) else {
             return Clauses {
                 full: true,
                 count: 0,
@@ -187,28 +224,28 @@ pub(crate) fn clauses_of<'a>(ts: &'a [u32], fs: &'a [u32], count: usize) -> Clau
                 falses: [0; 256],
             };
         };
-        trues = to_trues;
-        falses = to_falses;
-        n = k;
-        i += 1;
+        clause_trues = to_trues;
+        clause_falses = to_falses;
+        filled = grown;
+        at += 1;
     }
     Clauses {
         full: false,
-        count: n,
-        trues,
-        falses,
+        count: filled,
+        trues: clause_trues,
+        falses: clause_falses,
     }
 }
 
 // How many clauses the picture of the first count entries has; 257 if they are too many.
 pub fn clause_count<'a>(trues: &'a [u32], falses: &'a [u32], count: usize) -> usize
     requires { ⌜ 1 ≤ count ⌝ }
-    requires { ⌜ (count ≤ length (now trues)) × (count ≤ length (now falses)) ⌝ }
+    requires { ⌜ Room count (now trues) (now falses) ⌝ }
     ensures { λ r. ⌜ r ≡ sizeOf (P.picture (entriesOf count (now (trues .entry)) (now (falses .entry)))) ⌝ }
 {
-    let c = clauses_of(trues, falses, count);
-    if c.full {
+    let clauses = clauses_of(trues, falses, count);
+    if clauses.full {
         return 257;
     }
-    c.count
+    clauses.count
 }

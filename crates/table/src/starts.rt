@@ -5,7 +5,6 @@ use crate::slots::Grown;
 use crate::slots::admit;
 use crate::slots::copy_masks;
 use crate::slots::offer_by_newest;
-use crate::steps::lacking;
 use sheet::Answer;
 use sheet::Literals;
 use sheet::Sheet;
@@ -13,6 +12,7 @@ use sheet::masks::consistent;
 use sheet::masks::flip;
 use sheet::masks::join;
 use sheet::masks::literal;
+use sheet::masks::minus;
 use sheet::masks::next;
 use sheet::packed::GOAL;
 use sheet::packed::ONEOFS;
@@ -107,7 +107,7 @@ pub(crate) fn choose<'a, 'b>(
         return offer_by_newest(to_trues, to_falses, count, piece);
     }
     let after = at + 1;
-    let mut rest = lacking(set_from(row, 2 * at), piece);
+    let mut rest = minus(set_from(row, 2 * at), piece);
     let mut filled = count;
     let mut l = next(rest, 0);
     while l < 64 {
@@ -125,7 +125,7 @@ pub(crate) fn choose<'a, 'b>(
             };
             filled = grown;
         }
-        rest = lacking(rest, one);
+        rest = minus(rest, one);
         l = next(rest, 0);
     }
     Grown::To(filled)

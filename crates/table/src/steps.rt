@@ -1,26 +1,27 @@
 // The step of a table over lent slices: 24, then 25 by pairs of effects, then the pieces of each entry, each image put in its turn.
-use crate::effects::effect_at;
 use crate::slots;
 use crate::slots::Grown;
 use crate::tables::entry_at;
 use sheet::Effect;
 use sheet::Literals;
 use sheet::masks;
+use sheet::packed::LENGTH;
+use sheet::packed::MOVES;
+use sheet::packed::effect_at;
 use sheet::packed::set_from;
 use sheet::packed::wide;
 ghost use mathlib.Core.Path.{_≡_};
-ghost use mathlib.Core.Bool.{true};
 ghost use mathlib.Core.List.{map};
-ghost use Prim.Native.Nat.{_≤_, _<_, _+_, _*_};
-ghost use lib.ListN.{length, drop, replicate};
+ghost use Prim.Native.Nat.{_≤_, _<_, _*_};
+ghost use lib.ListN.{length, drop};
 ghost use Rattle.sheet.specs.Literals as L;
-ghost use Rattle.sheet.specs.Lists.{All, anyOf, allOf, collect};
+ghost use Rattle.sheet.specs.Lists.{anyOf, allOf, collect};
 ghost use Rattle.sheet.specs.Packed as R;
 ghost use Rattle.table.specs.Step as S;
-ghost use Rattle.table.specs.Slots.{entriesOf, Held, Puts, entries};
+ghost use Rattle.table.specs.Slots.{entriesOf, Room, Puts};
 ghost use Rattle.table.specs.Pairs as P;
 ghost use Rattle.table.specs.Moves as M;
-ghost use Rattle.table.specs.Carry.{Steady, Carried, Splits, Skips, minus, partAt, carriedAt};
+ghost use Rattle.table.specs.Carry.{Carried, Splits, Skips, SplitFits, BranchFits, BranchesFit, partAt, carriedAt};
 ghost use Rattle.table.specs.Calls.{orGiven};
 
 // The precondition lies in every entry (24 if not).
@@ -30,7 +31,7 @@ pub(crate) fn sure<'a>(
     falses: &'a [u32],
     count: usize,
 ) -> bool
-    requires { ⌜ (count ≤ length (now trues)) × (count ≤ length (now falses)) ⌝ }
+    requires { ⌜ Room count (now trues) (now falses) ⌝ }
     ensures { λ r. ⌜ r ≡ allOf (λ d. L.within precondition d) (entriesOf count (now (trues .entry)) (now (falses .entry))) ⌝ }
 {
     let mut i: usize = 0;
@@ -45,7 +46,7 @@ pub(crate) fn sure<'a>(
 
 // Some entry admits c: both together are consistent. The scan has no way out before its end, so that the compiler can test several at a time.
 pub(crate) fn admitted<'a>(c: Literals, trues: &'a [u32], falses: &'a [u32], count: usize) -> bool
-    requires { ⌜ (count ≤ length (now trues)) × (count ≤ length (now falses)) ⌝ }
+    requires { ⌜ Room count (now trues) (now falses) ⌝ }
     ensures { λ r. ⌜ r ≡ anyOf (λ d. L.consistent (L.join d c)) (entriesOf count (now (trues .entry)) (now (falses .entry))) ⌝ }
 {
     let mut found = false;
@@ -67,7 +68,7 @@ pub(crate) fn opposed<'a>(
     falses: &'a [u32],
     count: usize,
 ) -> bool
-    requires { ⌜ (count ≤ length (now trues)) × (count ≤ length (now falses)) ⌝ }
+    requires { ⌜ Room count (now trues) (now falses) ⌝ }
     ensures { λ r. ⌜ r ≡ anyOf (λ d. P.opposed e d f) (entriesOf count (now (trues .entry)) (now (falses .entry))) ⌝ }
 {
     if masks::clash(e.result, f.result) {
@@ -87,7 +88,7 @@ pub(crate) fn opposes<'a, 'b>(
     count: usize,
 ) -> bool
     requires { ⌜ 4 * size ≤ length (now effects) ⌝ }
-    requires { ⌜ (count ≤ length (now trues)) × (count ≤ length (now falses)) ⌝ }
+    requires { ⌜ Room count (now trues) (now falses) ⌝ }
     ensures { λ r. ⌜ r ≡ anyOf (λ f. anyOf (λ d. P.opposed e d f) (entriesOf count (now (trues .entry)) (now (falses .entry)))) (drop from (R.effectsAt size (now (effects .entry)))) ⌝ }
 {
     let mut j = from;
@@ -109,7 +110,7 @@ pub(crate) fn conflicting<'a, 'b>(
     count: usize,
 ) -> bool
     requires { ⌜ 4 * size ≤ length (now effects) ⌝ }
-    requires { ⌜ (count ≤ length (now trues)) × (count ≤ length (now falses)) ⌝ }
+    requires { ⌜ Room count (now trues) (now falses) ⌝ }
     ensures { λ r. ⌜ r ≡ anyOf (λ d. P.contradicts (R.effectsAt size (now (effects .entry))) d) (entriesOf count (now (trues .entry)) (now (falses .entry))) ⌝ }
 {
     let mut i: usize = 0;
@@ -192,62 +193,50 @@ pub(crate) fn carried(results: Literals, result: Literals, t: usize) -> Literals
     results
 }
 
-// The literals of a that are not in b.
-pub(crate) fn lacking(a: Literals, b: Literals) -> Literals
-    ensures { λ r. ⌜ r ≡ minus a b ⌝ }
-{
-    Literals {
-        trues: a.trues & !b.trues,
-        falses: a.falses & !b.falses,
-    }
-}
-
-// The pieces of `piece` by the conditions from `at` on, the first of which splits it, each put in its turn: part 0, then a part for each
+// The pieces of `piece` by the conditions from the undecided one on, which splits it, each put in its turn: part 0, then a part for each
 // literal that is missing.
 pub(crate) fn split<'a, 'b>(
     effects: &'a [u32],
     size: usize,
-    at: usize,
+    undecided: Undecided,
     piece: Literals,
-    results: Literals,
-    trues: &'b mut [u32],
-    falses: &'b mut [u32],
-    k: usize,
+    to_trues: &'b mut [u32],
+    to_falses: &'b mut [u32],
+    count: usize,
 ) -> Grown
-    requires { ⌜ 4 * size ≤ length (now effects) ⌝ }
-    requires { ⌜ (at < size) × Splits (R.effectAt (now effects) at .condition) piece ⌝ }
-    requires { ⌜ Carried (R.effectsAt size (now effects)) at piece results ⌝ }
-    requires { ⌜ Held (length (now trues)) k (now trues) (now falses) ⌝ }
-    ensures { λ r. ⌜ Puts (map (S.image (R.effectsAt size (now (effects .entry)))) (S.pieces (drop at (R.effectsAt size (now (effects .entry)))) piece)) k (now (trues .entry)) (now (falses .entry)) r (now (trues .exit)) (now (falses .exit)) ⌝ }
+    requires { ⌜ SplitFits (now effects) size undecided piece (now «to_trues») (now «to_falses») count ⌝ }
+    ensures { λ r. ⌜ Puts (map (S.image (R.effectsAt size (now (effects .entry)))) (S.pieces (drop (undecided .at) (R.effectsAt size (now (effects .entry)))) piece)) count (now («to_trues» .entry)) (now («to_falses» .entry)) r (now («to_trues» .exit)) (now («to_falses» .exit)) ⌝ }
 {
+    let at = undecided.at;
+    let results = undecided.results;
     let e = effect_at(effects, at);
     let condition = e.condition;
-    let missing = lacking(condition, piece);
+    let missing = masks::minus(condition, piece);
     let next = at + 1;
-    let mut sum = k;
+    let mut filled = count;
     let mut t: usize = 0;
     while t < 65 {
         let p = part(piece, condition, t);
         let s = skip_decided(effects, size, next, p, carried(results, e.result, t));
         if s.at < size {
-            let Grown::To(m) = split(effects, size, s.at, p, s.results, trues, falses, sum) else {
+            let Grown::To(grown) = split(effects, size, s, p, to_trues, to_falses, filled) else {
                 return Grown::Full;
             };
-            sum = m;
+            filled = grown;
         } else {
-            let Grown::To(m) = slots::offer_by_newest(
-                trues,
-                falses,
-                sum,
+            let Grown::To(grown) = slots::offer_by_newest(
+                to_trues,
+                to_falses,
+                filled,
                 masks::replace(p, s.results),
             ) else {
                 return Grown::Full;
             };
-            sum = m;
+            filled = grown;
         }
         t = masks::next(missing, t) + 1;
     }
-    Grown::To(sum)
+    Grown::To(filled)
 }
 
 // The pieces of an entry, each put in its turn.
@@ -255,14 +244,12 @@ pub(crate) fn branch<'a, 'b>(
     effects: &'a [u32],
     size: usize,
     entry: Literals,
-    trues: &'b mut [u32],
-    falses: &'b mut [u32],
-    k: usize,
+    to_trues: &'b mut [u32],
+    to_falses: &'b mut [u32],
+    count: usize,
 ) -> Grown
-    requires { ⌜ 4 * size ≤ length (now effects) ⌝ }
-    requires { ⌜ Steady (R.effectsAt size (now effects)) × (L.consistent entry ≡ true) ⌝ }
-    requires { ⌜ Held (length (now trues)) k (now trues) (now falses) ⌝ }
-    ensures { λ r. ⌜ Puts (map (S.image (R.effectsAt size (now (effects .entry)))) (S.pieces (R.effectsAt size (now (effects .entry))) entry)) k (now (trues .entry)) (now (falses .entry)) r (now (trues .exit)) (now (falses .exit)) ⌝ }
+    requires { ⌜ BranchFits (now effects) size entry (now «to_trues») (now «to_falses») count ⌝ }
+    ensures { λ r. ⌜ Puts (map (S.image (R.effectsAt size (now (effects .entry)))) (S.pieces (R.effectsAt size (now (effects .entry))) entry)) count (now («to_trues» .entry)) (now («to_falses» .entry)) r (now («to_trues» .exit)) (now («to_falses» .exit)) ⌝ }
 {
     let none = Literals {
         trues: 0,
@@ -270,38 +257,35 @@ pub(crate) fn branch<'a, 'b>(
     };
     let s = skip_decided(effects, size, 0, entry, none);
     if s.at < size {
-        return split(effects, size, s.at, entry, s.results, trues, falses, k);
+        return split(effects, size, s, entry, to_trues, to_falses, count);
     }
-    slots::offer(trues, falses, k, masks::replace(entry, s.results))
+    slots::offer(to_trues, to_falses, count, masks::replace(entry, s.results))
 }
 
-// The pieces of the first m entries of ts and fs, each put in its turn.
+// The pieces of the first count entries, each put in its turn into arrays with no entry.
 pub(crate) fn branch_all<'a, 'b, 'c>(
     effects: &'a [u32],
     size: usize,
-    ts: &'b [u32],
-    fs: &'b [u32],
-    m: usize,
-    trues: &'c mut [u32],
-    falses: &'c mut [u32],
-    k: usize,
+    trues: &'b [u32],
+    falses: &'b [u32],
+    count: usize,
+    to_trues: &'c mut [u32],
+    to_falses: &'c mut [u32],
 ) -> Grown
-    requires { ⌜ 4 * size ≤ length (now effects) ⌝ }
-    requires { ⌜ (m ≤ length (now ts)) × (m ≤ length (now fs)) ⌝ }
-    requires { ⌜ Steady (R.effectsAt size (now effects)) × All (λ d. L.consistent d ≡ true) (entriesOf m (now ts) (now fs)) ⌝ }
-    requires { ⌜ Held (length (now trues)) k (now trues) (now falses) ⌝ }
-    ensures { λ r. ⌜ Puts (map (S.image (R.effectsAt size (now (effects .entry)))) (collect (S.pieces (R.effectsAt size (now (effects .entry)))) (entriesOf m (now (ts .entry)) (now (fs .entry))))) k (now (trues .entry)) (now (falses .entry)) r (now (trues .exit)) (now (falses .exit)) ⌝ }
+    requires { ⌜ BranchesFit (now effects) size (now trues) (now falses) count (now «to_trues») (now «to_falses») ⌝ }
+    ensures { λ r. ⌜ Puts (map (S.image (R.effectsAt size (now (effects .entry)))) (collect (S.pieces (R.effectsAt size (now (effects .entry)))) (entriesOf count (now (trues .entry)) (now (falses .entry))))) 0 (now («to_trues» .entry)) (now («to_falses» .entry)) r (now («to_trues» .exit)) (now («to_falses» .exit)) ⌝ }
 {
-    let mut sum = k;
+    let mut filled: usize = 0;
     let mut i: usize = 0;
-    while i < m {
-        let Grown::To(j) = branch(effects, size, entry_at(ts, fs, i), trues, falses, sum) else {
+    while i < count {
+        let entry = entry_at(trues, falses, i);
+        let Grown::To(grown) = branch(effects, size, entry, to_trues, to_falses, filled) else {
             return Grown::Full;
         };
-        sum = j;
+        filled = grown;
         i += 1;
     }
-    Grown::To(sum)
+    Grown::To(filled)
 }
 
 // What a step gave: so many entries in the lent arrays, or the number of a refusal with its position.
@@ -310,61 +294,33 @@ pub enum Stepped {
     Refused(u8, usize),
 }
 
-// The step of a lent table, its effects laid out, into arrays of zeros.
-pub(crate) fn step_into<'a, 'b, 'c>(
-    precondition: Literals,
-    effects: &'a [u32],
-    size: usize,
-    ts: &'b [u32],
-    fs: &'b [u32],
-    n: usize,
-    us: &'c mut [u32],
-    gs: &'c mut [u32],
+// The step of a lent table by the move of a number, into arrays of zeros: 24, 25, then the images, 21 if they are too many.
+pub fn step_at<'a, 'b, 'c>(
+    packed: &'a [u32],
+    index: usize,
+    trues: &'b [u32],
+    falses: &'b [u32],
+    count: usize,
+    to_trues: &'c mut [u32],
+    to_falses: &'c mut [u32],
 ) -> Stepped
-    requires { ⌜ 4 * size ≤ length (now effects) ⌝ }
-    requires { ⌜ M.Fits (R.actionBy precondition size (now effects)) (M.lent n (now ts) (now fs)) ⌝ }
-    requires { ⌜ (n ≤ length (now ts)) × (n ≤ length (now fs)) ⌝ }
-    requires { ⌜ (now us ≡ replicate 128 0) × (now gs ≡ replicate 128 0) ⌝ }
-    ensures { λ r. ⌜ M.stepAnswer (M.lent n (now (ts .entry)) (now (fs .entry))) r (now (us .exit)) (now (gs .exit)) ≡ orGiven (M.lent n (now (ts .entry)) (now (fs .entry))) (S.stepTable 128 (R.actionBy precondition size (now (effects .entry))) (entriesOf n (now (ts .entry)) (now (fs .entry)))) ⌝ }
+    requires { ⌜ M.StepFits (now packed) index (now trues) (now falses) count (now «to_trues») (now «to_falses») ⌝ }
+    ensures { λ r. ⌜ M.stepAnswer (M.lent count (now (trues .entry)) (now (falses .entry))) r (now («to_trues» .exit)) (now («to_falses» .exit)) ≡ orGiven (M.lent count (now (trues .entry)) (now (falses .entry))) (S.stepTable 128 (R.actionOf (R.movesIn (now (packed .entry))) index) (entriesOf count (now (trues .entry)) (now (falses .entry)))) ⌝ }
 {
-    if !sure(precondition, ts, fs, n) {
+    let moves = &packed[MOVES..LENGTH];
+    let at = index * 35;
+    let item = &moves[at..at + 35];
+    let precondition = set_from(item, 0);
+    let size = wide(item[2]);
+    let effects = &item[3..35];
+    if !sure(precondition, trues, falses, count) {
         return Stepped::Refused(24, 0);
     }
-    if conflicting(effects, size, ts, fs, n) {
+    if conflicting(effects, size, trues, falses, count) {
         return Stepped::Refused(25, 0);
     }
-    match branch_all(effects, size, ts, fs, n, us, gs, 0) {
-        Grown::To(k) => Stepped::To(k),
+    match branch_all(effects, size, trues, falses, count, to_trues, to_falses) {
+        Grown::To(filled) => Stepped::To(filled),
         Grown::Full => Stepped::Refused(21, 0),
     }
-}
-
-// The step of a lent table by the move of a number, into arrays of zeros.
-pub fn step_at<'a, 'b, 'c>(
-    moves: &'a [u32],
-    m: usize,
-    ts: &'b [u32],
-    fs: &'b [u32],
-    n: usize,
-    us: &'c mut [u32],
-    gs: &'c mut [u32],
-) -> Stepped
-    requires { ⌜ (m * 35 + 35 ≤ length (now moves)) × (R.countOf (now moves) m ≤ 8) ⌝ }
-    requires { ⌜ M.Fits (R.actionOf (now moves) m) (M.lent n (now ts) (now fs)) ⌝ }
-    requires { ⌜ (n ≤ length (now ts)) × (n ≤ length (now fs)) ⌝ }
-    requires { ⌜ (now us ≡ replicate 128 0) × (now gs ≡ replicate 128 0) ⌝ }
-    ensures { λ r. ⌜ M.stepAnswer (M.lent n (now (ts .entry)) (now (fs .entry))) r (now (us .exit)) (now (gs .exit)) ≡ orGiven (M.lent n (now (ts .entry)) (now (fs .entry))) (S.stepTable 128 (R.actionOf (now (moves .entry)) m) (entriesOf n (now (ts .entry)) (now (fs .entry)))) ⌝ }
-{
-    let i = m * 35;
-    let row = &moves[i..i + 35];
-    step_into(
-        set_from(row, 0),
-        &row[3..35],
-        wide(row[2]),
-        ts,
-        fs,
-        n,
-        us,
-        gs,
-    )
 }

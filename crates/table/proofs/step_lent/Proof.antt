@@ -4,7 +4,7 @@ use native.Mathlib.Omega.{arith}
 use borrow.Author.Tests.{not-true, not-false}
 use Rattle.table.specs.Slots.{entries}
 use Rattle.table.specs.Moves.{lent}
-use Rattle.table.proofs.Advancing.{call-fault, off-sheet, its-room, its-count, undescribed, its-fits, known-step}
+use Rattle.table.proofs.Advancing.{call-fault, off-sheet, its-most, its-count, undescribed, its-fits, known-step}
 use borrow.Author.Needs.{needs}
 use Rattle.table.proofs.step_lent.Statement.{statement}
 use Rattle.table.proofs.step_lent.Tie as tie
@@ -32,15 +32,19 @@ returns-2 c =
 step-at-requires : tie.Need-step-at-requires
 unfolding entries
 step-at-requires c κs =
-    let o = c .before .before .before .before .before .before .before .before .before .before .before .before .before .before .before .before .before .before .before .before .before in
-    let t = lent (o .args .count) (o .args .trues .now) (o .args .falses .now) in
+    let t = lent (c .before .before .before .before .before .before .before .before .before .before .before .before .before .before .before .before .before .before .args .count) (c .before .before .before .before .before .before .before .before .before .before .before .before .before .before .before .before .before .before .args .trues .now) (c .before .before .before .before .before .before .before .before .before .before .before .before .before .before .before .before .before .before .args .falses .now) in
     let e = c .before .before .before .before .before .before .before .before .before .before .before .decode .ensures .0 in
     let a = c .before .before .before .before .before .before .before .before .before .enum-told .given .1 in
     let lt = c .before .before .before .before .before .before .if1 .left in
-    let f = its-fits _ _ _ e t _ a lt (sym (c .before .before .before .before .before .described .ensures) ∙ not-false _ (c .before .before .before .before .if2 .left)) in (
-      (omega (arith, its-room _ _ _ e t _ a lt), its-count _ _ _ e t _ a lt),
-      (f, ((omega (arith, f .entries-most, o .pre .0 .0), omega (arith, f .entries-most, o .pre .0 .1)), o .pre .1)),
-    )
+    let f = its-fits _ _ _ e t _ a lt (sym (c .before .before .before .before .before .described .ensures) ∙ not-false _ (c .before .before .before .before .if2 .left)) in
+    record {
+      long = search needs;
+      move-most = its-most _ _ _ e t _ a lt;
+      effects-few = its-count _ _ _ e t _ a lt;
+      fits = f;
+      room = record { trues = omega (arith, f .entries-most, c .before .before .before .before .before .before .before .before .before .before .before .before .before .before .before .before .before .before .pre .0 .trues); falses = omega (arith, f .entries-most, c .before .before .before .before .before .before .before .before .before .before .before .before .before .before .before .before .before .before .pre .0 .falses) };
+      fresh = c .before .before .before .before .before .before .before .before .before .before .before .before .before .before .before .before .before .before .pre .1;
+    }
 
 returns-3 : tie.Need-returns-3
 returns-3 c = call-fault _ _ _ (c .before .before .before .decode .ensures .0) _ _ _ _ (c .before .answer .given .1)

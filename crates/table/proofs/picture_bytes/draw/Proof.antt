@@ -1,4 +1,4 @@
--- `writing::draw` meets its contract. Assumes nothing.
+-- `table::picture_bytes::draw` meets its contract. Assumes nothing.
 use mathlib.Core.Path.{sym, _∙_}
 use native.Mathlib.Omega.{arith}
 use borrow.Author.Tests.{not-true, not-false}
@@ -20,7 +20,8 @@ returns c =
 sorted-clauses-requires : tie.Need-sorted-clauses-requires
 sorted-clauses-requires c κs =
     let k = described-count _ _ _ _ (sym (c .before .described .ensures) ∙ not-false (c .before .described .result) (c .if1 .left)) in
-    (k .0, (omega (arith, k .1, c .before .before .before .before .before .pre .0), omega (arith, k .1, c .before .before .before .before .before .pre .1)))
+    let o = c .before .before .before .before .before in
+    (k .0, record { trues = omega (arith, k .1, o .pre .trues); falses = omega (arith, k .1, o .pre .falses) })
 
 refuse-picture-requires-2 : tie.Need-refuse-picture-requires-2
 refuse-picture-requires-2 c κs = search needs

@@ -1,4 +1,4 @@
--- `writing::refused` meets its contract. Assumes nothing.
+-- `table::picture_bytes::refuse_picture` meets its contract. Assumes nothing.
 use mathlib.Core.Path.{refl}
 use Rattle.table.specs.PictureCalls.{refusal}
 use Rattle.table.proofs.picture_bytes.refuse_picture.Statement.{statement}

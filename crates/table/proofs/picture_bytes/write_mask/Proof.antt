@@ -1,4 +1,4 @@
--- `writing::write_mask` meets its contract. Assumes nothing.
+-- `table::picture_bytes::write_mask` meets its contract. Assumes nothing.
 use native.Mathlib.Omega.{arith}
 use lib.ListN.{length-set}
 use Rattle.table.proofs.MaskBytes.{four-stores}

@@ -1,4 +1,4 @@
--- `writing::write_picture` meets its contract. The invariant: the clauses below i are written. Assumes nothing.
+-- `table::picture_bytes::write_picture` meets its contract. The invariant: the clauses below i are written. Assumes nothing.
 use mathlib.Core.Path.{sym, _∙_}
 use Prim.Native.Nat.{_+_, _*_, _≤_, _<_, _-_}
 use native.Mathlib.Omega.{arith}
@@ -10,11 +10,11 @@ use Rattle.table.proofs.picture_bytes.write_picture.Statement.{statemen
 use Rattle.table.proofs.picture_bytes.write_picture.Tie as tie
 
 abbrev Inv-loop : tie.InvT-loop
-Inv-loop trues falses n buffer₀ i₀ buffer i =
-    (2 + 8 * n ≤ length buffer) × (i ≤ n) × Wrote (entriesOf n trues falses) buffer₀ i buffer
+Inv-loop trues falses count buffer₀ i₀ buffer i =
+    (2 + 8 * count ≤ length buffer) × (i ≤ count) × Wrote (entriesOf count trues falses) buffer₀ i buffer
 
 abbrev μ-loop : tie.MeasureT-loop
-μ-loop trues falses n buffer₀ i₀ buffer i = n - i
+μ-loop trues falses count buffer₀ i₀ buffer i = count - i
 
 cast-buffer : tie.Need-cast-buffer Inv-loop μ-loop
 cast-buffer c = omega arith
@@ -71,10 +71,10 @@ loop-again c =
     let s = c .before .before .before .before .before .before .before .before .before .before .before .before .before .before .before in
     let a = c .before .before .before .before .before .before .before .before .before .before .before in
     let h = c .before .before .before .before .before .before .before .before .before .before .loop-test .taken in
-    let lt : a .loop .i < length (entriesOf (s .args .n) (s .args .trues .now) (s .args .falses .now)) = omega (arith, length-entriesOf (s .args .n) (s .args .trues .now) (s .args .falses .now)) in (
+    let lt : a .loop .i < length (entriesOf (s .args .count) (s .args .trues .now) (s .args .falses .now)) = omega (arith, length-entriesOf (s .args .count) (s .args .trues .now) (s .args .falses .now)) in (
       omega (arith, c .before .before .before .before .before .before .before .write-mask .kept .0, c .before .before .write-mask2 .kept .0, a .loop .inv .0),
       omega arith,
-      wrote-step _ _ _ _ _ _ _ (a .loop .inv .2) lt (sym (getD-entriesOf (s .args .n) (s .args .trues .now) (s .args .falses .now) (a .loop .i) h)) (c .before .before .before .before .before .before .before .write-mask .ensures) (c .before .before .write-mask2 .ensures),
+      wrote-step _ _ _ _ _ _ _ (a .loop .inv .2) lt (sym (getD-entriesOf (s .args .count) (s .args .trues .now) (s .args .falses .now) (a .loop .i) h)) (c .before .before .before .before .before .before .before .write-mask .ensures) (c .before .before .write-mask2 .ensures),
     )
 
 same-length : tie.Need-same-length Inv-loop μ-loop
@@ -83,7 +83,7 @@ same-length c = c .before .loop .inv .2 .long ∙ simp length-set
 returns : tie.Need-returns Inv-loop μ-loop
 returns c =
     let s = c .before .before .before .before .before in
-    wrote-end _ _ _ _ _ (sym (length-entriesOf (s .args .n) (s .args .trues .now) (s .args .falses .now))) (s .pre .1 .1) (c .loop-test .left) (c .before .loop .inv .2)
+    wrote-end _ _ _ _ _ (sym (length-entriesOf (s .args .count) (s .args .trues .now) (s .args .falses .now))) (s .pre .1 .1) (c .loop-test .left) (c .before .loop .inv .2)
 
 pub write-picture-spec : {M : Type 1} → statement M
 write-picture-spec =

@@ -1,4 +1,4 @@
--- `clauses::absorbs` meets its contract. Assumes nothing.
+-- `table::picture_clauses::absorbs` meets its contract. Assumes nothing.
 use mathlib.Core.Path.{sym, _∙_}
 use mathlib.Core.Bool.{true≢false}
 use native.Mathlib.Omega.{arith}
@@ -19,7 +19,7 @@ some-within-requires c κs = search needs
 returns-2 : tie.Need-returns-2
 returns-2 c = λ e.
     let s = c .before .before .before .before .args in
-    (any-test (λ u. within u (s .c)) (entriesOf (s .m) (s .us .now) (s .vs .now)) (true-T _ (sym (c .some-within .ensures) ∙ e)), omega arith)
+    (any-test (λ u. within u (s .clause)) (entriesOf (s .count) (s .trues .now) (s .falses .now)) (true-T _ (sym (c .some-within .ensures) ∙ e)), omega arith)
 
 pub absorbs-spec : {M : Type 1} → statement M
 absorbs-spec = tie.close (tie.spec returns some-within-requires returns-2)

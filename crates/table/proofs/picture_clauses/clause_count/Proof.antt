@@ -1,4 +1,4 @@
--- `clauses::clause_count` meets its contract. Assumes nothing.
+-- `table::picture_clauses::clause_count` meets its contract. Assumes nothing.
 use Rattle.table.proofs.Folding.{size-full, size-some}
 use borrow.Author.Needs.{needs}
 use Rattle.table.proofs.picture_clauses.clause_count.Statement.{statement}

@@ -1,4 +1,4 @@
--- `clauses::clauses_of` meets its contract. The invariant: the entries from i on give the whole. Assumes nothing.
+-- `table::picture_clauses::clauses_of` meets its contract. The invariant: the entries from `at` on give the whole. Assumes nothing.
 use mathlib.Core.Path.{refl, sym}
 use Prim.Native.Nat.{_-_}
 use native.Mathlib.Omega.{arith}
@@ -12,11 +12,11 @@ use Rattle.table.proofs.picture_clauses.clauses_of.Statement.{statement
 use Rattle.table.proofs.picture_clauses.clauses_of.Tie as tie
 
 abbrev Inv-loop : tie.InvT-loop
-Inv-loop ts fs count trues₀ falses₀ n₀ i₀ trues falses n i =
-    Folds (primes 256 (entriesOf count ts fs)) (entriesOf count ts fs) i n trues falses
+Inv-loop trues falses count clause-trues₀ clause-falses₀ filled₀ at₀ clause-trues clause-falses filled at =
+    Folds (primes 256 (entriesOf count trues falses)) (entriesOf count trues falses) at filled clause-trues clause-falses
 
 abbrev μ-loop : tie.MeasureT-loop
-μ-loop ts fs count trues₀ falses₀ n₀ i₀ trues falses n i = count - i
+μ-loop trues falses count clause-trues₀ clause-falses₀ filled₀ at₀ clause-trues clause-falses filled at = count - at
 
 shared-slice-read-t14 : tie.Need-shared-slice-read-t14 Inv-loop μ-loop
 shared-slice-read-t14 c = omega arith
@@ -64,10 +64,10 @@ slice-aggregate-fold-4 c = search needs
 fold-requires : tie.Need-fold-requires Inv-loop μ-loop
 fold-requires c κs =
     let g = c .before .before .before .before .before .before .before .loop .inv in
-    ((omega (arith, g .room, g .trues-long), omega (arith, g .room, g .falses-long)), fresh 256)
+    (record { trues = omega (arith, g .room, g .trues-long); falses = omega (arith, g .room, g .falses-long) }, fresh 256)
 
-enum-known-k : tie.Need-enum-known-k Inv-loop μ-loop
-enum-known-k c = search needs
+enum-known-grown : tie.Need-enum-known-grown Inv-loop μ-loop
+enum-known-grown c = search needs
 
 enum-told : tie.Need-enum-told Inv-loop μ-loop
 enum-told c = search needs
@@ -76,15 +76,15 @@ returns : tie.Need-returns Inv-loop μ-loop
 returns c =
     folds-full _ _ _ _ _ _ _ _ (c .before .before .before .before .before .before .before .before .before .before .before .before .loop .inv) (c .before .before .before .before .before .before .before .before .before .before .before .loop-test .taken) _ (replicate 256 0) _ _ _ refl (c .before .before .before .before .fold .ensures) (c .enum-told .given .1)
 
-add-i : tie.Need-add-i Inv-loop μ-loop
-add-i c = omega arith
+add-at : tie.Need-add-at Inv-loop μ-loop
+add-at c = omega arith
 
 loop-less : tie.Need-loop-less Inv-loop μ-loop
 loop-less c = omega arith
 
 loop-again : tie.Need-loop-again Inv-loop μ-loop
 loop-again c =
-    folds-on _ _ _ _ _ _ _ _ (c .before .before .before .before .before .before .before .before .before .before .before .before .before .loop .inv) (c .before .before .before .before .before .before .before .before .before .before .before .before .loop-test .taken) _ (replicate 256 0) _ _ _ refl (c .before .before .before .before .before .fold .ensures) _ (c .before .k .given .1)
+    folds-on _ _ _ _ _ _ _ _ (c .before .before .before .before .before .before .before .before .before .before .before .before .before .loop .inv) (c .before .before .before .before .before .before .before .before .before .before .before .before .loop-test .taken) _ (replicate 256 0) _ _ _ refl (c .before .before .before .before .before .fold .ensures) _ (c .before .grown .given .1)
 
 returns-2 : tie.Need-returns-2 Inv-loop μ-loop
 returns-2 c = folds-end _ _ _ _ _ _ _ _ (c .before .loop .inv) (c .loop-test .left)
@@ -110,10 +110,10 @@ clauses-of-spec =
     slice-aggregate-fold-3
     slice-aggregate-fold-4
     fold-requires
-    enum-known-k
+    enum-known-grown
     enum-told
     returns
-    add-i
+    add-at
     loop-less
     loop-again
     returns-2)

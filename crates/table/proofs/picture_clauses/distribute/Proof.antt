@@ -1,4 +1,4 @@
--- `clauses::distribute` meets its contract. Assumes nothing.
+-- `table::picture_clauses::distribute` meets its contract. Assumes nothing.
 use mathlib.Core.Path.{sym}
 use Rattle.table.specs.Slots.{entriesOf}
 use Rattle.table.proofs.Pads.{length-entriesOf}
@@ -7,8 +7,8 @@ use borrow.Author.Needs.{needs}
 use Rattle.table.proofs.picture_clauses.distribute.Statement.{statement}
 use Rattle.table.proofs.picture_clauses.distribute.Tie as tie
 
-sub-absorbs : tie.Need-sub-absorbs
-sub-absorbs c = search needs
+sub-room : tie.Need-sub-room
+sub-room c = search needs
 
 absorbs-requires : tie.Need-absorbs-requires
 absorbs-requires c κs = search needs
@@ -27,7 +27,7 @@ returns c =
     let z = c .before .before .before .before .before .before .before .before .before .before .before .before .before in
     let s = z .args in
     let a = c .before .before .before .before .before .before .before .before .absorbs .ensures (c .before .before .before .before .before .before .before .if1 .taken) in
-    puts-alone (s .c) (entriesOf (s .m) (s .us .now) (s .vs .now)) (a .0) _ _ _ _ _ _ _ _ (z .pre .1) (sym (length-entriesOf (s .m) (s .us .now) (s .vs .now))) (a .1) (c .before .before .before .before .admit .ensures)
+    puts-alone (s .clause) (entriesOf (s .others) (s .other-trues .now) (s .other-falses .now)) (a .0) _ _ _ _ _ _ _ _ (z .pre .1) (sym (length-entriesOf (s .others) (s .other-trues .now) (s .other-falses .now))) (a .1) (c .before .before .before .before .admit .ensures)
 
 put-joined-requires : tie.Need-put-joined-requires
 put-joined-requires c κs = search needs
@@ -45,7 +45,7 @@ pub distribute-spec : {M : Type 1} → statement M
 distribute-spec =
     tie.close
     (tie.spec
-    sub-absorbs
+    sub-room
     absorbs-requires
     admit-requires
     same-length

@@ -1,4 +1,4 @@
--- `clauses::fold` meets its contract. Assumes nothing.
+-- `table::picture_clauses::fold` meets its contract. Assumes nothing.
 use native.Mathlib.Omega.{arith}
 use Rattle.table.proofs.Pads.{holds-trues-long, holds-falses-long, fresh}
 use Rattle.table.proofs.Folding.{folded}
@@ -24,7 +24,12 @@ slice-aggregate-join-lists-2 c = search needs
 join-lists-requires : tie.Need-join-lists-requires
 join-lists-requires c κs =
     let h = c .before .before .before .before .before .before .units .ensures in
-    (c .before .before .before .before .before .before .before .before .before .before .before .before .before .pre .0, ((omega (arith, h .room, holds-trues-long _ _ _ _ _ h), omega (arith, h .room, holds-falses-long _ _ _ _ _ h)), c .before .before .before .before .before .before .before .before .before .before .before .before .before .pre .1))
+    let o = c .before .before .before .before .before .before .before .before .before .before .before .before .before in
+    record {
+      room = o .pre .0;
+      others-room = record { trues = omega (arith, h .room, holds-trues-long _ _ _ _ _ h); falses = omega (arith, h .room, holds-falses-long _ _ _ _ _ h) };
+      held = o .pre .1;
+    }
 
 same-length : tie.Need-same-length
 same-length c = search needs

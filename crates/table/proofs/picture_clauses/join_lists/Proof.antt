@@ -1,4 +1,4 @@
--- `clauses::join_lists` meets its contract. The invariant: the clauses from i on are still to be joined. Assumes nothing.
+-- `table::picture_clauses::join_lists` meets its contract. The invariant: the clauses from i on are still to be joined. Assumes nothing.
 use mathlib.Core.Path.{refl, sym, _∙_}
 use Prim.Native.Nat.{_≤_, _-_}
 use native.Mathlib.Omega.{arith}
@@ -13,15 +13,16 @@ use Rattle.table.proofs.picture_clauses.join_lists.Statement.{statement
 use Rattle.table.proofs.picture_clauses.join_lists.Tie as tie
 
 abbrev Inv-loop : tie.InvT-loop
-Inv-loop ts fs n us vs m trues₀ falses₀ count₀ i₀ trues falses count i =
-    (i ≤ n)
-    × Going (unions (entriesOf n ts fs) (entriesOf m us vs)) 0 trues₀ falses₀ (unions (drop i (entriesOf n ts fs)) (entriesOf m us vs)) count trues falses
+Inv-loop trues falses count other-trues other-falses others to-trues₀ to-falses₀ filled₀ i₀ to-trues to-falses filled i =
+    (i ≤ count)
+    × Going (unions (entriesOf count trues falses) (entriesOf others other-trues other-falses)) 0 to-trues₀ to-falses₀
+    (unions (drop i (entriesOf count trues falses)) (entriesOf others other-trues other-falses)) filled to-trues to-falses
 
 abbrev μ-loop : tie.MeasureT-loop
-μ-loop ts fs n us vs m trues₀ falses₀ count₀ i₀ trues falses count i = n - i
+μ-loop trues falses count other-trues other-falses others to-trues₀ to-falses₀ filled₀ i₀ to-trues to-falses filled i = count - i
 
 loop-holds : tie.Need-loop-holds Inv-loop μ-loop
-loop-holds c = (omega arith, going-start _ _ _ _ _ refl (c .before .before .before .before .before .before .pre .1 .1))
+loop-holds c = (omega arith, going-start _ _ _ _ _ refl (c .before .before .before .before .before .before .pre .held))
 
 mul-t14 : tie.Need-mul-t14 Inv-loop μ-loop
 mul-t14 c = omega arith
@@ -37,10 +38,10 @@ shared-slice-read-t19 c = omega arith
 
 distribute-requires : tie.Need-distribute-requires Inv-loop μ-loop
 distribute-requires c κs =
-    (c .before .before .before .before .before .before .before .before .before .before .before .before .pre .1 .0, held-own _ _ _ _ (c .before .before .before .before .before .loop .inv .1 .held))
+    (c .before .before .before .before .before .before .before .before .before .before .before .before .pre .others-room, held-own _ _ _ _ (c .before .before .before .before .before .loop .inv .1 .held))
 
-enum-known-k : tie.Need-enum-known-k Inv-loop μ-loop
-enum-known-k c = search needs
+enum-known-grown : tie.Need-enum-known-grown Inv-loop μ-loop
+enum-known-grown c = search needs
 
 enum-told : tie.Need-enum-told Inv-loop μ-loop
 enum-told c = search needs
@@ -51,7 +52,7 @@ same-length c =
 
 same-length-2 : tie.Need-same-length-2 Inv-loop μ-loop
 same-length-2 c =
-    c .before .before .before .before .before .before .distribute .kept .1 .1 .1 .1 .1 .0 ∙ holds-falses-long _ _ _ _ _ (c .before .before .before .before .before .before .before .before .before .before .before .before .loop .inv .1 .held) ∙ sym (holds-falses-long _ _ _ _ _ (c .before .before .before .before .before .before .before .before .before .before .before .before .before .before .before .before .before .before .before .pre .1 .1))
+    c .before .before .before .before .before .before .distribute .kept .1 .1 .1 .1 .1 .0 ∙ holds-falses-long _ _ _ _ _ (c .before .before .before .before .before .before .before .before .before .before .before .before .loop .inv .1 .held) ∙ sym (holds-falses-long _ _ _ _ _ (c .before .before .before .before .before .before .before .before .before .before .before .before .before .before .before .before .before .before .before .pre .held))
 
 returns : tie.Need-returns Inv-loop μ-loop
 returns c =
@@ -66,7 +67,7 @@ loop-less c = omega arith
 loop-again : tie.Need-loop-again Inv-loop μ-loop
 loop-again c = (
   omega (arith, c .before .before .before .before .before .before .before .before .before .before .before .before .loop-test .taken),
-  going-on _ _ _ _ _ _ _ _ _ _ _ _ _ (c .before .before .before .before .before .before .before .before .before .before .before .before .before .loop .inv .1) (unions-step _ _ _ _ _ (c .before .before .before .before .before .before .before .before .before .before .before .before .loop-test .taken)) (c .before .before .before .before .before .before .before .distribute .ensures) _ (c .before .k .given .1),
+  going-on _ _ _ _ _ _ _ _ _ _ _ _ _ (c .before .before .before .before .before .before .before .before .before .before .before .before .before .loop .inv .1) (unions-step _ _ _ _ _ (c .before .before .before .before .before .before .before .before .before .before .before .before .loop-test .taken)) (c .before .before .before .before .before .before .before .distribute .ensures) _ (c .before .grown .given .1),
 )
 
 same-length-3 : tie.Need-same-length-3 Inv-loop μ-loop
@@ -74,7 +75,7 @@ same-length-3 c = holds-trues-long _ _ _ _ _ (c .before .loop .inv .1 .held)
 
 same-length-4 : tie.Need-same-length-4 Inv-loop μ-loop
 same-length-4 c =
-    holds-falses-long _ _ _ _ _ (c .before .loop .inv .1 .held) ∙ sym (holds-falses-long _ _ _ _ _ (c .before .before .before .before .before .before .before .before .pre .1 .1))
+    holds-falses-long _ _ _ _ _ (c .before .loop .inv .1 .held) ∙ sym (holds-falses-long _ _ _ _ _ (c .before .before .before .before .before .before .before .before .pre .held))
 
 returns-2 : tie.Need-returns-2 Inv-loop μ-loop
 returns-2 c = going-end _ _ _ _ _ _ _ _ (c .before .loop .inv .1) (unions-end _ _ _ _ _ (c .loop-test .left))
@@ -91,7 +92,7 @@ join-lists-spec =
     mul-t17
     shared-slice-read-t19
     distribute-requires
-    enum-known-k
+    enum-known-grown
     enum-told
     same-length
     same-length-2

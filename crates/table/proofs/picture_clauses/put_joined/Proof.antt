@@ -1,4 +1,4 @@
--- `clauses::spread` meets its contract. The invariant: the clauses from i on are still to be joined. Assumes nothing.
+-- `table::picture_clauses::put_joined` meets its contract. The invariant: the clauses from i on are still to be joined. Assumes nothing.
 use mathlib.Core.Path.{refl, sym, _∙_}
 use mathlib.Core.List.{map}
 use Prim.Native.Nat.{_≤_, _-_}
@@ -15,12 +15,13 @@ use Rattle.table.proofs.picture_clauses.put_joined.Statement.{statement
 use Rattle.table.proofs.picture_clauses.put_joined.Tie as tie
 
 abbrev Inv-loop : tie.InvT-loop
-Inv-loop c us vs m trues₀ falses₀ n count₀ i₀ trues falses count i =
-    (i ≤ m)
-    × Going (keep consistent (map (join c) (entriesOf m us vs))) n trues₀ falses₀ (keep consistent (map (join c) (drop i (entriesOf m us vs)))) count trues falses
+Inv-loop clause other-trues other-falses others to-trues₀ to-falses₀ count filled₀ i₀ to-trues to-falses filled i =
+    (i ≤ others)
+    × Going (keep consistent (map (join clause) (entriesOf others other-trues other-falses))) count to-trues₀ to-falses₀
+    (keep consistent (map (join clause) (drop i (entriesOf others other-trues other-falses)))) filled to-trues to-falses
 
 abbrev μ-loop : tie.MeasureT-loop
-μ-loop c us vs m trues₀ falses₀ n count₀ i₀ trues falses count i = m - i
+μ-loop clause other-trues other-falses others to-trues₀ to-falses₀ count filled₀ i₀ to-trues to-falses filled i = others - i
 
 loop-holds : tie.Need-loop-holds Inv-loop μ-loop
 loop-holds c = (omega arith, going-start _ _ _ _ _ refl (c .before .before .before .before .pre .1))
@@ -43,8 +44,8 @@ join-requires c κs = search needs
 admit-requires : tie.Need-admit-requires Inv-loop μ-loop
 admit-requires c κs = held-own _ _ _ _ (c .before .before .before .before .before .before .loop .inv .1 .held)
 
-enum-known-k : tie.Need-enum-known-k Inv-loop μ-loop
-enum-known-k c = search needs
+enum-known-grown : tie.Need-enum-known-grown Inv-loop μ-loop
+enum-known-grown c = search needs
 
 enum-told : tie.Need-enum-told Inv-loop μ-loop
 enum-told c = search needs
@@ -70,7 +71,7 @@ loop-less c = omega arith
 loop-again : tie.Need-loop-again Inv-loop μ-loop
 loop-again c = (
   omega (arith, c .before .before .before .before .before .before .before .before .before .before .before .before .before .loop-test .taken),
-  going-on _ _ _ _ _ _ _ _ _ _ _ _ _ (c .before .before .before .before .before .before .before .before .before .before .before .before .before .before .loop .inv .1) (put-joined-step _ _ _ _ _ _ (c .before .before .before .before .before .before .before .before .before .before .before .before .before .loop-test .taken) (c .before .before .before .before .before .before .before .before .join .ensures)) (c .before .before .before .before .before .before .before .admit .ensures) _ (c .before .k .given .1),
+  going-on _ _ _ _ _ _ _ _ _ _ _ _ _ (c .before .before .before .before .before .before .before .before .before .before .before .before .before .before .loop .inv .1) (put-joined-step _ _ _ _ _ _ (c .before .before .before .before .before .before .before .before .before .before .before .before .before .loop-test .taken) (c .before .before .before .before .before .before .before .before .join .ensures)) (c .before .before .before .before .before .before .before .admit .ensures) _ (c .before .grown .given .1),
 )
 
 same-length-3 : tie.Need-same-length-3 Inv-loop μ-loop
@@ -96,7 +97,7 @@ put-joined-spec =
     shared-slice-read-t18
     join-requires
     admit-requires
-    enum-known-k
+    enum-known-grown
     enum-told
     same-length
     same-length-2

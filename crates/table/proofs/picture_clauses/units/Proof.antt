@@ -1,4 +1,4 @@
--- `clauses::units` meets its contract. The invariant: the literals before l stand in the slots. Assumes nothing.
+-- `table::picture_clauses::units` meets its contract. The invariant: the literals before l stand in the slots. Assumes nothing.
 use mathlib.Core.Path.{sym, _∙_}
 use Prim.Native.Nat.{_-_}
 use native.Mathlib.Omega.{arith}
@@ -10,11 +10,11 @@ use Rattle.table.proofs.picture_clauses.units.Statement.{statement}
 use Rattle.table.proofs.picture_clauses.units.Tie as tie
 
 abbrev Inv-loop : tie.InvT-loop
-Inv-loop e trues₀ falses₀ n₀ l₀ trues falses n l =
-    Listed (length trues₀) e l n trues falses
+Inv-loop entry to-trues₀ to-falses₀ filled₀ l₀ to-trues to-falses filled l =
+    Listed (length to-trues₀) entry l filled to-trues to-falses
 
 abbrev μ-loop : tie.MeasureT-loop
-μ-loop e trues₀ falses₀ n₀ l₀ trues falses n l = 64 - l
+μ-loop entry to-trues₀ to-falses₀ filled₀ l₀ to-trues to-falses filled l = 64 - l
 
 next-requires : tie.Need-next-requires Inv-loop μ-loop
 next-requires c κs = search needs
@@ -25,21 +25,21 @@ loop-holds c = listed-start _ _ _ _ _ (c .before .before .before .pre .0) (c .ne
 literal-requires : tie.Need-literal-requires Inv-loop μ-loop
 literal-requires c κs = search needs
 
-mul-trues : tie.Need-mul-trues Inv-loop μ-loop
-mul-trues c = omega arith
+mul-to-trues : tie.Need-mul-to-trues Inv-loop μ-loop
+mul-to-trues c = omega arith
 
-slice-write-trues : tie.Need-slice-write-trues Inv-loop μ-loop
-slice-write-trues c = omega arith
+slice-write-to-trues : tie.Need-slice-write-to-trues Inv-loop μ-loop
+slice-write-to-trues c = omega arith
 
-mul-falses : tie.Need-mul-falses Inv-loop μ-loop
-mul-falses c = omega arith
+mul-to-falses : tie.Need-mul-to-falses Inv-loop μ-loop
+mul-to-falses c = omega arith
 
-slice-write-falses : tie.Need-slice-write-falses Inv-loop μ-loop
-slice-write-falses c =
+slice-write-to-falses : tie.Need-slice-write-to-falses Inv-loop μ-loop
+slice-write-to-falses c =
     omega (arith, c .before .before .loop .inv .few, c .before .before .loop .inv .falses-long, c .before .before .before .before .before .before .pre .1, c .before .loop-test .taken)
 
-add-n : tie.Need-add-n Inv-loop μ-loop
-add-n c = omega arith
+add-filled : tie.Need-add-filled Inv-loop μ-loop
+add-filled c = omega arith
 
 add-next : tie.Need-add-next Inv-loop μ-loop
 add-next c = omega arith
@@ -73,11 +73,11 @@ units-spec =
     next-requires
     loop-holds
     literal-requires
-    mul-trues
-    slice-write-trues
-    mul-falses
-    slice-write-falses
-    add-n
+    mul-to-trues
+    slice-write-to-trues
+    mul-to-falses
+    slice-write-to-falses
+    add-filled
     add-next
     next-requires-2
     loop-less

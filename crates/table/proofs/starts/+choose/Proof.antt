@@ -26,7 +26,7 @@ use Rattle.table.proofs.starts.choose.Kinds as choose-kinds
 use Rattle.table.proofs.starts.+choose.Lts-choose as choose-lts
 use Rattle.sheet.proofs.packed.set_from.Reads as set-from-reads
 use Rattle.table.proofs.slots.offer_by_newest.Reads as offer-by-newest-reads
-use Rattle.table.proofs.steps.lacking.Reads as lacking-reads
+use Rattle.sheet.proofs.masks.minus.Reads as minus-reads
 use Rattle.table.proofs.starts.+choose.{statement}
 use Rattle.table.proofs.starts.+choose.Tie.{close}
 
@@ -40,7 +40,7 @@ abbrev choose-below : ℕ → In 2 choose-kinds.ps
 choose-below t = and 2 choose-kinds.ps (falls 2 choose-kinds.ps _<_ μ-choose t) choose.Pre
 
 abbrev claims : ℕ → choose-lts.Claims
-claims t = (offer-by-newest-reads.Asked, offer-by-newest-reads.Learnt, set-from-reads.Asked, set-from-reads.Learnt, lacking-reads.Asked, lacking-reads.Learnt, next-reads.Asked, next-reads.Learnt, literal-reads.Asked, literal-reads.Learnt, flip-reads.Asked, flip-reads.Learnt, join-reads.Asked, join-reads.Learnt, choose-below t, choose.Post)
+claims t = (offer-by-newest-reads.Asked, offer-by-newest-reads.Learnt, set-from-reads.Asked, set-from-reads.Learnt, minus-reads.Asked, minus-reads.Learnt, next-reads.Asked, next-reads.Learnt, literal-reads.Asked, literal-reads.Learnt, flip-reads.Asked, flip-reads.Learnt, join-reads.Asked, join-reads.Learnt, choose-below t, choose.Post)
 
 abbrev choose-Inv-loop : choose-lts.InvT-loop
 choose-Inv-loop row size at piece to-trues₀ to-falses₀ count after rest₀ filled₀ l₀ to-trues to-falses rest filled l =
@@ -74,7 +74,7 @@ choose-mul-set-from t c = omega arith
 choose-set-from-requires : (t : ℕ) → choose-lts.Need-set-from-requires (claims t) (choose-at t) choose.Post choose-Inv-loop choose-μ-loop
 choose-set-from-requires t c κs = omega arith
 
-choose-lacking-requires : (t : ℕ) → choose-lts.Need-lacking-requires (claims t) (choose-at t) choose.Post choose-Inv-loop choose-μ-loop
+choose-lacking-requires : (t : ℕ) → choose-lts.Need-minus-requires (claims t) (choose-at t) choose.Post choose-Inv-loop choose-μ-loop
 choose-lacking-requires t c κs = search needs
 
 choose-next-requires : (t : ℕ) → choose-lts.Need-next-requires (claims t) (choose-at t) choose.Post choose-Inv-loop choose-μ-loop
@@ -83,9 +83,9 @@ choose-next-requires t c κs = search needs
 choose-loop-holds : (t : ℕ) → choose-lts.Need-loop-holds (claims t) (choose-at t) choose.Post choose-Inv-loop choose-μ-loop
 choose-loop-holds t c =
     let s = c .before .before .before .before .before .before .before in (
-      going-start _ _ _ _ _ (choices-start _ _ _ _ _ (s .pre .1 .1 .0) (sets-step (s .args .size) (s .args .row .now) (s .args .at) _ (omega arith) (c .before .before .set-from .ensures)) (c .before .lacking .ensures)) (s .pre .1 .1 .1),
+      going-start _ _ _ _ _ (choices-start _ _ _ _ _ (s .pre .1 .1 .0) (sets-step (s .args .size) (s .args .row .now) (s .args .at) _ (omega arith) (c .before .before .set-from .ensures)) (c .before .minus .ensures)) (s .pre .1 .1 .1),
       c .next .ensures,
-      free-start _ _ _ (c .before .lacking .ensures),
+      free-start _ _ _ (c .before .minus .ensures),
     )
 
 choose-literal-requires : (t : ℕ) → choose-lts.Need-literal-requires (claims t) (choose-at t) choose.Post choose-Inv-loop choose-μ-loop
@@ -148,7 +148,7 @@ choose-returns-3 t c =
     going-full _ _ _ _ _ _ _ _ _ _ _ _ _ (w .0)
     (choices-step _ _ _ _ _ _ _ _ (w .1) (o .before .before .before .loop-test .taken) (o .before .before .literal .ensures) (o .before .flip .ensures) (o .join .ensures) refl) (puts-is _ _ _ _ _ _ _ _ q (c .before .before .before .before .before .before .offer-by-newest2 .ensures)) (c .enum-told2 .given .1)
 
-choose-lacking-requires-2 : (t : ℕ) → choose-lts.Need-lacking-requires-2 (claims t) (choose-at t) choose.Post choose-Inv-loop choose-μ-loop
+choose-lacking-requires-2 : (t : ℕ) → choose-lts.Need-minus-requires-2 (claims t) (choose-at t) choose.Post choose-Inv-loop choose-μ-loop
 choose-lacking-requires-2 t c κs = search needs
 
 choose-next-requires-2 : (t : ℕ) → choose-lts.Need-next-requires-2 (claims t) (choose-at t) choose.Post choose-Inv-loop choose-μ-loop
@@ -157,7 +157,7 @@ choose-next-requires-2 t c κs = search needs
 choose-loop-less : (t : ℕ) → choose-lts.Need-loop-less (claims t) (choose-at t) choose.Post choose-Inv-loop choose-μ-loop
 choose-loop-less t c =
     let o = c .before .before .before in
-    choices-less _ _ _ _ (o .before .before .before .before .loop .inv .1) (o .before .before .before .loop-test .taken) (o .before .before .literal .ensures) (c .before .lacking2 .ensures)
+    choices-less _ _ _ _ (o .before .before .before .before .loop .inv .1) (o .before .before .before .loop-test .taken) (o .before .before .literal .ensures) (c .before .minus2 .ensures)
 
 choose-loop-again : (t : ℕ) → choose-lts.Need-loop-again (claims t) (choose-at t) choose.Post choose-Inv-loop choose-μ-loop
 choose-loop-again t c =
@@ -166,14 +166,14 @@ choose-loop-again t c =
     let w = o .before .before .before .before .loop .inv in
     let steady = chosen-steady _ _ _ _ _ _ (s .pre .1 .1 .0) (w .2) (w .1) (o .before .before .before .loop-test .taken) (o .before .before .literal .ensures) (o .before .flip .ensures) (o .join .ensures) in (
       going-on _ _ _ _ _ _ _ _ _ _ _ _ _ (w .0)
-          (choices-step _ _ _ _ _ _ _ _ (w .1) (o .before .before .before .loop-test .taken) (o .before .before .literal .ensures) (o .before .flip .ensures) (o .join .ensures) (c .before .lacking2 .ensures))
+          (choices-step _ _ _ _ _ _ _ _ (w .1) (o .before .before .before .loop-test .taken) (o .before .before .literal .ensures) (o .before .flip .ensures) (o .join .ensures) (c .before .minus2 .ensures))
           (⊎-elim
           (λ v. puts-later _ _ _ _ _ _ _ _ _ _ (v .11) (v .12) (ap grown.To (v .13) ∙ sym (v .9 .given .1)) (v .3 .ensures))
           (λ v. puts-later _ _ _ _ _ _ _ _ _ _ (v .11) (v .12) (ap grown.To (v .13) ∙ sym (v .9 .given .1))
           (puts-is _ _ _ _ _ _ _ _ (chosen-all (s .args .size) (s .args .row .now) (s .args .at + 1) _ (v .0 .left) steady) (v .3 .ensures)))
           (c .before .before .if2 .came)) _ refl,
       c .next2 .ensures,
-      free-on _ _ _ _ (w .2) (c .before .lacking2 .ensures),
+      free-on _ _ _ _ (w .2) (c .before .minus2 .ensures),
     )
 
 choose-same-length-7 : (t : ℕ) → choose-lts.Need-same-length-7 (claims t) (choose-at t) choose.Post choose-Inv-loop choose-μ-loop

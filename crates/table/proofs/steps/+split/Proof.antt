@@ -23,17 +23,17 @@ use Rattle.table.proofs.steps.split.Kinds as split-kinds
 use Rattle.table.proofs.steps.+split.Lts-split as split-lts
 use Rattle.sheet.proofs.masks.next.Reads as next-reads
 use Rattle.sheet.proofs.masks.replace.Reads as replace-reads
-use Rattle.table.proofs.effects.effect_at.Reads as effect-at-reads
+use Rattle.sheet.proofs.packed.effect_at.Reads as effect-at-reads
 use Rattle.table.proofs.slots.offer_by_newest.Reads as offer-by-newest-reads
 use Rattle.table.proofs.steps.carried.Reads as carried-reads
-use Rattle.table.proofs.steps.lacking.Reads as lacking-reads
+use Rattle.sheet.proofs.masks.minus.Reads as minus-reads
 use Rattle.table.proofs.steps.part.Reads as part-reads
 use Rattle.table.proofs.steps.skip_decided.Reads as skip-decided-reads
 use Rattle.table.proofs.steps.+split.{statement}
 use Rattle.table.proofs.steps.+split.Tie.{close}
 
 abbrev μ-split : Measures 2 split-kinds.ps ℕ
-μ-split κs a = a .1 .0 - a .1 .1 .0
+μ-split κs a = a .1 .0 - a .1 .1 .0 .at
 
 abbrev split-at : ℕ → In 2 split-kinds.ps
 split-at t = and 2 split-kinds.ps (is 2 split-kinds.ps μ-split t) split.Pre
@@ -42,34 +42,34 @@ abbrev split-below : ℕ → In 2 split-kinds.ps
 split-below t = and 2 split-kinds.ps (falls 2 split-kinds.ps _<_ μ-split t) split.Pre
 
 abbrev claims : ℕ → split-lts.Claims
-claims t = (effect-at-reads.Asked, effect-at-reads.Learnt, lacking-reads.Asked, lacking-reads.Learnt, part-reads.Asked, part-reads.Learnt, carried-reads.Asked, carried-reads.Learnt, skip-decided-reads.Asked, skip-decided-reads.Learnt, split-below t, split.Post, replace-reads.Asked, replace-reads.Learnt, offer-by-newest-reads.Asked, offer-by-newest-reads.Learnt, next-reads.Asked, next-reads.Learnt)
+claims t = (effect-at-reads.Asked, effect-at-reads.Learnt, minus-reads.Asked, minus-reads.Learnt, part-reads.Asked, part-reads.Learnt, carried-reads.Asked, carried-reads.Learnt, skip-decided-reads.Asked, skip-decided-reads.Learnt, split-below t, split.Post, replace-reads.Asked, replace-reads.Learnt, offer-by-newest-reads.Asked, offer-by-newest-reads.Learnt, next-reads.Asked, next-reads.Learnt)
 
 abbrev split-Inv-loop : split-lts.InvT-loop
-split-Inv-loop effects size at piece results trues₀ falses₀ k e condition missing next sum₀ t₀ trues falses sum t =
+split-Inv-loop effects size piece to-trues₀ to-falses₀ count at results e condition missing next filled₀ t₀ to-trues to-falses filled t =
     Turn missing t
-    × Going (map (image (effectsAt size effects)) (pieces (drop at (effectsAt size effects)) piece)) k trues₀ falses₀
-    (partsFrom (effectsAt size effects) (drop next (effectsAt size effects)) condition piece missing t) sum trues falses
+    × Going (map (image (effectsAt size effects)) (pieces (drop at (effectsAt size effects)) piece)) count to-trues₀ to-falses₀
+    (partsFrom (effectsAt size effects) (drop next (effectsAt size effects)) condition piece missing t) filled to-trues to-falses
 
 abbrev split-μ-loop : split-lts.MeasureT-loop
-split-μ-loop effects size at piece results trues₀ falses₀ k e condition missing next sum₀ t₀ trues falses sum t = 65 - t
+split-μ-loop effects size piece to-trues₀ to-falses₀ count at results e condition missing next filled₀ t₀ to-trues to-falses filled t = 65 - t
 
 -- the condition at hand is the first that is left
 here : (t : ℕ) (c : split-lts.After-effect-at (claims t) (split-at t) split.Post split-Inv-loop split-μ-loop)
-    → let a = c .before .before .before .before .args in
+    → let a = c .before .before .before .before .before .args in
     let es = effectsAt (a .size) (a .effects .now) in
-    drop (a .at) es ≡ c .effect-at .result ∷ drop (a .at + 1) es
-here t c = let o = c .before .before .before .before in effects-step (o .args .size) (o .args .effects .now) (o .args .at) _ (o .pre .1 .1 .0 .0) (c .effect-at .ensures)
+    drop (a .undecided .at) es ≡ c .effect-at .result ∷ drop (a .undecided .at + 1) es
+here t c = let o = c .before .before .before .before .before in effects-step (o .args .size) (o .args .effects .now) (o .args .undecided .at) _ (o .pre .1 .below) (c .effect-at .ensures)
 
-splits : (t : ℕ) (c : split-lts.After-effect-at (claims t) (split-at t) split.Post split-Inv-loop split-μ-loop) → Splits (c .effect-at .result .condition) (c .before .before .before .before .args .piece)
-splits t c = let o = c .before .before .before .before in subst (λ (e : Effect). Splits (e .condition) (o .args .piece)) (sym (c .effect-at .ensures)) (o .pre .1 .1 .0 .1)
+splits : (t : ℕ) (c : split-lts.After-effect-at (claims t) (split-at t) split.Post split-Inv-loop split-μ-loop) → Splits (c .effect-at .result .condition) (c .before .before .before .before .before .args .piece)
+splits t c = let o = c .before .before .before .before .before in subst (λ (e : Effect). Splits (e .condition) (o .args .piece)) (sym (c .effect-at .ensures)) (o .pre .1 .splits)
 
 -- the part of this turn comes first, and then those from the next turn on
 turned : (t : ℕ) (c : split-lts.After-skip-decided (claims t) (split-at t) split.Post split-Inv-loop split-μ-loop) (n : ℕ)
-    → let a = c .before .before .before .before .before .before .before .before .before .before .before .args in
+    → let a = c .before .before .before .before .before .before .before .before .before .before .before .before .args in
     let es = effectsAt (a .size) (a .effects .now) in
-    let hs = drop (a .at + 1) es in
+    let hs = drop (a .undecided .at + 1) es in
     let d = c .before .before .before .before .before .before .before .effect-at .result .condition in
-    let m = c .before .before .before .before .before .lacking .result in
+    let m = c .before .before .before .before .before .minus .result in
     n ≡ nextOf m (c .before .before .before .before .loop .t)
     → partsFrom es hs d (a .piece) m (c .before .before .before .before .loop .t) ≡ map (image es) (pieces hs (c .before .before .part .result)) ++ partsFrom es hs d (a .piece) m (n + 1)
 turned t c n q =
@@ -78,7 +78,7 @@ turned t c n q =
 split-effect-at-requires : (t : ℕ) → split-lts.Need-effect-at-requires (claims t) (split-at t) split.Post split-Inv-loop split-μ-loop
 split-effect-at-requires t c κs = search needs
 
-split-lacking-requires : (t : ℕ) → split-lts.Need-lacking-requires (claims t) (split-at t) split.Post split-Inv-loop split-μ-loop
+split-lacking-requires : (t : ℕ) → split-lts.Need-minus-requires (claims t) (split-at t) split.Post split-Inv-loop split-μ-loop
 split-lacking-requires t c κs = search needs
 
 split-add-next : (t : ℕ) → split-lts.Need-add-next (claims t) (split-at t) split.Post split-Inv-loop split-μ-loop
@@ -86,9 +86,9 @@ split-add-next t c = search needs
 
 split-loop-holds : (t : ℕ) → split-lts.Need-loop-holds (claims t) (split-at t) split.Post split-Inv-loop split-μ-loop
 split-loop-holds t c =
-    let o = c .before .before .before .before .before .before in
+    let o = c .before .before .before .before .before .before .before in
     let s = splits t (c .before .before) in
-    (turn-start _, going-start _ _ _ _ _ (parts-start (effectsAt (o .args .size) (o .args .effects .now)) _ _ _ (o .args .piece) (here t (c .before .before)) _ (rw (s .lacking, s .apart)) (c .lacking .ensures)) (o .pre .1 .1 .1 .1))
+    (turn-start _, going-start _ _ _ _ _ (parts-start (effectsAt (o .args .size) (o .args .effects .now)) _ _ _ (o .args .piece) (here t (c .before .before)) _ (rw (s .lacking, s .apart)) (c .minus .ensures)) (o .pre .1 .held))
 
 split-part-requires : (t : ℕ) → split-lts.Need-part-requires (claims t) (split-at t) split.Post split-Inv-loop split-μ-loop
 split-part-requires t c κs = search needs
@@ -98,35 +98,41 @@ split-carried-requires t c κs = search needs
 
 split-skip-decided-requires : (t : ℕ) → split-lts.Need-skip-decided-requires (claims t) (split-at t) split.Post split-Inv-loop split-μ-loop
 split-skip-decided-requires t c κs =
-    let o = c .before .before .before .before .before .before .before .before .before .before in
+    let o = c .before .before .before .before .before .before .before .before .before .before .before in
     let v = c .before .before .before .loop in (
-      o .pre .1 .0,
-      past-part _ _ _ _ (here t (c .before .before .before .before .before .before)) _ _ (o .pre .1 .1 .1 .0) _ (c .before .before .before .before .lacking .ensures) (splits t (c .before .before .before .before .before .before) .apart) (v .t) (c .before .before .loop-test .taken) (v .inv .0) _ _ (c .before .part .ensures) (c .carried .ensures),
+      o .pre .1 .effects-room,
+      past-part _ _ _ _ (here t (c .before .before .before .before .before .before)) _ _ (o .pre .1 .carried) _ (c .before .before .before .before .minus .ensures) (splits t (c .before .before .before .before .before .before) .apart) (v .t) (c .before .before .loop-test .taken) (v .inv .0) _ _ (c .before .part .ensures) (c .carried .ensures),
     )
 
 split-split-requires : (t : ℕ) → split-lts.Need-split-requires (claims t) (split-at t) split.Post split-Inv-loop split-μ-loop
 split-split-requires t c κs =
-    let o = c .before .before .before .before .before .before .before .before .before .before .before .before .before .before .before in
+    let o = c .before .before .before .before .before .before .before .before .before .before .before .before .before .before .before .before in
     let s = c .before .before .before .before .skip-decided .ensures in
     let h : c .before .before .before .before .skip-decided .result .at < o .args .size = omega arith in (
-      omega (arith, s .0 .upto, o .pre .0, o .pre .1 .1 .0 .0),
-      (o .pre .1 .0, ((h, s .1 h), (s .0 .carried, held-own _ _ _ _ (c .before .before .before .before .before .before .before .before .loop .inv .1 .held)))),
+      omega (arith, s .0 .upto, o .pre .0, o .pre .1 .below),
+      record {
+        effects-room = o .pre .1 .effects-room;
+        below = h;
+        splits = s .1 h;
+        carried = s .0 .carried;
+        held = held-own _ _ _ _ (c .before .before .before .before .before .before .before .before .loop .inv .1 .held);
+      },
     )
 
-split-enum-known-m : (t : ℕ) → split-lts.Need-enum-known-m (claims t) (split-at t) split.Post split-Inv-loop split-μ-loop
-split-enum-known-m t c = search needs
+split-enum-known-grown : (t : ℕ) → split-lts.Need-enum-known-grown (claims t) (split-at t) split.Post split-Inv-loop split-μ-loop
+split-enum-known-grown t c = search needs
 
 split-enum-told : (t : ℕ) → split-lts.Need-enum-told (claims t) (split-at t) split.Post split-Inv-loop split-μ-loop
 split-enum-told t c = search needs
 
 split-same-length : (t : ℕ) → split-lts.Need-same-length (claims t) (split-at t) split.Post split-Inv-loop split-μ-loop
-split-same-length t c = c .before .before .before .before .before .before .split .kept .1 .1 .1 .1 .1 .0 ∙ holds-trues-long _ _ _ _ _ (c .before .before .before .before .before .before .before .before .before .before .before .before .before .before .before .loop .inv .1 .held)
+split-same-length t c = c .before .before .before .before .before .before .split .kept .1 .1 .1 .1 .0 ∙ holds-trues-long _ _ _ _ _ (c .before .before .before .before .before .before .before .before .before .before .before .before .before .before .before .loop .inv .1 .held)
 
 split-same-length-2 : (t : ℕ) → split-lts.Need-same-length-2 (claims t) (split-at t) split.Post split-Inv-loop split-μ-loop
 split-same-length-2 t c =
-    c .before .before .before .before .before .before .split .kept .1 .1 .1 .1 .1 .1 .0
+    c .before .before .before .before .before .before .split .kept .1 .1 .1 .1 .1 .0
     ∙ holds-falses-long _ _ _ _ _ (c .before .before .before .before .before .before .before .before .before .before .before .before .before .before .before .loop .inv .1 .held)
-    ∙ sym (holds-falses-long _ _ _ _ _ (c .before .before .before .before .before .before .before .before .before .before .before .before .before .before .before .before .before .before .before .before .before .before .pre .1 .1 .1 .1))
+    ∙ sym (holds-falses-long _ _ _ _ _ (c .before .before .before .before .before .before .before .before .before .before .before .before .before .before .before .before .before .before .before .before .before .before .before .pre .1 .held))
 
 split-returns : (t : ℕ) → split-lts.Need-returns (claims t) (split-at t) split.Post split-Inv-loop split-μ-loop
 split-returns t c =
@@ -139,8 +145,8 @@ split-replace-requires t c κs = search needs
 split-offer-by-newest-requires : (t : ℕ) → split-lts.Need-offer-by-newest-requires (claims t) (split-at t) split.Post split-Inv-loop split-μ-loop
 split-offer-by-newest-requires t c κs = held-own _ _ _ _ (c .before .before .before .before .before .before .before .before .before .loop .inv .1 .held)
 
-split-enum-known-m-2 : (t : ℕ) → split-lts.Need-enum-known-m-2 (claims t) (split-at t) split.Post split-Inv-loop split-μ-loop
-split-enum-known-m-2 t c = search needs
+split-enum-known-grown-2 : (t : ℕ) → split-lts.Need-enum-known-grown-2 (claims t) (split-at t) split.Post split-Inv-loop split-μ-loop
+split-enum-known-grown-2 t c = search needs
 
 split-enum-told-2 : (t : ℕ) → split-lts.Need-enum-told-2 (claims t) (split-at t) split.Post split-Inv-loop split-μ-loop
 split-enum-told-2 t c = search needs
@@ -152,12 +158,12 @@ split-same-length-4 : (t : ℕ) → split-lts.Need-same-length-4 (claims t) (spl
 split-same-length-4 t c =
     c .before .before .before .before .before .before .offer-by-newest .kept .1 .0
     ∙ holds-falses-long _ _ _ _ _ (c .before .before .before .before .before .before .before .before .before .before .before .before .before .before .before .before .loop .inv .1 .held)
-    ∙ sym (holds-falses-long _ _ _ _ _ (c .before .before .before .before .before .before .before .before .before .before .before .before .before .before .before .before .before .before .before .before .before .before .before .pre .1 .1 .1 .1))
+    ∙ sym (holds-falses-long _ _ _ _ _ (c .before .before .before .before .before .before .before .before .before .before .before .before .before .before .before .before .before .before .before .before .before .before .before .before .pre .1 .held))
 
 split-returns-2 : (t : ℕ) → split-lts.Need-returns-2 (claims t) (split-at t) split.Post split-Inv-loop split-μ-loop
 split-returns-2 t c =
     let s = c .before .before .before .before .before .before .before .before .before .before .before .before in
-    let a = s .before .before .before .before .before .before .before .before .before .before .before .args in
+    let a = s .before .before .before .before .before .before .before .before .before .before .before .before .args in
     going-full _ _ _ _ _ _ _ _ _ _ _ _ _ (s .before .before .before .before .loop .inv .1) (turned t s _ refl)
     (settles-leaf _ _ _ _ (s .skip-decided .ensures .0) (effects-end (a .size) (a .effects .now) (s .skip-decided .result .at) (omega (arith, c .before .before .before .before .before .before .before .before .before .before .if1 .left))) _ (c .before .before .before .before .before .before .before .replace .ensures) _ _ _ _ _ _ (c .before .before .before .before .before .before .offer-by-newest .ensures)) (c .enum-told2 .given .1)
 
@@ -175,7 +181,7 @@ split-loop-less t c =
 split-loop-again : (t : ℕ) → split-lts.Need-loop-again (claims t) (split-at t) split.Post split-Inv-loop split-μ-loop
 split-loop-again t c =
     let s = c .before .before .before in
-    let a = s .before .before .before .before .before .before .before .before .before .before .before .args in
+    let a = s .before .before .before .before .before .before .before .before .before .before .before .before .args in
     let v = s .before .before .before .before .loop in (
       turn-on _ (v .t) _ (c .next .ensures),
       ⊎-elim
@@ -191,7 +197,7 @@ split-same-length-5 : (t : ℕ) → split-lts.Need-same-length-5 (claims t) (spl
 split-same-length-5 t c = holds-trues-long _ _ _ _ _ (c .before .loop .inv .1 .held)
 
 split-same-length-6 : (t : ℕ) → split-lts.Need-same-length-6 (claims t) (split-at t) split.Post split-Inv-loop split-μ-loop
-split-same-length-6 t c = holds-falses-long _ _ _ _ _ (c .before .loop .inv .1 .held) ∙ sym (holds-falses-long _ _ _ _ _ (c .before .before .before .before .before .before .before .before .pre .1 .1 .1 .1))
+split-same-length-6 t c = holds-falses-long _ _ _ _ _ (c .before .loop .inv .1 .held) ∙ sym (holds-falses-long _ _ _ _ _ (c .before .before .before .before .before .before .before .before .before .pre .1 .held))
 
 split-returns-3 : (t : ℕ) → split-lts.Need-returns-3 (claims t) (split-at t) split.Post split-Inv-loop split-μ-loop
 split-returns-3 t c = going-end _ _ _ _ _ _ _ _ (c .before .loop .inv .1) (parts-end _ _ _ _ _ (c .before .loop .t) (c .loop-test .left))
@@ -210,14 +216,14 @@ pub +split-spec : {M : Type 1} → statement M
     (split-carried-requires t)
     (split-skip-decided-requires t)
     (split-split-requires t)
-    (split-enum-known-m t)
+    (split-enum-known-grown t)
     (split-enum-told t)
     (split-same-length t)
     (split-same-length-2 t)
     (split-returns t)
     (split-replace-requires t)
     (split-offer-by-newest-requires t)
-    (split-enum-known-m-2 t)
+    (split-enum-known-grown-2 t)
     (split-enum-told-2 t)
     (split-same-length-3 t)
     (split-same-length-4 t)

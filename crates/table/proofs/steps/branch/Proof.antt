@@ -8,14 +8,14 @@ use Rattle.table.proofs.steps.branch.Statement.{statement}
 use Rattle.table.proofs.steps.branch.Tie as tie
 
 skip-decided-requires : tie.Need-skip-decided-requires
-skip-decided-requires c κs = let o = c .before .before .before in (o .pre .0, carried-start _ _ (o .pre .1 .0 .0) (o .pre .1 .0 .1))
+skip-decided-requires c κs = let o = c .before .before .before in (o .pre .effects-room, carried-start _ _ (o .pre .steady) (o .pre .entry-steady))
 
 split-requires : tie.Need-split-requires
 split-requires c κs =
     let o = c .before .before .before .before .before .before .before .before in
     let s = c .before .before .before .before .skip-decided .ensures in
     let h : c .before .before .before .before .skip-decided .result .at < o .args .size = omega arith in
-    (o .pre .0, ((h, s .1 h), (s .0 .carried, o .pre .1 .1)))
+    record { effects-room = o .pre .effects-room; below = h; splits = s .1 h; carried = s .0 .carried; held = o .pre .held }
 
 same-length : tie.Need-same-length
 same-length c = search needs

@@ -21,16 +21,16 @@ use Rattle.table.proofs.steps.branch_all.Statement.{statement}
 use Rattle.table.proofs.steps.branch_all.Tie as tie
 
 abbrev Inv-loop : tie.InvT-loop
-Inv-loop effects size ts fs m trues₀ falses₀ k sum₀ i₀ trues falses sum i =
-    (i ≤ m)
-    × Going (map (image (effectsAt size effects)) (collect (pieces (effectsAt size effects)) (entriesOf m ts fs))) k trues₀ falses₀
-    (map (image (effectsAt size effects)) (collect (pieces (effectsAt size effects)) (drop i (entriesOf m ts fs)))) sum trues falses
+Inv-loop effects size trues falses count to-trues₀ to-falses₀ filled₀ i₀ to-trues to-falses filled i =
+    (i ≤ count)
+    × Going (map (image (effectsAt size effects)) (collect (pieces (effectsAt size effects)) (entriesOf count trues falses))) 0 to-trues₀ to-falses₀
+    (map (image (effectsAt size effects)) (collect (pieces (effectsAt size effects)) (drop i (entriesOf count trues falses)))) filled to-trues to-falses
 
 abbrev μ-loop : tie.MeasureT-loop
-μ-loop effects size ts fs m trues₀ falses₀ k sum₀ i₀ trues falses sum i = m - i
+μ-loop effects size trues falses count to-trues₀ to-falses₀ filled₀ i₀ to-trues to-falses filled i = count - i
 
 loop-holds : tie.Need-loop-holds Inv-loop μ-loop
-loop-holds c = (omega arith, going-start _ _ _ _ _ refl (c .before .before .before .before .before .pre .1 .1 .1))
+loop-holds c = (omega arith, going-start _ _ _ _ _ refl (c .before .before .before .before .before .pre .held))
 
 entry-at-requires : tie.Need-entry-at-requires Inv-loop μ-loop
 entry-at-requires c κs = search needs
@@ -39,19 +39,16 @@ branch-requires : tie.Need-branch-requires Inv-loop μ-loop
 branch-requires c κs =
     let o = c .before .before .before .before .before .before .before .before .before .before in
     let a = o .args in
-    let v = c .before .before .before .before .loop in (
-      o .pre .0,
-      (
-        (
-          o .pre .1 .1 .0 .0,
-          all-here (λ d. consistent d ≡ true) _ _ (v .i) _ (entries-next (a .m) (a .ts .now) (a .fs .now) (v .i) _ (c .before .before .before .loop-test .taken) (c .before .before .entry-at .ensures)) (o .pre .1 .1 .0 .1),
-        ),
-        held-own _ _ _ _ (v .inv .1 .held),
-      ),
-    )
+    let v = c .before .before .before .before .loop in
+    record {
+      effects-room = o .pre .effects-room;
+      steady = o .pre .steady;
+      entry-steady = all-here (λ d. consistent d ≡ true) _ _ (v .i) _ (entries-next (a .count) (a .trues .now) (a .falses .now) (v .i) _ (c .before .before .before .loop-test .taken) (c .before .before .entry-at .ensures)) (o .pre .entries-steady);
+      held = held-own _ _ _ _ (v .inv .1 .held);
+    }
 
-enum-known-j : tie.Need-enum-known-j Inv-loop μ-loop
-enum-known-j c = search needs
+enum-known-grown : tie.Need-enum-known-grown Inv-loop μ-loop
+enum-known-grown c = search needs
 
 enum-told : tie.Need-enum-told Inv-loop μ-loop
 enum-told c = search needs
@@ -65,14 +62,14 @@ same-length-2 : tie.Need-same-length-2 Inv-loop μ-loop
 same-length-2 c =
     c .before .before .before .before .before .before .branch .kept .1 .1 .1 .1 .0
     ∙ holds-falses-long _ _ _ _ _ (c .before .before .before .before .before .before .before .before .before .before .before .loop .inv .1 .held)
-    ∙ sym (holds-falses-long _ _ _ _ _ (c .before .before .before .before .before .before .before .before .before .before .before .before .before .before .before .before .before .pre .1 .1 .1))
+    ∙ sym (holds-falses-long _ _ _ _ _ (c .before .before .before .before .before .before .before .before .before .before .before .before .before .before .before .before .before .pre .held))
 
 returns : tie.Need-returns Inv-loop μ-loop
 returns c =
     let a = c .before .before .before .before .before .before .before .before .before .before .before .before .before .before .before .before .before .args in
     going-full _ _ _ _ _ _ _ _ _ _ _ _ _ (c .before .before .before .before .before .before .before .before .before .before .before .loop .inv .1)
     (entries-ways (effectsAt (a .size) (a .effects .now)) _ _ _
-    (entries-next (a .m) (a .ts .now) (a .fs .now) (c .before .before .before .before .before .before .before .before .before .before .before .loop .i) (c .before .before .before .before .before .before .before .before .before .entry-at .result) (c .before .before .before .before .before .before .before .before .before .before .loop-test .taken) (c .before .before .before .before .before .before .before .before .before .entry-at .ensures)))
+    (entries-next (a .count) (a .trues .now) (a .falses .now) (c .before .before .before .before .before .before .before .before .before .before .before .loop .i) (c .before .before .before .before .before .before .before .before .before .entry-at .result) (c .before .before .before .before .before .before .before .before .before .before .loop-test .taken) (c .before .before .before .before .before .before .before .before .before .entry-at .ensures)))
     (c .before .before .before .before .before .before .branch .ensures) (c .enum-told .given .1)
 
 add-i : tie.Need-add-i Inv-loop μ-loop
@@ -87,22 +84,22 @@ loop-again c =
       omega arith,
       going-on _ _ _ _ _ _ _ _ _ _ _ _ _ (c .before .before .before .before .before .before .before .before .before .before .before .before .loop .inv .1)
           (entries-ways (effectsAt (a .size) (a .effects .now)) _ _ _
-          (entries-next (a .m) (a .ts .now) (a .fs .now) (c .before .before .before .before .before .before .before .before .before .before .before .before .loop .i) (c .before .before .before .before .before .before .before .before .before .before .entry-at .result) (c .before .before .before .before .before .before .before .before .before .before .before .loop-test .taken) (c .before .before .before .before .before .before .before .before .before .before .entry-at .ensures)))
-          (c .before .before .before .before .before .before .before .branch .ensures) _ (c .before .j .given .1),
+          (entries-next (a .count) (a .trues .now) (a .falses .now) (c .before .before .before .before .before .before .before .before .before .before .before .before .loop .i) (c .before .before .before .before .before .before .before .before .before .before .entry-at .result) (c .before .before .before .before .before .before .before .before .before .before .before .loop-test .taken) (c .before .before .before .before .before .before .before .before .before .before .entry-at .ensures)))
+          (c .before .before .before .before .before .before .before .branch .ensures) _ (c .before .grown .given .1),
     )
 
 same-length-3 : tie.Need-same-length-3 Inv-loop μ-loop
 same-length-3 c = holds-trues-long _ _ _ _ _ (c .before .loop .inv .1 .held)
 
 same-length-4 : tie.Need-same-length-4 Inv-loop μ-loop
-same-length-4 c = holds-falses-long _ _ _ _ _ (c .before .loop .inv .1 .held) ∙ sym (holds-falses-long _ _ _ _ _ (c .before .before .before .before .before .before .before .pre .1 .1 .1))
+same-length-4 c = holds-falses-long _ _ _ _ _ (c .before .loop .inv .1 .held) ∙ sym (holds-falses-long _ _ _ _ _ (c .before .before .before .before .before .before .before .pre .held))
 
 returns-2 : tie.Need-returns-2 Inv-loop μ-loop
 returns-2 c =
     let a = c .before .before .before .before .before .before .before .args in
     going-end _ _ _ _ _ _ _ _ (c .before .loop .inv .1)
     (ap (λ (x : List Literals). map (image (effectsAt (a .size) (a .effects .now))) (collect (pieces (effectsAt (a .size) (a .effects .now))) x))
-    (entries-done (a .m) (a .ts .now) (a .fs .now) (c .before .loop .i) (c .loop-test .left)))
+    (entries-done (a .count) (a .trues .now) (a .falses .now) (c .before .loop .i) (c .loop-test .left)))
 
 pub branch-all-spec : {M : Type 1} → statement M
 branch-all-spec =
@@ -113,7 +110,7 @@ branch-all-spec =
     loop-holds
     entry-at-requires
     branch-requires
-    enum-known-j
+    enum-known-grown
     enum-told
     same-length
     same-length-2

@@ -1,49 +1,62 @@
 -- `table::steps::step_at` meets its contract. Assumes nothing.
-use mathlib.Core.Path.{sym, ap, subst, _∙_}
+use mathlib.Core.Path.{_≡_, sym, ap, _∙_}
+use Prim.Native.Nat.{ℕ, _≤_, _*_, _+_, _-_}
+use mathlib.Core.List.{List}
 use native.Mathlib.Omega.{arith}
+use borrow.Author.Tests.{not-true, not-false}
+use lib.ListN.{length, take, drop}
+use Rattle.sheet.specs.Packed.{part, movesIn, actionBy, countIn, actionOf}
+use Rattle.sheet.proofs.PackedLaws.{item-lent, part-long, effects-room}
+use Rattle.table.proofs.Advancing.{action-is, fresh-held, effects-steady, entries-steady, lent-unsure, lent-conflicting, lent-full, lent-to}
 use borrow.Author.Needs.{needs}
-use denote.Ref.{now}
-use lib.ListN.{length-take, length-drop}
-use Rattle.sheet.specs.Problem.{Action}
-use Rattle.table.specs.Step.{stepTable}
-use Rattle.table.specs.Slots.{entriesOf}
-use Rattle.table.specs.Moves.{Fits, lent}
-use Rattle.table.specs.Calls.{orGiven}
-use Rattle.sheet.specs.Packed.{countIn}
-use Rattle.sheet.proofs.PackedLaws.{item-lent}
-use Rattle.table.proofs.Advancing.{action-is}
 use Rattle.table.proofs.steps.step_at.Statement.{statement}
 use Rattle.table.proofs.steps.step_at.Tie as tie
 
-mul-i : tie.Need-mul-i
-mul-i c = search needs
+-- what was read is the move
+its-move : (c : tie.After-wide) → let a = c .before .before .before .before .before .before .before .before .before .before .args in
+    actionBy (c .before .before .set-from .result) (c .wide .result) (take 32 (drop 3 (take (a .index * 35 + 35 - a .index * 35) (drop (a .index * 35) (movesIn (a .packed .now))))))
+    ≡ actionOf (movesIn (a .packed .now)) (a .index)
+its-move c = let a = c .before .before .before .before .before .before .before .before .before .before .args in action-is (movesIn (a .packed .now)) (a .index) _ _ _ (item-lent 35 (a .index) (movesIn (a .packed .now))) (c .before .before .set-from .ensures) (c .wide .ensures)
 
-add-row : tie.Need-add-row
-add-row c = search needs
+-- its effects are within the row
+its-effects : (c : tie.After-wide) → let a = c .before .before .before .before .before .before .before .before .before .before .args in
+    4 * c .wide .result ≤ length (take 32 (drop 3 (take (a .index * 35 + 35 - a .index * 35) (drop (a .index * 35) (movesIn (a .packed .now))))))
+its-effects c =
+    let a = c .before .before .before .before .before .before .before .before .before .before .args in
+    let moves = movesIn (a .packed .now) in
+    let room = part-long 289 1120 (a .packed .now) (omega (arith, c .before .before .before .before .before .before .before .before .before .before .pre .long)) in
+    let e = ap (λ (x : List ℕ). length (part 3 32 x)) (item-lent 35 (a .index) moves) ∙ effects-room (a .index) moves (omega (arith, room, c .before .before .before .before .before .before .before .before .before .before .pre .move-most)) in
+    omega (arith, e, c .before .before .before .before .before .before .before .before .before .before .pre .effects-few, c .wide .ensures ∙ ap countIn (item-lent 35 (a .index) moves))
 
-mul-row : tie.Need-mul-row
-mul-row c = search needs
+sub-moves : tie.Need-sub-moves
+sub-moves c = search needs
 
-sub-row : tie.Need-sub-row
-sub-row c = search needs
+part-moves-start : tie.Need-part-moves-start
+part-moves-start c = search needs
 
-part-row-start : tie.Need-part-row-start
-part-row-start c = search needs
+part-moves-end : tie.Need-part-moves-end
+part-moves-end c = search needs
 
-part-row-end : tie.Need-part-row-end
-part-row-end c = search needs
+mul-at : tie.Need-mul-at
+mul-at c = search needs
+
+add-item : tie.Need-add-item
+add-item c = search needs
+
+mul-item : tie.Need-mul-item
+mul-item c = search needs
+
+sub-item : tie.Need-sub-item
+sub-item c = search needs
+
+part-item-start : tie.Need-part-item-start
+part-item-start c = search needs
+
+part-item-end : tie.Need-part-item-end
+part-item-end c = search needs
 
 set-from-requires : tie.Need-set-from-requires
 set-from-requires c κs = search needs
-
-sub-step-into : tie.Need-sub-step-into
-sub-step-into c = search needs
-
-part-step-into-start : tie.Need-part-step-into-start
-part-step-into-start c = search needs
-
-part-step-into-end : tie.Need-part-step-into-end
-part-step-into-end c = search needs
 
 shared-slice-read-wide : tie.Need-shared-slice-read-wide
 shared-slice-read-wide c = search needs
@@ -51,17 +64,43 @@ shared-slice-read-wide c = search needs
 wide-requires : tie.Need-wide-requires
 wide-requires c κs = search needs
 
-step-into-requires : tie.Need-step-into-requires
-step-into-requires c κs =
-    let z = c .before .before .before .before .before .before .before .before .before .before .before .before in
-    let xs = z .args .moves .now in
-    let m = z .args .m in
-    let r = item-lent 35 m xs in
-    let w = c .before .before .wide .ensures in
-    let a = action-is xs m _ _ _ r (c .before .before .before .before .before .set-from .ensures) w in (
-      simp (length-take, length-drop) (omega (arith, z .pre .0, w ∙ ap countIn r)),
-      (subst (λ (x : Action). Fits x (lent (z .args .n) (now (z .args .ts)) (now (z .args .fs)))) (sym a) (z .pre .1 .0), z .pre .1 .1),
-    )
+sub-effects : tie.Need-sub-effects
+sub-effects c = search needs
+
+part-effects-start : tie.Need-part-effects-start
+part-effects-start c = search needs
+
+part-effects-end : tie.Need-part-effects-end
+part-effects-end c = search needs
+
+sure-requires : tie.Need-sure-requires
+sure-requires c κs = search needs
+
+returns : tie.Need-returns
+returns c = lent-unsure _ _ _ _ (c .before .before .before .before .before .before .before .before .before .before .before .before .before .pre .fits) _ (its-move (c .before .before .before)) (sym (c .before .sure .ensures) ∙ not-true _ (c .if1 .taken))
+
+conflicting-requires : tie.Need-conflicting-requires
+conflicting-requires c κs = (its-effects (c .before .before .before), c .before .before .before .before .before .before .before .before .before .before .before .before .before .pre .room)
+
+returns-2 : tie.Need-returns-2
+returns-2 c = lent-conflicting _ _ _ _ (c .before .before .before .before .before .before .before .before .before .before .before .before .before .before .before .pre .fits) _ (its-move (c .before .before .before .before .before)) (sym (c .before .before .before .sure .ensures) ∙ not-false _ (c .before .before .if1 .left)) (sym (c .before .conflicting .ensures) ∙ c .if2 .taken)
+
+branch-all-requires : tie.Need-branch-all-requires
+branch-all-requires c κs =
+    let is = its-move (c .before .before .before .before .before .before .before) in
+    record {
+      effects-room = its-effects (c .before .before .before .before .before .before .before);
+      steady = effects-steady _ _ _ _ (c .before .before .before .before .before .before .before .before .before .before .before .before .before .before .before .before .before .pre .fits) _ is;
+      room = c .before .before .before .before .before .before .before .before .before .before .before .before .before .before .before .before .before .pre .room;
+      entries-steady = entries-steady _ _ _ _ (c .before .before .before .before .before .before .before .before .before .before .before .before .before .before .before .before .before .pre .fits) _ is;
+      held = fresh-held _ _ (c .before .before .before .before .before .before .before .before .before .before .before .before .before .before .before .before .before .pre .fresh);
+    }
+
+enum-known-filled : tie.Need-enum-known-filled
+enum-known-filled c = search needs
+
+enum-told : tie.Need-enum-told
+enum-told c = search needs
 
 same-length : tie.Need-same-length
 same-length c = search needs
@@ -69,33 +108,49 @@ same-length c = search needs
 same-length-2 : tie.Need-same-length-2
 same-length-2 c = search needs
 
-returns : tie.Need-returns
-returns c =
-    let z = c .before .before .before .before .before .before .before .before .before .before .before .before .before .before .before .before .before in
-    let t = lent (z .args .n) (now (z .args .ts)) (now (z .args .fs)) in
-    let m = z .args .m in
-    let xs = z .args .moves .now in
-    c .before .before .before .before .step-into .ensures
-    ∙ ap (λ (x : Action). orGiven t (stepTable 128 x (entriesOf (z .args .n) (now (z .args .ts)) (now (z .args .fs)))))
-    (action-is xs m _ _ _ (item-lent 35 m xs) (c .before .before .before .before .before .before .before .before .before .before .set-from .ensures) (c .before .before .before .before .before .before .before .wide .ensures))
+returns-3 : tie.Need-returns-3
+returns-3 c =
+    lent-to _ _ _ _ (c .before .before .before .before .before .before .before .before .before .before .before .before .before .before .before .before .before .before .before .before .before .before .before .before .before .pre .fits) _ (its-move (c .before .before .before .before .before .before .before .before .before .before .before .before .before .before .before)) (sym (c .before .before .before .before .before .before .before .before .before .before .before .before .before .sure .ensures) ∙ not-false _ (c .before .before .before .before .before .before .before .before .before .before .before .before .if1 .left)) (sym (c .before .before .before .before .before .before .before .before .before .before .before .conflicting .ensures) ∙ c .before .before .before .before .before .before .before .before .before .before .if2 .left) _ _ (c .before .before .before .before .before .before .before .before .before .before .before .before .before .before .before .before .before .before .before .before .before .before .before .before .before .pre .fresh) _ _ _ (c .before .before .before .before .before .before .before .branch-all .ensures) _ (c .before .filled .given .1)
+
+same-length-3 : tie.Need-same-length-3
+same-length-3 c = search needs
+
+same-length-4 : tie.Need-same-length-4
+same-length-4 c = search needs
+
+returns-4 : tie.Need-returns-4
+returns-4 c =
+    lent-full _ _ _ _ (c .before .before .before .before .before .before .before .before .before .before .before .before .before .before .before .before .before .before .before .before .before .before .before .before .pre .fits) _ (its-move (c .before .before .before .before .before .before .before .before .before .before .before .before .before .before)) (sym (c .before .before .before .before .before .before .before .before .before .before .before .before .sure .ensures) ∙ not-false _ (c .before .before .before .before .before .before .before .before .before .before .before .if1 .left)) (sym (c .before .before .before .before .before .before .before .before .before .before .conflicting .ensures) ∙ c .before .before .before .before .before .before .before .before .before .if2 .left) _ _ (c .before .before .before .before .before .before .before .before .before .before .before .before .before .before .before .before .before .before .before .before .before .before .before .before .pre .fresh) _ _ _ (c .before .before .before .before .before .before .branch-all .ensures) (c .enum-told .given .1)
 
 pub step-at-spec : {M : Type 1} → statement M
 step-at-spec =
     tie.close
     (tie.spec
-    mul-i
-    add-row
-    mul-row
-    sub-row
-    part-row-start
-    part-row-end
+    sub-moves
+    part-moves-start
+    part-moves-end
+    mul-at
+    add-item
+    mul-item
+    sub-item
+    part-item-start
+    part-item-end
     set-from-requires
-    sub-step-into
-    part-step-into-start
-    part-step-into-end
     shared-slice-read-wide
     wide-requires
-    step-into-requires
+    sub-effects
+    part-effects-start
+    part-effects-end
+    sure-requires
+    returns
+    conflicting-requires
+    returns-2
+    branch-all-requires
+    enum-known-filled
+    enum-told
     same-length
     same-length-2
-    returns)
+    returns-3
+    same-length-3
+    same-length-4
+    returns-4)
