@@ -32,7 +32,7 @@ use Rattle.table.specs.Slots.{pairs, entriesOf, entries, tableOf, Fresh,
 use Rattle.table.specs.Calls.{orGiven, actionAt, stepKnown, stepMove, stepOf}
 use Rattle.table.specs.declared.steps.Stepped.{Stepped}
 use Rattle.table.specs.declared.steps.Stepped.the-variants as moved
-use Rattle.sheet.specs.Packed.{movesIn, setFrom, actionBy, itemAt, countIn, actionFrom, countOf, actionOf, actionsAt}
+use Rattle.sheet.specs.Packed.{movesIn, setFrom, actionBy, itemAt, countIn, actionFrom, countOf, actionOf}
 use Rattle.table.specs.Moves.{lent, stepAnswer, Fits}
 use Rattle.table.specs.Carry.{Steady}
 use Rattle.table.proofs.Pads.{length-entriesOf, fresh}
@@ -98,12 +98,12 @@ module _ (a : Action) (t : Table) (h : Fits a t) where
       pub overfull : r ≡ grown.Full → outcome ≡ refused 21
       overfull e = by-clear false u ∙ ap orFull (told grown.Full e)
 
-      pub stepped : (k : ℕ) → r ≡ grown.To k → record { answer = Accepted; table = record { count = k; trues = ts; falses = fs } } ≡ orGiven t outcome
+      pub stepped : (k : ℕ) → r ≡ grown.To k → stepAnswer t (moved.To k) ts fs ≡ orGiven t outcome
       unfolding orGiven tableOf
       stepped k e =
           let g = told (grown.To k) e in
           let f = g .1 in
-          (λ j. record { answer = Accepted; table = record { count = f .count-is j; trues = f .trues-are j; falses = f .falses-are j } })
+          (λ j. stepAnswer t (moved.To (f .count-is j)) (f .trues-are j) (f .falses-are j))
           ∙ sym (ap (orGiven t) (by-clear false u ∙ ap orFull (g .0)))
 
 -- ---- the same in lent arrays, into arrays of zeros, by what was read of a move

@@ -35,7 +35,8 @@ pub record Skips (es : List Effect) (at : ℕ) (piece : Literals) (r : Undecided
   pub carried : Carried es (r .at) piece (r .results)
   pub whole : pieces (drop (r .at) es) piece ≡ pieces (drop at es) piece
 
--- ---- what branching asks of the effects in a row of masks, of what it branches, and of the count entries that the images are put after
+-- ---- what branching asks: of the effects in a row of masks, of what is branched, and of the arrays that the images are put in
+-- a piece that the undecided condition splits, after count entries
 pub record SplitFits (effects : List ℕ) (size : ℕ) (u : Undecided) (piece : Literals) (ts fs : List ℕ) (count : ℕ) : Type 0 where
   pub effects-room : 4 * size ≤ length effects
   pub below : u .at < size
@@ -43,13 +44,14 @@ pub record SplitFits (effects : List ℕ) (size : ℕ) (u : Undecided) (piece : 
   pub carried : Carried (effectsAt size effects) (u .at) piece (u .results)
   pub held : Held (length ts) count ts fs
 
+-- an entry, after count entries
 pub record BranchFits (effects : List ℕ) (size : ℕ) (entry : Literals) (ts fs : List ℕ) (count : ℕ) : Type 0 where
   pub effects-room : 4 * size ≤ length effects
   pub steady : Steady (effectsAt size effects)
   pub entry-steady : consistent entry ≡ true
   pub held : Held (length ts) count ts fs
 
--- all entries of a table, into arrays with no entry
+-- the first count entries of a table, into arrays with no entry
 pub record BranchesFit (effects : List ℕ) (size : ℕ) (ts fs : List ℕ) (count : ℕ) (us gs : List ℕ) : Type 0 where
   pub effects-room : 4 * size ≤ length effects
   pub steady : Steady (effectsAt size effects)

@@ -11,7 +11,7 @@ ghost use lib.ListN.{length, take, drop};
 ghost use Rattle.table.specs.Minimal as M;
 ghost use Rattle.table.specs.Picture as P;
 ghost use Rattle.table.specs.Slots.{entriesOf, Room, TableRoom};
-ghost use Rattle.table.specs.PictureCalls.{refusal, given, written};
+ghost use Rattle.table.specs.PictureCalls.{PictureRoom, refusal, given, written};
 
 // A mask in four bytes, high byte first.
 pub(crate) fn write_mask(buffer: &mut [u8], at: usize, mask: u32)
@@ -32,7 +32,7 @@ pub(crate) fn write_picture<'a, 'b>(
     buffer: &'b mut [u8],
 )
     requires { ⌜ Room count (now trues) (now falses) ⌝ }
-    requires { ⌜ (count ≤ 256) × (2 + 8 * count ≤ length (now buffer)) ⌝ }
+    requires { ⌜ PictureRoom count (now buffer) ⌝ }
     ensures { λ r. ⌜ now (buffer .exit) ≡ P.pictureBytes (entriesOf count (now (trues .entry)) (now (falses .entry))) ++ drop (2 + 8 * count) (now (buffer .entry)) ⌝ }
 {
     buffer[0] = (count / 256 % 256) as u8;

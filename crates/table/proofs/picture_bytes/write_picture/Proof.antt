@@ -31,7 +31,7 @@ slice-write-buffer-2 c = simp length-set (omega arith)
 loop-holds : tie.Need-loop-holds Inv-loop μ-loop
 loop-holds c =
     let s = c .before .before .before in
-    (simp length-set (s .pre .1 .1), omega arith, wrote-start _ _ (simp (length-set, length-entriesOf) (s .pre .1 .1)))
+    (simp length-set (s .pre .1 .long), omega arith, wrote-start _ _ (simp (length-set, length-entriesOf) (s .pre .1 .long)))
 
 mul-at : tie.Need-mul-at Inv-loop μ-loop
 mul-at c = omega arith
@@ -83,7 +83,7 @@ same-length c = c .before .loop .inv .2 .long ∙ simp length-set
 returns : tie.Need-returns Inv-loop μ-loop
 returns c =
     let s = c .before .before .before .before .before in
-    wrote-end _ _ _ _ _ (sym (length-entriesOf (s .args .count) (s .args .trues .now) (s .args .falses .now))) (s .pre .1 .1) (c .loop-test .left) (c .before .loop .inv .2)
+    wrote-end _ _ _ _ _ (sym (length-entriesOf (s .args .count) (s .args .trues .now) (s .args .falses .now))) (s .pre .1 .long) (c .loop-test .left) (c .before .loop .inv .2)
 
 pub write-picture-spec : {M : Type 1} → statement M
 write-picture-spec =
