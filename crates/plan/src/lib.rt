@@ -112,8 +112,20 @@ pub fn report(bytes: &[u8], out: &mut [u8]) -> usize
     if out.len() < 8192 {
         return 0;
     }
-    let course = runs::course(bytes, 65);
-    text::write_text(out, course)
+    let mut trues = [0u32; 128];
+    let mut falses = [0u32; 128];
+    let mut entries = [0usize; 65];
+    let mut clauses = [0usize; 65];
+    let ran = runs::course_into(
+        bytes,
+        65,
+        &mut trues,
+        &mut falses,
+        &mut entries,
+        &mut clauses,
+    );
+    let verdict = ran.verdict;
+    text::write_text(out, verdict, ran.rows, &entries, &clauses)
 }
 
 // The first plan of at most `limit` moves that is reached or full. It has eight slots of memory of its own.
