@@ -131,9 +131,9 @@ unfolding rowsText
 wrote-no-rows c b at = wrote-none b at
 
 -- the row of the next place
-pub wrote-row : (c : Counts) (i : ℕ) {b : List ℕ} {at q : ℕ} {m : List ℕ} {r : ℕ} {e : List ℕ} → Wrote b at (rowsText (rowsBelow c i)) q m → q ≤ length b
-    → Wrote m q (rowText (rowAt c i)) r e → Wrote b at (rowsText (rowsBelow c (i + 1))) r e
-wrote-row c i f h g = rw (add-one i, rows-snoc (rowsBelow c i) (rowAt c i)) (wrote-then f h g)
+pub wrote-row : (c : Counts) (i : ℕ) {row : Row} → row ≡ rowAt c i → {b : List ℕ} {at q : ℕ} {m : List ℕ} {r : ℕ} {e : List ℕ}
+    → Wrote b at (rowsText (rowsBelow c i)) q m → q ≤ length b → Wrote m q (rowText row) r e → Wrote b at (rowsText (rowsBelow c (i + 1))) r e
+wrote-row c i is f h g = rw (add-one i, rows-snoc (rowsBelow c i) (rowAt c i)) (wrote-then f h (rw is at g))
 
 -- ---- the whole text
 -- of a refused run

@@ -6,8 +6,11 @@ use Rattle.plan.specs.declared.Row.{Row}
 use Rattle.plan.specs.declared.Counts.{Counts}
 
 -- the row of a place: the place, the entries of its table and the clauses of its picture
+abbrev pub rowIn : List ℕ → List ℕ → ℕ → Row
+rowIn entries clauses place = record { place = place; entries = getD entries place 0; clauses = getD clauses place 0 }
+
 abbrev pub rowAt : Counts → ℕ → Row
-rowAt c at = record { place = at; entries = getD (c .entries) at 0; clauses = getD (c .clauses) at 0 }
+rowAt c at = rowIn (c .entries) (c .clauses) at
 
 -- the rows of the places below n
 abbrev pub rowsBelow : Counts → ℕ → List Row

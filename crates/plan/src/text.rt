@@ -1,6 +1,7 @@
 // The text of the program `check`, written into a lent buffer.
 use crate::Row;
 use crate::Verdict;
+use crate::rows::row_at;
 ghost use mathlib.Core.Path.{_≡_};
 ghost use Prim.Native.Nat.{_+_, _*_, _≤_};
 ghost use lib.ListN.{length};
@@ -79,11 +80,7 @@ pub(crate) fn write_row_lines<'a, 'b>(
     let mut next = at;
     let mut i: usize = 0;
     while i < rows {
-        let row = Row {
-            place: i,
-            entries: entries[i],
-            clauses: clauses[i],
-        };
+        let row = row_at(entries, clauses, i);
         next = write_row_line(out, next, row);
         i += 1;
     }

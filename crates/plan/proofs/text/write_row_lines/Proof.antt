@@ -21,17 +21,8 @@ abbrev μ-loop : tie.MeasureT-loop
 loop-holds : tie.Need-loop-holds Inv-loop μ-loop
 loop-holds c = let a = c .before .args in (omega arith, omega arith, refl, wrote-no-rows (countsIn (a .rows) (a .entries .now) (a .clauses .now)) _ _)
 
-mul-t10 : tie.Need-mul-t10 Inv-loop μ-loop
-mul-t10 c = search needs
-
-element-copy-out-t13 : tie.Need-element-copy-out-t13 Inv-loop μ-loop
-element-copy-out-t13 c = search needs
-
-mul-t14 : tie.Need-mul-t14 Inv-loop μ-loop
-mul-t14 c = search needs
-
-element-copy-out-t17 : tie.Need-element-copy-out-t17 Inv-loop μ-loop
-element-copy-out-t17 c = search needs
+row-at-requires : tie.Need-row-at-requires Inv-loop μ-loop
+row-at-requires c κs = search needs
 
 write-row-line-requires : tie.Need-write-row-line-requires Inv-loop μ-loop
 write-row-line-requires c κs = omega arith
@@ -44,9 +35,11 @@ loop-less c = omega arith
 
 loop-again : tie.Need-loop-again Inv-loop μ-loop
 loop-again c =
-    let o = c .before .before .before .before .before .before .before in
+    let o = c .before .before .before .before .before .before in
+    let a = c .before .before .before .before .before .before .before .before .args in
     let w = c .before .before .write-row-line in
-    (omega arith, omega arith, w .kept .0 ∙ o .loop .inv .2, wrote-row _ (o .loop .i) (o .loop .inv .3) (omega arith) (w .ensures .0))
+    let rows = countsIn (a .rows) (a .entries .now) (a .clauses .now) in
+    (omega arith, omega arith, w .kept .0 ∙ o .loop .inv .2, wrote-row rows (o .loop .i) (c .before .before .before .before .row-at .ensures) (o .loop .inv .3) (omega arith) (w .ensures .0))
 
 same-length : tie.Need-same-length Inv-loop μ-loop
 same-length c = c .before .loop .inv .2
@@ -66,10 +59,7 @@ write-row-lines-spec =
     Inv-loop
     μ-loop
     loop-holds
-    mul-t10
-    element-copy-out-t13
-    mul-t14
-    element-copy-out-t17
+    row-at-requires
     write-row-line-requires
     add-i
     loop-less
