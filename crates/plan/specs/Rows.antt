@@ -1,4 +1,4 @@
--- The rows of a run from its plain numbers, and a row before anything is written.
+-- The rows of a run from its plain numbers.
 use mathlib.Core.List.{List, [], _∷_, _++_}
 use Prim.Native.Nat.{ℕ, zero, suc}
 use lib.ListN.{getD}
@@ -20,7 +20,3 @@ rowsBelow c (suc n) = rowsBelow c n ++ (rowAt c n ∷ [])
 -- the rows of the places arrived at
 abbrev pub rowsIn : Counts → List Row
 rowsIn c = rowsBelow c (c .count)
-
--- a row before anything is written
-abbrev pub noRow : Row
-noRow = record { place = 0; entries = 0; clauses = 0 }

@@ -2,10 +2,9 @@
 use sheet::Answer;
 use table::Table;
 ghost use mathlib.Core.Path.{_≡_};
-ghost use lib.ListN.{length, replicate};
+ghost use lib.ListN.{length};
 ghost use Rattle.sheet.specs.Format.{sheetOf};
 ghost use Rattle.plan.specs.Calls.{runOf, rowsAfter, searchOf};
-ghost use Rattle.plan.specs.Rows.{noRow};
 ghost use Rattle.plan.specs.Text.{reportOf, reportIn};
 
 pub mod goals;
@@ -72,12 +71,6 @@ pub struct Course {
     pub counts: Counts,
 }
 
-// A run with rows of its own, by value.
-pub struct RanRows {
-    pub ran: RunAnswer,
-    pub rows: [Row; 65],
-}
-
 // The run of a sheet's plan, its rows written into the lent ones.
 pub fn run(bytes: &[u8], rows: &mut [Row]) -> RunAnswer
     ensures { λ r. ⌜ r ≡ runOf (sheetOf (now (bytes .entry))) (length (now (rows .entry))) ⌝ }
@@ -88,20 +81,6 @@ pub fn run(bytes: &[u8], rows: &mut [Row]) -> RunAnswer
     let counts = c.counts;
     rows::write_rows(rows, counts);
     c.ran
-}
-
-// The run for a caller that lends no rows.
-pub fn run_here(bytes: &[u8]) -> RanRows
-    ensures { λ r. ⌜ r .ran ≡ runOf (sheetOf (now (bytes .entry))) 65 ⌝ }
-    ensures { λ r. ⌜ r .rows ≡ rowsAfter (sheetOf (now (bytes .entry))) (replicate 65 noRow) ⌝ }
-{
-    let mut rows = [Row {
-        place: 0,
-        entries: 0,
-        clauses: 0,
-    }; 65];
-    let ran = run(bytes, &mut rows);
-    RanRows { ran, rows }
 }
 
 // The output of the program `check` for a sheet, and its length; a buffer of fewer than 8,192 bytes is left as it was.
