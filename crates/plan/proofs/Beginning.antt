@@ -10,7 +10,7 @@ use Rattle.sheet.specs.Packed.{setsIn}
 use Rattle.table.specs.declared.Table.{Table}
 use Rattle.table.specs.Minimal.{Outcome, refused, table, Described}
 use Rattle.table.specs.Step.{stepTable}
-use Rattle.table.specs.Slots.{entriesOf, entries, tableOf}
+use Rattle.table.specs.Slots.{entriesOf, entries, tableOf, Room}
 use Rattle.table.specs.Calls.{orGiven}
 use Rattle.table.proofs.Demands.{step-table}
 use Rattle.table.proofs.Pads.{length-pad}
@@ -29,13 +29,13 @@ use Rattle.plan.proofs.Pruning.{quiet-after, unchanged}
 use Rattle.plan.proofs.Walking.{written, onward-ended, onward-not, at-stop, at-full}
 
 -- the slots hold the entries
-pub slots-room : {moves : List ℕ} {k : ℕ} {goal : List ℕ} {n : ℕ} {ts fs : List ℕ} → Searchable moves k goal (lent n ts fs) → (n ≤ length ts) × (n ≤ length fs)
+pub slots-room : {moves : List ℕ} {k : ℕ} {goal : List ℕ} {n : ℕ} {ts fs : List ℕ} → Searchable moves k goal (lent n ts fs) → Room n ts fs
 unfolding tableOf
 slots-room {moves} {k} {goal} {n} {ts} {fs} h =
     let z = h .ready .zeros in
     let a : length ts ≡ 128 = ap (λ (t : Table). length (t .trues)) z ∙ length-pad 128 0 _ in
     let b : length fs ≡ 128 = ap (λ (t : Table). length (t .falses)) z ∙ length-pad 128 0 _ in
-    (omega (arith, h .entries-most), omega (arith, h .entries-most))
+    record { trues = omega (arith, h .entries-most); falses = omega (arith, h .entries-most) }
 
 module _ {moves : List ℕ} {k : ℕ} {goal : List ℕ} {n : ℕ} {ts fs : List ℕ} (h : Searchable moves k goal (lent n ts fs)) {m : ℕ} (lt : m < k) where
   abbrev t : Table

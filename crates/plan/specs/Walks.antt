@@ -8,10 +8,12 @@ use Rattle.sheet.specs.Lists.{All, pad}
 use Rattle.sheet.specs.Problem.{Action}
 use Rattle.sheet.specs.Encoding.{ProperAction}
 use Rattle.sheet.specs.declared.Plan.{Plan}
+use Rattle.sheet.specs.declared.Sheet.{Sheet}
 use Rattle.sheet.specs.Decoded.{planIn}
 use Rattle.sheet.specs.Packed.{setsIn, SetsFit}
 use Rattle.table.specs.declared.Table.{Table}
-use Rattle.table.specs.Slots.{entries}
+use Rattle.table.specs.Slots.{entries, Fresh}
+use Rattle.table.specs.Moves.{Filled}
 use Rattle.plan.specs.declared.SearchAnswer.{SearchAnswer}
 use Rattle.plan.specs.declared.Kind.{Kind}
 use Rattle.plan.specs.declared.Kind.the-variants as kind
@@ -19,7 +21,7 @@ use Rattle.plan.specs.Run.{Verdict, runFrom}
 use Rattle.plan.specs.Search.{plansOf, plansUpTo, Answer, found, fullAt, nothing, firstOf}
 use Rattle.plan.specs.Order.{Fails}
 use Rattle.plan.specs.Calls.{answered}
-use Rattle.plan.specs.Course.{Ready}
+use Rattle.plan.specs.Course.{Ready, FreshRows}
 use Rattle.sheet.specs.Packed.{countOf, actionOf}
 
 -- ---- the first answer from the table t, `place` moves already taken, by the numbers of the moves f
@@ -71,6 +73,12 @@ pub record Runnable (plan : Plan) (moves : List ℕ) (goal : List ℕ) (t : Tabl
   pub fits : Searchable moves count goal t
   pub most : plan .count ≤ 64
   pub numbers : All (λ i. i < count) (planIn plan)
+
+-- a sheet that was read, in its rows, and arrays of zeros for its run
+pub record RunRoom (sheet : Sheet) (ors oneofs goal moves trues falses entries clauses : List ℕ) : Type 0 where
+  pub filled : Filled sheet ors oneofs goal moves
+  pub fresh : Fresh trues falses
+  pub fresh-rows : FreshRows entries clauses
 
 -- no shorter plan from here has an answer
 abbrev pub Unmet : List ℕ → ℕ → List ℕ → Table → ℕ → ℕ → Type 0

@@ -58,10 +58,10 @@ pub struct Counts {
     pub clauses: [usize; 65],
 }
 
-// How a run over lent arrays went: its verdict, how many entries the last table has, and how many rows there are.
+// What a run over lent arrays leaves beside them: its verdict, how many entries the last table has, and how many rows there are.
 pub struct RunRecord {
     pub verdict: Verdict,
-    pub size: usize,
+    pub count: usize,
     pub rows: usize,
 }
 

@@ -7,7 +7,7 @@ ghost use mathlib.Core.Bool.{true};
 ghost use Prim.Native.Nat.{ℕ, _+_, _*_, _≤_, _<_};
 ghost use lib.ListN.{length};
 ghost use mathlib.Core.List.{List};
-ghost use Rattle.table.specs.Slots.{entriesOf};
+ghost use Rattle.table.specs.Slots.{entriesOf, Room};
 ghost use Rattle.plan.specs.Memory.{markIn, tableIn, Recalls, Remembers, Known};
 
 // One entry more in a digest.
@@ -17,7 +17,7 @@ pub(crate) fn stir(digest: usize, trues: usize, falses: usize) -> usize {
 
 // The slot that a table is looked for in first. Any number below `slots` would do.
 pub(crate) fn place<'a>(ts: &'a [u32], fs: &'a [u32], n: usize, slots: usize) -> usize
-    requires { ⌜ (n ≤ length (now ts)) × (n ≤ length (now fs)) ⌝ }
+    requires { ⌜ Room n (now ts) (now fs) ⌝ }
     requires { ⌜ 1 ≤ slots ⌝ }
     ensures { λ r. ⌜ r < slots ⌝ }
 {
@@ -51,7 +51,7 @@ pub(crate) fn holds<'a, 'b>(
     left: usize,
 ) -> bool
     requires { ⌜ (length (now slot) ≡ 258) × (n ≤ 128) ⌝ }
-    requires { ⌜ (n ≤ length (now ts)) × (n ≤ length (now fs)) ⌝ }
+    requires { ⌜ Room n (now ts) (now fs) ⌝ }
     ensures { λ r. ⌜ (r ≡ true → (left < markIn (now (slot .entry))) × (tableIn (now (slot .entry)) ≡ entriesOf n (now (ts .entry)) (now (fs .entry)))) ⌝ }
 {
     if wide(slot[0]) <= left {
@@ -66,7 +66,7 @@ pub(crate) fn holds<'a, 'b>(
 // The table and the mark, written into the slot.
 pub(crate) fn fill<'a, 'b>(slot: &'a mut [u32], ts: &'b [u32], fs: &'b [u32], n: usize, mark: usize)
     requires { ⌜ (length (now slot) ≡ 258) × (n ≤ 128) × (mark ≤ 9) ⌝ }
-    requires { ⌜ (n ≤ length (now ts)) × (n ≤ length (now fs)) ⌝ }
+    requires { ⌜ Room n (now ts) (now fs) ⌝ }
     ensures { λ r. ⌜ (length (now (slot .exit)) ≡ 258) × (markIn (now (slot .exit)) ≡ mark) × (tableIn (now (slot .exit)) ≡ entriesOf n (now (ts .entry)) (now (fs .entry))) ⌝ }
 {
     slot[0] = mark as u32;
@@ -99,7 +99,7 @@ pub(crate) fn remembered<'a, 'b>(
     left: usize,
 ) -> bool
     requires { ⌜ n ≤ 128 ⌝ }
-    requires { ⌜ (n ≤ length (now ts)) × (n ≤ length (now fs)) ⌝ }
+    requires { ⌜ Room n (now ts) (now fs) ⌝ }
     ensures { λ r. ⌜ (r ≡ true → Recalls (now (memory .entry)) (entriesOf n (now (ts .entry)) (now (fs .entry))) left) ⌝ }
 {
     let slots = memory.len() / 258;
@@ -126,7 +126,7 @@ pub(crate) fn remember<'a, 'b>(
     mark: usize,
 )
     requires { ⌜ (n ≤ 128) × (mark ≤ 9) ⌝ }
-    requires { ⌜ (n ≤ length (now ts)) × (n ≤ length (now fs)) ⌝ }
+    requires { ⌜ Room n (now ts) (now fs) ⌝ }
     ensures { λ r. ⌜ ((moves : List ℕ) → (count : ℕ) → (goal : List ℕ) → Remembers moves count goal (now (memory .entry)) → Known moves count goal (entriesOf n (now (ts .entry)) (now (fs .entry))) mark → Remembers moves count goal (now (memory .exit))) ⌝ }
 {
     if mark < 2 {

@@ -14,7 +14,7 @@ ghost use mathlib.Core.Bool.{true};
 ghost use mathlib.Core.List.{_∷_};
 ghost use Prim.Native.Nat.{_+_, _≤_, _<_};
 ghost use lib.ListN.{length, replicate};
-ghost use Rattle.table.specs.Slots.{entriesOf};
+ghost use Rattle.table.specs.Slots.{entriesOf, Room};
 ghost use Rattle.sheet.specs.Decoded.{problemIn};
 ghost use Rattle.table.specs.Start.{startTable};
 ghost use Rattle.table.specs.Moves as M;
@@ -83,8 +83,8 @@ pub(crate) fn same<'a, 'b>(
     fs: &'b [u32],
     n: usize,
 ) -> bool
-    requires { ⌜ (k ≤ length (now us)) × (k ≤ length (now gs)) ⌝ }
-    requires { ⌜ (n ≤ length (now ts)) × (n ≤ length (now fs)) ⌝ }
+    requires { ⌜ Room k (now us) (now gs) ⌝ }
+    requires { ⌜ Room n (now ts) (now fs) ⌝ }
     ensures { λ r. ⌜ (r ≡ true → entriesOf k (now (us .entry)) (now (gs .entry)) ≡ entriesOf n (now (ts .entry)) (now (fs .entry))) ⌝ }
 {
     if k != n {

@@ -97,7 +97,8 @@ try-move-step-at-requires t c κs =
     let z = c .before .before .before .before .before .before .before in
     let h = z .pre .1 .0 in
     let l = z .pre .1 .1 .0 .1 in
-    ((omega (arith, h .room), h .effects-most _ l), (can-step h l, (slots-room h, (refl, refl))))
+    let room = slots-room h in
+    ((omega (arith, h .room), h .effects-most _ l), (can-step h l, ((room .trues, room .falses), (refl, refl))))
 
 try-move-add-next : (t : ℕ) → try-move-lts.Need-add-next (try-move-claims t) (try-move-at t) try-move.Post
 try-move-add-next t c = search needs
