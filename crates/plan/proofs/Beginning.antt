@@ -21,7 +21,7 @@ use Rattle.table.specs.Moves.{Fits, lent, tabled}
 use Rattle.plan.specs.Search.{fullAt, nothing}
 use Rattle.plan.specs.Calls.{answered}
 use Rattle.sheet.specs.Packed.{actionOf}
-use Rattle.plan.specs.Walks.{answeredAt, isEnd, Searchable, Unmet, plansTried, moveTried}
+use Rattle.plan.specs.Walks.{answeredAt, isEnd, NoShorterFrom, Searchable, plansTried, moveTried}
 use Rattle.plan.specs.Course.{Ready}
 use Rattle.table.proofs.CallTables.{entries-table}
 use Rattle.plan.proofs.Courses.{stepped, stopped, ready-table, ready-count}
@@ -87,8 +87,8 @@ module _ {moves : List ℕ} {k : ℕ} {goal : List ℕ} {n : ℕ} {ts fs : List 
       }
 
       module _ (at left : ℕ) where
-        module _ (q : Unmet moves k goal t at (left + 1)) where
-          pub unmet-after : Unmet moves k goal u (at + 1) left
+        module _ (q : NoShorterFrom moves k goal at (entries t) (left + 1)) where
+          pub unmet-after : NoShorterFrom moves k goal (at + 1) (entries u) left
           unmet-after = quiet-after (setsIn goal) (actionOf moves) k at (entries t) m left (entries u) came q lt
 
           pub begun-same : entriesOf j us gs ≡ entriesOf n ts fs → {a : SearchAnswer} → a ≡ answered nothing → a ≡ moveTried moves k goal t at left m

@@ -41,6 +41,10 @@ firstBy goal f k place t n m = firstOf (ranFrom goal f place t) (map (λ p. m �
 abbrev pub NoShorterPlan : List Literals → (ℕ → Action) → ℕ → ℕ → List Literals → ℕ → Type 0
 NoShorterPlan goal f k place t n = (q : List ℕ) → All (λ i. i < k) q → length q < n → Fails (ranFrom goal f place t q)
 
+-- the same by moves and a goal that are laid out
+abbrev pub NoShorterFrom : List ℕ → ℕ → List ℕ → ℕ → List Literals → ℕ → Type 0
+NoShorterFrom moves k goal place t n = NoShorterPlan (setsIn goal) (actionOf moves) k place t n
+
 -- ---- the answer of an inner call: its plan from byte `at` on, zeros before it for the moves taken
 unfoldable pub answeredAt : ℕ → Answer → SearchAnswer
 answeredAt at (found p) = record { kind = kind.Reached; plan = pad 8 0 (replicate at 0 ++ p); length = at + length p }
@@ -79,10 +83,6 @@ pub record RunRoom (sheet : Sheet) (ors oneofs goal moves trues falses entries c
   pub filled : Filled sheet ors oneofs goal moves
   pub fresh : Fresh trues falses
   pub fresh-rows : FreshRows entries clauses
-
--- no shorter plan from here has an answer
-abbrev pub Unmet : List ℕ → ℕ → List ℕ → Table → ℕ → ℕ → Type 0
-Unmet moves count goal t at left = NoShorterPlan (setsIn goal) (actionOf moves) count at (entries t) left
 
 -- ---- what the inner calls answer
 abbrev pub plansTried : List ℕ → ℕ → List ℕ → Table → ℕ → ℕ → SearchAnswer

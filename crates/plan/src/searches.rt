@@ -14,7 +14,7 @@ ghost use mathlib.Core.Bool.{true};
 ghost use mathlib.Core.List.{_∷_};
 ghost use Prim.Native.Nat.{_+_, _≤_, _<_};
 ghost use lib.ListN.{length, replicate};
-ghost use Rattle.table.specs.Slots.{entriesOf, Room};
+ghost use Rattle.table.specs.Slots.{entriesOf, entries, Room};
 ghost use Rattle.sheet.specs.Decoded.{problemIn};
 ghost use Rattle.table.specs.Start.{startTable};
 ghost use Rattle.table.specs.Moves as M;
@@ -76,26 +76,26 @@ pub(crate) fn is_end(a: SearchAnswer) -> bool
 
 // Said true only of tables with the same entries, in the same order.
 pub(crate) fn same<'a, 'b>(
-    us: &'a [u32],
-    gs: &'a [u32],
-    k: usize,
-    ts: &'b [u32],
-    fs: &'b [u32],
-    n: usize,
+    trues: &'a [u32],
+    falses: &'a [u32],
+    count: usize,
+    other_trues: &'b [u32],
+    other_falses: &'b [u32],
+    others: usize,
 ) -> bool
-    requires { ⌜ Room k (now us) (now gs) ⌝ }
-    requires { ⌜ Room n (now ts) (now fs) ⌝ }
-    ensures { λ r. ⌜ (r ≡ true → entriesOf k (now (us .entry)) (now (gs .entry)) ≡ entriesOf n (now (ts .entry)) (now (fs .entry))) ⌝ }
+    requires { ⌜ Room count (now trues) (now falses) ⌝ }
+    requires { ⌜ Room others (now «other_trues») (now «other_falses») ⌝ }
+    ensures { λ r. ⌜ (r ≡ true → entriesOf count (now (trues .entry)) (now (falses .entry)) ≡ entriesOf others (now («other_trues» .entry)) (now («other_falses» .entry))) ⌝ }
 {
-    if k != n {
+    if count != others {
         return false;
     }
     let mut i: usize = 0;
-    while i < n {
-        if us[i] != ts[i] {
+    while i < others {
+        if trues[i] != other_trues[i] {
             return false;
         }
-        if gs[i] != fs[i] {
+        if falses[i] != other_falses[i] {
             return false;
         }
         i += 1;
@@ -119,7 +119,7 @@ fn try_move<'a, 'b, 'c>(
 ) -> SearchAnswer
     requires { ⌜ W.Searchable (now moves) count (now goal) (M.lent n (now ts) (now fs)) ⌝ }
     requires { ⌜ (at + left < 8) × (m < count) ⌝ }
-    requires { ⌜ W.Unmet (now moves) count (now goal) (M.lent n (now ts) (now fs)) at (left + 1) ⌝ }
+    requires { ⌜ W.NoShorterFrom (now moves) count (now goal) at (entries (M.lent n (now ts) (now fs))) (left + 1) ⌝ }
     requires { ⌜ Remembers (now moves) count (now goal) (now memory) ⌝ }
     ensures answers { λ r. ⌜ r ≡ W.moveTried (now (moves .entry)) count (now (goal .entry)) (M.lent n (now (ts .entry)) (now (fs .entry))) at left m ⌝ }
     ensures keeps { λ r. ⌜ Remembers (now (moves .entry)) count (now (goal .entry)) (now (memory .exit)) ⌝ }
@@ -162,7 +162,7 @@ fn try_plans<'a, 'b, 'c>(
 ) -> SearchAnswer
     requires { ⌜ W.Searchable (now moves) count (now goal) (M.lent n (now ts) (now fs)) ⌝ }
     requires { ⌜ at + left ≤ 8 ⌝ }
-    requires { ⌜ W.Unmet (now moves) count (now goal) (M.lent n (now ts) (now fs)) at left ⌝ }
+    requires { ⌜ W.NoShorterFrom (now moves) count (now goal) at (entries (M.lent n (now ts) (now fs))) left ⌝ }
     requires { ⌜ Remembers (now moves) count (now goal) (now memory) ⌝ }
     ensures answers { λ r. ⌜ r ≡ W.plansTried (now (moves .entry)) count (now (goal .entry)) (M.lent n (now (ts .entry)) (now (fs .entry))) at left ⌝ }
     ensures keeps { λ r. ⌜ Remembers (now (moves .entry)) count (now (goal .entry)) (now (memory .exit)) ⌝ }
