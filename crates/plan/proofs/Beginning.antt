@@ -88,8 +88,8 @@ module _ {moves : List ℕ} {k : ℕ} {goal : List ℕ} {n : ℕ} {ts fs : List 
 
       module _ (at left : ℕ) where
         module _ (q : NoShorterFrom moves k goal at (entries t) (left + 1)) where
-          pub unmet-after : NoShorterFrom moves k goal (at + 1) (entries u) left
-          unmet-after = quiet-after (setsIn goal) (actionOf moves) k at (entries t) m left (entries u) came q lt
+          pub quiet-next : NoShorterFrom moves k goal (at + 1) (entries u) left
+          quiet-next = quiet-after (setsIn goal) (actionOf moves) k at (entries t) m left (entries u) came q lt
 
           pub begun-same : entriesOf j us gs ≡ entriesOf n ts fs → {a : SearchAnswer} → a ≡ answered nothing → a ≡ moveTried moves k goal t at left m
           unfolding answeredAt entries
