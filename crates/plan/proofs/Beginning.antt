@@ -22,6 +22,7 @@ use Rattle.plan.specs.Search.{fullAt, nothing}
 use Rattle.plan.specs.Calls.{answered}
 use Rattle.sheet.specs.Packed.{actionOf}
 use Rattle.plan.specs.Walks.{answeredAt, isEnd, NoShorterFrom, Searchable, plansTried, moveTried}
+use Rattle.plan.specs.Memory.{Storable}
 use Rattle.plan.specs.Course.{Ready}
 use Rattle.table.proofs.CallTables.{entries-table}
 use Rattle.plan.proofs.Courses.{stepped, stopped, ready-table, ready-count}
@@ -36,6 +37,10 @@ slots-room {moves} {k} {goal} {n} {ts} {fs} h =
     let a : length ts ≡ 128 = ap (λ (t : Table). length (t .trues)) z ∙ length-pad 128 0 _ in
     let b : length fs ≡ 128 = ap (λ (t : Table). length (t .falses)) z ∙ length-pad 128 0 _ in
     record { trues = omega (arith, h .entries-most); falses = omega (arith, h .entries-most) }
+
+-- a slot of the memory has room for them
+pub storable : {moves : List ℕ} {k : ℕ} {goal : List ℕ} {n : ℕ} {ts fs : List ℕ} → Searchable moves k goal (lent n ts fs) → Storable n ts fs
+storable h = record { most = h .entries-most; room = slots-room h }
 
 module _ {moves : List ℕ} {k : ℕ} {goal : List ℕ} {n : ℕ} {ts fs : List ℕ} (h : Searchable moves k goal (lent n ts fs)) {m : ℕ} (lt : m < k) where
   abbrev t : Table

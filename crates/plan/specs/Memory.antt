@@ -6,7 +6,7 @@ use Prim.Native.Nat.{ℕ, _+_, _*_, _≤_, _<_}
 use lib.ListN.{length, getD, take, drop}
 use Rattle.sheet.specs.declared.Literals.{Literals}
 use Rattle.sheet.specs.Packed.{itemAt}
-use Rattle.table.specs.Slots.{entriesOf, entries}
+use Rattle.table.specs.Slots.{entriesOf, entries, Room}
 use Rattle.table.specs.declared.Table.{Table}
 use Rattle.plan.specs.declared.searches.Depth.{Depth}
 use Rattle.plan.specs.Walks.{NoShorterFrom, Searchable}
@@ -17,6 +17,11 @@ markIn slot = getD slot 0 0
 
 unfoldable pub tableIn : List ℕ → List Literals
 tableIn slot = entriesOf (getD slot 1 0) (take 128 (drop 2 slot)) (take 128 (drop 130 slot))
+
+-- two arrays with a table that a slot has room for
+pub record Storable (count : ℕ) (ts fs : List ℕ) : Type 0 where
+  pub most : count ≤ 128
+  pub room : Room count ts fs
 
 -- of every slot it is so: no plan of fewer moves than its mark is reached or full from its table
 abbrev pub Remembers : List ℕ → ℕ → List ℕ → List ℕ → Type 0

@@ -76,11 +76,11 @@ pub fn run(bytes: &[u8], rows: &mut [Row]) -> RunAnswer
     ensures { λ r. ⌜ r ≡ runOf (sheetOf (now (bytes .entry))) (length (now (rows .entry))) ⌝ }
     ensures { λ r. ⌜ now (rows .exit) ≡ rowsAfter (sheetOf (now (bytes .entry))) (now (rows .entry)) ⌝ }
 {
-    let n = rows.len();
-    let c = runs::course(bytes, n);
-    let counts = c.counts;
+    let lent = rows.len();
+    let course = runs::course(bytes, lent);
+    let counts = course.counts;
     rows::write_rows(rows, counts);
-    c.ran
+    course.ran
 }
 
 // The output of the program `check` for a sheet, and its length; a buffer of fewer than 8,192 bytes is left as it was.

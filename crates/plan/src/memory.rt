@@ -9,7 +9,7 @@ ghost use lib.ListN.{length};
 ghost use mathlib.Core.List.{List};
 ghost use Rattle.table.specs.Slots.{entriesOf, Room};
 ghost use Rattle.plan.specs.Walks.{NoShorterFrom};
-ghost use Rattle.plan.specs.Memory.{markIn, tableIn, Recalls, Remembers};
+ghost use Rattle.plan.specs.Memory.{markIn, tableIn, Storable, Recalls, Remembers};
 
 // One entry more in a digest.
 pub(crate) fn stir(digest: usize, trues: usize, falses: usize) -> usize {
@@ -51,8 +51,8 @@ pub(crate) fn holds<'a, 'b>(
     count: usize,
     left: usize,
 ) -> bool
-    requires { ⌜ (length (now slot) ≡ 258) × (count ≤ 128) ⌝ }
-    requires { ⌜ Room count (now trues) (now falses) ⌝ }
+    requires { ⌜ length (now slot) ≡ 258 ⌝ }
+    requires { ⌜ Storable count (now trues) (now falses) ⌝ }
     ensures { λ r. ⌜ (r ≡ true → (left < markIn (now (slot .entry))) × (tableIn (now (slot .entry)) ≡ entriesOf count (now (trues .entry)) (now (falses .entry)))) ⌝ }
 {
     if wide(slot[0]) <= left {
@@ -72,8 +72,8 @@ pub(crate) fn fill<'a, 'b>(
     count: usize,
     mark: usize,
 )
-    requires { ⌜ (length (now slot) ≡ 258) × (count ≤ 128) × (mark ≤ 9) ⌝ }
-    requires { ⌜ Room count (now trues) (now falses) ⌝ }
+    requires { ⌜ (length (now slot) ≡ 258) × (mark ≤ 9) ⌝ }
+    requires { ⌜ Storable count (now trues) (now falses) ⌝ }
     ensures { λ r. ⌜ (length (now (slot .exit)) ≡ 258) × (markIn (now (slot .exit)) ≡ mark) × (tableIn (now (slot .exit)) ≡ entriesOf count (now (trues .entry)) (now (falses .entry))) ⌝ }
 {
     slot[0] = mark as u32;
@@ -105,8 +105,7 @@ pub(crate) fn remembered<'a, 'b>(
     count: usize,
     left: usize,
 ) -> bool
-    requires { ⌜ count ≤ 128 ⌝ }
-    requires { ⌜ Room count (now trues) (now falses) ⌝ }
+    requires { ⌜ Storable count (now trues) (now falses) ⌝ }
     ensures { λ r. ⌜ (r ≡ true → Recalls (now (memory .entry)) (entriesOf count (now (trues .entry)) (now (falses .entry))) left) ⌝ }
 {
     let slots = memory.len() / 258;
@@ -132,8 +131,8 @@ pub(crate) fn remember<'a, 'b>(
     count: usize,
     mark: usize,
 )
-    requires { ⌜ (count ≤ 128) × (mark ≤ 9) ⌝ }
-    requires { ⌜ Room count (now trues) (now falses) ⌝ }
+    requires { ⌜ mark ≤ 9 ⌝ }
+    requires { ⌜ Storable count (now trues) (now falses) ⌝ }
     ensures { λ r. ⌜ ((moves : List ℕ) → (k : ℕ) → (goal : List ℕ) → Remembers moves k goal (now (memory .entry)) → NoShorterFrom moves k goal 0 (entriesOf count (now (trues .entry)) (now (falses .entry))) mark → Remembers moves k goal (now (memory .exit))) ⌝ }
 {
     if mark < 2 {

@@ -28,26 +28,26 @@ pub fn row_at<'a>(entries: &'a [usize; 65], clauses: &'a [usize; 65], place: usi
 }
 
 // The row of a place, from the numbers of a run.
-pub(crate) fn row_of_counts(c: Counts, at: usize) -> Row
-    requires { ⌜ at < 65 ⌝ }
-    ensures { λ r. ⌜ r ≡ rowAt c at ⌝ }
+pub(crate) fn row_of_counts(counts: Counts, place: usize) -> Row
+    requires { ⌜ place < 65 ⌝ }
+    ensures { λ r. ⌜ r ≡ rowAt counts place ⌝ }
 {
     Row {
-        place: at,
-        entries: c.entries[at],
-        clauses: c.clauses[at],
+        place,
+        entries: counts.entries[place],
+        clauses: counts.clauses[place],
     }
 }
 
 // Writes the rows of the places arrived at; the others are kept.
-pub(crate) fn write_rows(rows: &mut [Row], c: Counts)
-    requires { ⌜ (c .count ≤ length (now rows)) × (c .count ≤ 65) ⌝ }
-    ensures { λ _. ⌜ now (rows .exit) ≡ rowsIn c ++ drop (c .count) (now (rows .entry)) ⌝ }
+pub(crate) fn write_rows(rows: &mut [Row], counts: Counts)
+    requires { ⌜ (counts .count ≤ length (now rows)) × (counts .count ≤ 65) ⌝ }
+    ensures { λ _. ⌜ now (rows .exit) ≡ rowsIn counts ++ drop (counts .count) (now (rows .entry)) ⌝ }
 {
-    let n = c.count;
+    let count = counts.count;
     let mut i: usize = 0;
-    while i < n {
-        let row = row_of_counts(c, i);
+    while i < count {
+        let row = row_of_counts(counts, i);
         write_row(rows, i, row);
         i += 1;
     }

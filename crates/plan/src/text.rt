@@ -23,18 +23,18 @@ pub(crate) fn write_bytes(out: &mut [u8], at: usize, s: &[u8]) -> usize
     at + i
 }
 
-// The number n in decimal.
-pub(crate) fn write_number(out: &mut [u8], at: usize, n: usize) -> usize
+// A number in decimal.
+pub(crate) fn write_number(out: &mut [u8], at: usize, value: usize) -> usize
     requires { ⌜ at + 20 ≤ length (now out) ⌝ }
-    ensures { λ r. ⌜ Wrote (now (out .entry)) at (decimal n) r (now (out .exit)) ⌝ }
+    ensures { λ r. ⌜ Wrote (now (out .entry)) at (decimal value) r (now (out .exit)) ⌝ }
     ensures { λ r. ⌜ r ≤ at + 20 ⌝ }
 {
-    if n < 10 {
-        out[at] = (48 + n) as u8;
+    if value < 10 {
+        out[at] = (48 + value) as u8;
         return at + 1;
     }
-    let last = write_number(out, at, n / 10);
-    out[last] = (48 + n % 10) as u8;
+    let last = write_number(out, at, value / 10);
+    out[last] = (48 + value % 10) as u8;
     last + 1
 }
 

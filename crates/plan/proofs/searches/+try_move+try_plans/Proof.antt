@@ -12,7 +12,7 @@ use Rattle.sheet.specs.Packed.{actionOf}
 use Rattle.plan.specs.Walks.{firstBy}
 use Rattle.plan.proofs.FirstAnswers.{firstBelow}
 use Rattle.plan.proofs.Walking.{no-answer, at-goal, at-short, not-yet, found-now, none-at-all}
-use Rattle.plan.proofs.Beginning.{slots-room, can-step, ready-after, quiet-next, begun-same, begun-ended, begun-not, begun-full, begun-stopped}
+use Rattle.plan.proofs.Beginning.{slots-room, storable, can-step, ready-after, quiet-next, begun-same, begun-ended, begun-not, begun-full, begun-stopped}
 use Rattle.plan.specs.Memory.{Remembers}
 use Rattle.plan.proofs.Remembering.{skip, entered, tried}
 use lib.ListN.{length}
@@ -228,7 +228,7 @@ try-plans-returns-2 t c =
     (at-short (setsIn (now (s .goal))) (actionOf (now (s .moves))) (s .depth .moves) (s .depth .at) (entriesOf (s .count) (now (s .trues)) (now (s .falses))) (s .depth .left) (c .before .before .before .if1 .taken) _ (sym (c .before .before .all-in-goal .ensures) ∙ c .before .if2 .left) (c .none .ensures), z .pre .1 .remembers)
 
 try-plans-remembered-requires : (t : ℕ) → try-plans-lts.Need-remembered-requires (try-plans-claims t) (try-plans-at t) try-plans.Post try-plans-Inv-loop try-plans-μ-loop
-try-plans-remembered-requires t c κs = let h = c .before .before .before .before .before .before .before .pre .1 .can in (h .entries-most, slots-room h)
+try-plans-remembered-requires t c κs = storable (c .before .before .before .before .before .before .before .pre .1 .can)
 
 try-plans-none-requires-2 : (t : ℕ) → try-plans-lts.Need-none-requires-2 (try-plans-claims t) (try-plans-at t) try-plans.Post try-plans-Inv-loop try-plans-μ-loop
 try-plans-none-requires-2 t c κs = search needs
@@ -248,7 +248,7 @@ try-plans-returns-3 t c =
     )
 
 try-plans-remember-requires : (t : ℕ) → try-plans-lts.Need-remember-requires (try-plans-claims t) (try-plans-at t) try-plans.Post try-plans-Inv-loop try-plans-μ-loop
-try-plans-remember-requires t c κs = let h = c .before .before .before .before .before .before .before .before .before .before .pre .1 in ((h .can .entries-most, omega (arith, h .most)), slots-room (h .can))
+try-plans-remember-requires t c κs = let h = c .before .before .before .before .before .before .before .before .before .before .pre .1 in (omega (arith, h .most), storable (h .can))
 
 try-plans-loop-holds : (t : ℕ) → try-plans-lts.Need-loop-holds (try-plans-claims t) (try-plans-at t) try-plans.Post try-plans-Inv-loop try-plans-μ-loop
 unfolding entries
@@ -303,7 +303,7 @@ try-plans-add-remember : (t : ℕ) → try-plans-lts.Need-add-remember (try-plan
 try-plans-add-remember t c = omega (arith, c .before .before .before .before .before .before .before .before .before .before .before .before .before .before .before .before .pre .1 .most)
 
 try-plans-remember-requires-2 : (t : ℕ) → try-plans-lts.Need-remember-requires-2 (try-plans-claims t) (try-plans-at t) try-plans.Post try-plans-Inv-loop try-plans-μ-loop
-try-plans-remember-requires-2 t c κs = let h = c .before .before .before .before .before .before .before .before .before .before .before .before .before .before .before .before .pre .1 in ((h .can .entries-most, omega (arith, h .most)), slots-room (h .can))
+try-plans-remember-requires-2 t c κs = let h = c .before .before .before .before .before .before .before .before .before .before .before .before .before .before .before .before .pre .1 in (omega (arith, h .most), storable (h .can))
 
 try-plans-none-requires-3 : (t : ℕ) → try-plans-lts.Need-none-requires-3 (try-plans-claims t) (try-plans-at t) try-plans.Post try-plans-Inv-loop try-plans-μ-loop
 try-plans-none-requires-3 t c κs = search needs

@@ -1,4 +1,4 @@
--- `plan::text::write_row_lines` meets its contract. The invariant: the rows below i are written. Assumes nothing.
+-- `text::write_row_lines` meets its contract. The invariant: the rows below i are written. Assumes nothing.
 use mathlib.Core.Path.{_≡_, refl, subst, _∙_}
 use Prim.Native.Nat.{ℕ, _+_, _*_, _-_, _≤_}
 use native.Mathlib.Omega.{arith}
