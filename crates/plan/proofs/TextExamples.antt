@@ -14,7 +14,6 @@ use Rattle.table.specs.Counts.{sizeOf}
 use Rattle.table.proofs.Examples.{paper, bench}
 use Rattle.plan.specs.declared.Row.{Row}
 use Rattle.plan.specs.declared.RunAnswer.{RunAnswer}
-use Rattle.plan.specs.declared.Verdict.{Verdict}
 use Rattle.plan.specs.declared.Verdict.the-variants.{Reached, Short, Stopped, Full, Refused}
 use Rattle.plan.specs.Text.{ascii, decimal, clausesText, rowText, rowsText, numberAt, lastLine, textOf, outputOf}
 use Rattle.plan.specs.Run.{actionsOf, rowOf, rowsFrom}

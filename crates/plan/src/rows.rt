@@ -32,11 +32,7 @@ pub(crate) fn row_of_counts(counts: Counts, place: usize) -> Row
     requires { ⌜ place < 65 ⌝ }
     ensures { λ r. ⌜ r ≡ rowAt counts place ⌝ }
 {
-    Row {
-        place,
-        entries: counts.entries[place],
-        clauses: counts.clauses[place],
-    }
+    row_at(&counts.entries, &counts.clauses, place)
 }
 
 // Writes the rows of the places arrived at; the others are kept.

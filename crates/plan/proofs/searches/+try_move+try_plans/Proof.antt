@@ -1,7 +1,7 @@
 -- The cycle {try_move, try_plans}: where `left` moves are left, `try_plans` has the measure 2 · left and `try_move` 2 · left - 1.
 -- The loop's invariant: no move below index has an answer, and what the memory says is so. Assumes nothing.
 use mathlib.Core.Path.{_≡_, refl, sym, _∙_}
-use Prim.Native.Nat.{_+_, _*_, _-_, _≤_}
+use Prim.Native.Nat.{_*_, _-_, _≤_}
 use native.Mathlib.Omega.{arith}
 use borrow.Author.Needs.{needs}
 use denote.Ref.{now}
