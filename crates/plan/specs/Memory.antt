@@ -29,7 +29,7 @@ Remembers moves count goal memory =
     (j : ℕ) → j * 258 + 258 ≤ length memory → NoShorterFrom moves count goal 0 (tableIn (itemAt 258 memory j)) (markIn (itemAt 258 memory j))
 
 -- what a search that is under way asks: moves, goal and table; at most eight moves; no answer by fewer; a memory of what is so
-pub record Searching (moves goal : List ℕ) (depth : Depth) (t : Table) (memory : List ℕ) : Type 0 where
+pub record Underway (moves goal : List ℕ) (depth : Depth) (t : Table) (memory : List ℕ) : Type 0 where
   pub can : Searchable moves (depth .moves) goal t
   pub most : depth .at + depth .left ≤ 8
   pub no-shorter : NoShorterFrom moves (depth .moves) goal (depth .at) (entries t) (depth .left)

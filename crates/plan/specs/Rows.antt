@@ -9,6 +9,7 @@ use Rattle.plan.specs.declared.Counts.{Counts}
 abbrev pub rowIn : List ℕ → List ℕ → ℕ → Row
 rowIn entries clauses place = record { place = place; entries = getD entries place 0; clauses = getD clauses place 0 }
 
+-- the same from the numbers of a run
 abbrev pub rowAt : Counts → ℕ → Row
 rowAt c at = rowIn (c .entries) (c .clauses) at
 

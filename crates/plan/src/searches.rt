@@ -22,7 +22,7 @@ ghost use Rattle.table.specs.Moves.{Filled};
 ghost use Rattle.plan.specs.Search.{fullAt, nothing};
 ghost use Rattle.plan.specs.Calls.{refusedSearch, answered, searched};
 ghost use Rattle.plan.specs.Walks as W;
-ghost use Rattle.plan.specs.Memory.{Remembers, Searching};
+ghost use Rattle.plan.specs.Memory.{Remembers, Underway};
 
 // Where the search stands: how many moves there are to choose from, how many are taken, how many are left.
 pub struct Depth {
@@ -122,7 +122,7 @@ fn try_move<'a, 'b, 'c>(
     count: usize,
     memory: &'c mut [u32],
 ) -> SearchAnswer
-    requires { ⌜ Searching (now moves) (now goal) depth (M.lent count (now trues) (now falses)) (now memory) ⌝ }
+    requires { ⌜ Underway (now moves) (now goal) depth (M.lent count (now trues) (now falses)) (now memory) ⌝ }
     requires { ⌜ (1 ≤ depth .left) × (index < depth .moves) ⌝ }
     ensures answers { λ r. ⌜ r ≡ W.moveTried (now (moves .entry)) (depth .moves) (now (goal .entry)) (M.lent count (now (trues .entry)) (now (falses .entry))) (depth .at) (depth .left - 1) index ⌝ }
     ensures keeps { λ r. ⌜ Remembers (now (moves .entry)) (depth .moves) (now (goal .entry)) (now (memory .exit)) ⌝ }
@@ -175,7 +175,7 @@ fn try_plans<'a, 'b, 'c>(
     count: usize,
     memory: &'c mut [u32],
 ) -> SearchAnswer
-    requires { ⌜ Searching (now moves) (now goal) depth (M.lent count (now trues) (now falses)) (now memory) ⌝ }
+    requires { ⌜ Underway (now moves) (now goal) depth (M.lent count (now trues) (now falses)) (now memory) ⌝ }
     ensures answers { λ r. ⌜ r ≡ W.plansTried (now (moves .entry)) (depth .moves) (now (goal .entry)) (M.lent count (now (trues .entry)) (now (falses .entry))) (depth .at) (depth .left) ⌝ }
     ensures keeps { λ r. ⌜ Remembers (now (moves .entry)) (depth .moves) (now (goal .entry)) (now (memory .exit)) ⌝ }
 {
