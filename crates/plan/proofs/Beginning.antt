@@ -2,7 +2,7 @@
 use mathlib.Core.Path.{_≡_, refl, sym, ap, subst, _∙_}
 use mathlib.Core.Bool.{true, false}
 use mathlib.Core.List.{List, _∷_}
-use Prim.Native.Nat.{ℕ, _+_, _≤_, _<_}
+use Prim.Native.Nat.{ℕ, _+_, _<_}
 use native.Mathlib.Omega.{arith}
 use lib.ListN.{length, replicate}
 use Rattle.sheet.specs.declared.Literals.{Literals}
@@ -10,7 +10,7 @@ use Rattle.sheet.specs.Packed.{setsIn}
 use Rattle.table.specs.declared.Table.{Table}
 use Rattle.table.specs.Minimal.{Outcome, refused, table, Described}
 use Rattle.table.specs.Step.{stepTable}
-use Rattle.table.specs.Slots.{entriesOf, entries, tableOf}
+use Rattle.table.specs.Slots.{entriesOf, entries, tableOf, Room}
 use Rattle.table.specs.Calls.{orGiven}
 use Rattle.table.proofs.Demands.{step-table}
 use Rattle.table.proofs.Pads.{length-pad}
@@ -21,7 +21,8 @@ use Rattle.table.specs.Moves.{Fits, lent, tabled}
 use Rattle.plan.specs.Search.{fullAt, nothing}
 use Rattle.plan.specs.Calls.{answered}
 use Rattle.sheet.specs.Packed.{actionOf}
-use Rattle.plan.specs.Walks.{answeredAt, isEnd, Searchable, Unmet, plansTried, moveTried}
+use Rattle.plan.specs.Walks.{answeredAt, isEnd, NoShorterFrom, Searchable, plansTried, moveTried}
+use Rattle.plan.specs.Memory.{Storable}
 use Rattle.plan.specs.Course.{Ready}
 use Rattle.table.proofs.CallTables.{entries-table}
 use Rattle.plan.proofs.Courses.{stepped, stopped, ready-table, ready-count}
@@ -29,13 +30,17 @@ use Rattle.plan.proofs.Pruning.{quiet-after, unchanged}
 use Rattle.plan.proofs.Walking.{written, onward-ended, onward-not, at-stop, at-full}
 
 -- the slots hold the entries
-pub slots-room : {moves : List ℕ} {k : ℕ} {goal : List ℕ} {n : ℕ} {ts fs : List ℕ} → Searchable moves k goal (lent n ts fs) → (n ≤ length ts) × (n ≤ length fs)
+pub slots-room : {moves : List ℕ} {k : ℕ} {goal : List ℕ} {n : ℕ} {ts fs : List ℕ} → Searchable moves k goal (lent n ts fs) → Room n ts fs
 unfolding tableOf
 slots-room {moves} {k} {goal} {n} {ts} {fs} h =
     let z = h .ready .zeros in
     let a : length ts ≡ 128 = ap (λ (t : Table). length (t .trues)) z ∙ length-pad 128 0 _ in
     let b : length fs ≡ 128 = ap (λ (t : Table). length (t .falses)) z ∙ length-pad 128 0 _ in
-    (omega (arith, h .entries-most), omega (arith, h .entries-most))
+    record { trues = omega (arith, h .entries-most); falses = omega (arith, h .entries-most) }
+
+-- a slot of the memory has room for them
+pub storable : {moves : List ℕ} {k : ℕ} {goal : List ℕ} {n : ℕ} {ts fs : List ℕ} → Searchable moves k goal (lent n ts fs) → Storable n ts fs
+storable h = record { most = h .entries-most; room = slots-room h }
 
 module _ {moves : List ℕ} {k : ℕ} {goal : List ℕ} {n : ℕ} {ts fs : List ℕ} (h : Searchable moves k goal (lent n ts fs)) {m : ℕ} (lt : m < k) where
   abbrev t : Table
@@ -87,9 +92,9 @@ module _ {moves : List ℕ} {k : ℕ} {goal : List ℕ} {n : ℕ} {ts fs : List 
       }
 
       module _ (at left : ℕ) where
-        module _ (q : Unmet moves k goal t at (left + 1)) where
-          pub unmet-after : Unmet moves k goal u (at + 1) left
-          unmet-after = quiet-after (setsIn goal) (actionOf moves) k at (entries t) m left (entries u) came q lt
+        module _ (q : NoShorterFrom moves k goal at (entries t) (left + 1)) where
+          pub quiet-next : NoShorterFrom moves k goal (at + 1) (entries u) left
+          quiet-next = quiet-after (setsIn goal) (actionOf moves) k at (entries t) m left (entries u) came q lt
 
           pub begun-same : entriesOf j us gs ≡ entriesOf n ts fs → {a : SearchAnswer} → a ≡ answered nothing → a ≡ moveTried moves k goal t at left m
           unfolding answeredAt entries

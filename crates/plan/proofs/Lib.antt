@@ -33,7 +33,6 @@ pub mod TextExamples
 pub mod Demands
 pub mod Relending
 pub mod LentCalls
-pub mod LentArrays
 pub mod Entering
 pub mod RowCalls
 pub mod RowsWritten

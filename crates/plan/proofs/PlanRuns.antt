@@ -20,7 +20,7 @@ use Rattle.table.specs.declared.steps.Stepped.{Stepped}
 use Rattle.table.specs.declared.steps.Stepped.the-variants as moved
 use Rattle.table.specs.Minimal.{Outcome}
 use Rattle.table.specs.Step.{stepTable}
-use Rattle.table.specs.Slots.{entriesOf, entries}
+use Rattle.table.specs.Slots.{entriesOf, entries, Fresh}
 use Rattle.table.specs.Calls.{orGiven}
 use Rattle.table.specs.Moves.{lent, tabled}
 use Rattle.plan.specs.declared.Row.{Row}
@@ -30,7 +30,7 @@ use Rattle.plan.specs.declared.RunRecord.{RunRecord}
 use Rattle.plan.specs.declared.Verdict as case
 use Rattle.plan.specs.Run.{inGoal, endedIn, haltedBy, rowOf}
 use Rattle.plan.specs.Calls.{verdictOf}
-use Rattle.plan.specs.Course.{countsOf, countsIn, courseIn, noted, courseFrom}
+use Rattle.plan.specs.Course.{countsOf, countsIn, FreshRows, courseIn, noted, courseFrom}
 use Rattle.sheet.specs.Packed.{actionOf}
 use Rattle.plan.specs.Walks.{Runnable}
 use Rattle.plan.proofs.Courses.{Ending, note-row, taken, halted, stopped}
@@ -60,14 +60,14 @@ abbrev pub left : Plan → List ℕ → ℕ → List Action
 left plan moves i = map (actionOf moves) (drop i (planIn plan))
 
 -- no row yet
-pub no-rows : {es cs : List ℕ} → es ≡ replicate 65 0 → cs ≡ replicate 65 0 → countsIn 0 es cs ≡ countsOf []
+pub no-rows : {es cs : List ℕ} → FreshRows es cs → countsIn 0 es cs ≡ countsOf []
 unfolding countsOf pad
-no-rows p q = λ j. record { count = 0; entries = p j; clauses = q j }
+no-rows f = λ j. record { count = 0; entries = f .entries j; clauses = f .clauses j }
 
 -- a run in arrays of zeros
-pub in-zeros : (w : RunRecord) {ts fs es cs : List ℕ} → ts ≡ replicate 128 0 → fs ≡ replicate 128 0 → es ≡ replicate 65 0 → cs ≡ replicate 65 0
+pub in-zeros : (w : RunRecord) {ts fs es cs : List ℕ} → Fresh ts fs → FreshRows es cs
     → courseIn w ts fs es cs ≡ courseIn w (replicate 128 0) (replicate 128 0) (replicate 65 0) (replicate 65 0)
-in-zeros w a b d e = λ j. courseIn w (a j) (b j) (d j) (e j)
+in-zeros w a b = λ j. courseIn w (a .trues j) (a .falses j) (b .entries j) (b .clauses j)
 
 -- what is left of the plan gives, after the rows so far, what the whole gives
 pub record Going (plan : Plan) (moves goal : List ℕ) (whole : Course) (i : ℕ) (t : Table) (c : Counts) : Type 0 where
@@ -79,9 +79,9 @@ pub record Going (plan : Plan) (moves goal : List ℕ) (whole : Course) (i : ℕ
   pub counts-are : c ≡ countsOf rows
   pub onwards : courseFrom (setsIn goal) rows i (left plan moves i) (entries t) ≡ whole
 
-pub going-start : {plan : Plan} {moves goal : List ℕ} {t : Table} {c : Counts} (i : ℕ) → Runnable plan moves goal t → length (plan .numbers) ≡ 64 → c ≡ countsOf []
-    → Going plan moves goal (courseFrom (setsIn goal) [] i (left plan moves i) (entries t)) i t c
-going-start i h l e = record { can = h; long = omega (arith, h .most); rows = []; few = omega arith; most = omega arith; counts-are = e; onwards = refl }
+pub going-start : {plan : Plan} {moves goal : List ℕ} {t : Table} {c : Counts} → Runnable plan moves goal t → length (plan .numbers) ≡ 64 → c ≡ countsOf []
+    → Going plan moves goal (courseFrom (setsIn goal) [] 0 (left plan moves 0) (entries t)) 0 t c
+going-start h l e = record { can = h; long = omega (arith, h .most); rows = []; few = omega arith; most = omega arith; counts-are = e; onwards = refl }
 
 -- the number of the next move is that of a move
 pub number-below : {plan : Plan} {moves goal : List ℕ} {t : Table} {i : ℕ} (h : Runnable plan moves goal t) → plan .count ≤ length (plan .numbers) → i < plan .count

@@ -20,8 +20,8 @@ use Rattle.sheet.proofs.PackedLaws.{item-lent}
 use Rattle.table.specs.Slots.{entriesOf}
 use Rattle.plan.specs.Search.{plansOf, nothing, firstOf}
 use Rattle.plan.specs.Order.{Fails}
-use Rattle.plan.specs.Walks.{ranFrom, firstFrom, NoShorterPlan}
-use Rattle.plan.specs.Memory.{markIn, tableIn, Known, Remembers, Recalls}
+use Rattle.plan.specs.Walks.{ranFrom, firstFrom, NoShorterPlan, NoShorterFrom}
+use Rattle.plan.specs.Memory.{markIn, tableIn, Remembers, Recalls}
 use Rattle.plan.proofs.Searching.{plans-in, plans-out, none-is, none-each}
 use Rattle.plan.proofs.Pruning.{fails-place, agree-entries}
 
@@ -56,24 +56,24 @@ module _ (moves : List ℕ) (count : ℕ) (goal : List ℕ) where
   skip {memory} {es} {left} at h r =
       quiet-none (setsIn goal) (actionOf moves) count es at (markIn (itemAt 258 memory (r .slot))) left
       (quiet-place (setsIn goal) (actionOf moves) count es 0 at (markIn (itemAt 258 memory (r .slot)))
-      (subst (λ (x : List Literals). Known moves count goal x (markIn (itemAt 258 memory (r .slot)))) (r .alike) (h (r .slot) (r .room))))
+      (subst (λ (x : List Literals). NoShorterFrom moves count goal 0 x (markIn (itemAt 258 memory (r .slot)))) (r .alike) (h (r .slot) (r .room))))
       (r .above)
 
   -- what is entered after all shorter plans is known
-  pub entered : (es : List Literals) (at left : ℕ) → NoShorterPlan (setsIn goal) (actionOf moves) count at es left → Known moves count goal es left
+  pub entered : (es : List Literals) (at left : ℕ) → NoShorterFrom moves count goal at es left → NoShorterFrom moves count goal 0 es left
   entered es at left h = quiet-place (setsIn goal) (actionOf moves) count es at 0 left h
 
   -- what was tried without an answer is known for one move more
-  pub tried : (es : List Literals) (at left : ℕ) → NoShorterPlan (setsIn goal) (actionOf moves) count at es left
-      → firstFrom (setsIn goal) (actionOf moves) count at es left ≡ nothing → Known moves count goal es (left + 1)
+  pub tried : (es : List Literals) (at left : ℕ) → NoShorterFrom moves count goal at es left
+      → firstFrom (setsIn goal) (actionOf moves) count at es left ≡ nothing → NoShorterFrom moves count goal 0 es (left + 1)
   tried es at left h e =
       quiet-place (setsIn goal) (actionOf moves) count es at 0 (left + 1) (quiet-more (setsIn goal) (actionOf moves) count es at left h e)
 
   -- by what is in a slot
-  pub known-in : (slot : List ℕ) (es : List Literals) (mark : ℕ) → markIn slot ≡ mark → tableIn slot ≡ es → Known moves count goal es mark
-      → Known moves count goal (tableIn slot) (markIn slot)
+  pub known-in : (slot : List ℕ) (es : List Literals) (mark : ℕ) → markIn slot ≡ mark → tableIn slot ≡ es → NoShorterFrom moves count goal 0 es mark
+      → NoShorterFrom moves count goal 0 (tableIn slot) (markIn slot)
   known-in slot es mark a b h =
-      subst (λ (x : List Literals). Known moves count goal x (markIn slot)) (sym b) (subst (λ (m : ℕ). Known moves count goal es m) (sym a) h)
+      subst (λ (x : List Literals). NoShorterFrom moves count goal 0 x (markIn slot)) (sym b) (subst (λ (m : ℕ). NoShorterFrom moves count goal 0 es m) (sym a) h)
 
   -- where no slot has a mark, nothing is said
   pub blank : (memory : List ℕ) → ((j : ℕ) → j * 258 + 258 ≤ length memory → markIn (itemAt 258 memory j) ≡ 0) → Remembers moves count goal memory
@@ -185,15 +185,15 @@ module _ (xs slot : List ℕ) (j : ℕ) (room : j * 258 + 258 ≤ length xs) (lo
       at y c false e = elsewhere (i * 258 + y) (λ z. omega (arith, z, ltb-false i j e)) (λ z. ne (omega (arith, z, ltb-false i j e)))
 
   -- what every slot said, every slot says still, if the new one says what is known
-  pub kept-by : (moves : List ℕ) (count : ℕ) (goal : List ℕ) → Remembers moves count goal xs → Known moves count goal (tableIn slot) (markIn slot)
+  pub kept-by : (moves : List ℕ) (count : ℕ) (goal : List ℕ) → Remembers moves count goal xs → NoShorterFrom moves count goal 0 (tableIn slot) (markIn slot)
       → Remembers moves count goal put
   kept-by moves count goal h g i l = go (ℕ-discrete i j)
     where
-      go : Dec (i ≡ j) → Known moves count goal (tableIn (itemAt 258 put i)) (markIn (itemAt 258 put i))
-      go (yes e) = subst (λ (s : List ℕ). Known moves count goal (tableIn s) (markIn s)) (sym (ap (itemAt 258 put) e ∙ row-same)) g
+      go : Dec (i ≡ j) → NoShorterFrom moves count goal 0 (tableIn (itemAt 258 put i)) (markIn (itemAt 258 put i))
+      go (yes e) = subst (λ (s : List ℕ). NoShorterFrom moves count goal 0 (tableIn s) (markIn s)) (sym (ap (itemAt 258 put) e ∙ row-same)) g
       go (no ne) =
           let r : i * 258 + 258 ≤ length xs = omega (arith, l, put-long) in
-          subst (λ (s : List ℕ). Known moves count goal (tableIn s) (markIn s)) (sym (row-other i ne r)) (h i r)
+          subst (λ (s : List ℕ). NoShorterFrom moves count goal 0 (tableIn s) (markIn s)) (sym (row-other i ne r)) (h i r)
 
 -- ---- marks at the heads of the slots
 pub mark-head : (memory : List ℕ) (j : ℕ) → markIn (itemAt 258 memory j) ≡ getD memory (j * 258) 0

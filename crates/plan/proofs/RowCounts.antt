@@ -22,9 +22,13 @@ use Rattle.plan.specs.declared.Counts.{Counts}
 use Rattle.plan.specs.Run.{actionsOf, movesTaken, rowOf, rowsFrom}
 use Rattle.plan.specs.Calls.{plannedRows, rowsOf, rowsAfter}
 use Rattle.plan.specs.Course.{countsOf, courseOf}
-use Rattle.plan.specs.Rows.{rowAt, rowsBelow, rowsIn, noRow}
+use Rattle.plan.specs.Rows.{rowAt, rowsBelow, rowsIn}
 use Rattle.plan.proofs.Running.{story, taken-all, taken-refused, refuses-within, arrived, rows-length, row-at}
 use Rattle.sheet.proofs.Demands.{statement-proper}
+
+-- a row for a place that has none
+abbrev noRow : Row
+noRow = record { place = 0; entries = 0; clauses = 0 }
 
 -- rows of the places 0, 1, 2, .., at most 65, where m are lent
 pub record Placed (m : ℕ) (ws : List Row) : Type 0 where

@@ -1,5 +1,5 @@
 -- The text of the program `check` at what document 01 shows. Assumes nothing.
-use mathlib.Core.Path.{_≡_, refl, ap₂, _∙_}
+use mathlib.Core.Path.{_≡_, refl, ap, ap₂, _∙_}
 use mathlib.Core.List.{List, [], _∷_}
 use Prim.Native.Nat.{ℕ}
 use native.Mathlib.Omega.{arith}
@@ -11,46 +11,41 @@ use Rattle.table.specs.Step.{missing, split, image, stepTable}
 use Rattle.table.specs.Picture.{units, unions, fold, primes, precedes, insert, sortOnto, sort, picture}
 use Rattle.table.specs.Calls.{actionAt}
 use Rattle.table.specs.Counts.{sizeOf}
-use Rattle.table.specs.Slots.{tableOf}
 use Rattle.table.proofs.Examples.{paper, bench}
 use Rattle.plan.specs.declared.Row.{Row}
 use Rattle.plan.specs.declared.RunAnswer.{RunAnswer}
-use Rattle.plan.specs.declared.Verdict.{Verdict}
 use Rattle.plan.specs.declared.Verdict.the-variants.{Reached, Short, Stopped, Full, Refused}
 use Rattle.plan.specs.Text.{ascii, decimal, clausesText, rowText, rowsText, numberAt, lastLine, textOf, outputOf}
 use Rattle.plan.specs.Run.{actionsOf, rowOf, rowsFrom}
 use Rattle.plan.specs.Calls.{verdictOf}
-use Rattle.plan.specs.Demand3.{refusedVerdict, runRefused}
+use Rattle.plan.specs.Demand3.{refusedVerdict}
 use Rattle.plan.proofs.CallRuns.{rows-call}
 use Rattle.plan.proofs.PaperRuns.{first, given}
 
 abbrev row : ℕ → ℕ → ℕ → Row
 row place entries clauses = record { place = place; entries = entries; clauses = clauses }
 
-abbrev ends : Verdict → RunAnswer
-ends verdict = record { verdict = verdict; table = tableOf [] }
-
 -- the whole output of the shown sheet
-pub shown : textOf (ends Reached) (row 0 3 4 ∷ row 1 2 3 ∷ row 2 1 3 ∷ []) ≡ ascii "place entries clauses\n0 3 4\n1 2 3\n2 1 3\nreached\n"
-unfolding textOf runRefused refusedVerdict lastLine rowsText rowText clausesText decimal
+pub shown : textOf Reached (row 0 3 4 ∷ row 1 2 3 ∷ row 2 1 3 ∷ []) ≡ ascii "place entries clauses\n0 3 4\n1 2 3\n2 1 3\nreached\n"
+unfolding textOf refusedVerdict lastLine rowsText rowText clausesText decimal
 shown = refl
 
 -- a full picture, and each other last line
-pub full-picture : textOf (ends Short) (row 0 128 257 ∷ []) ≡ ascii "place entries clauses\n0 128 -\nshort\n"
-unfolding textOf runRefused refusedVerdict lastLine rowsText rowText clausesText decimal
+pub full-picture : textOf Short (row 0 128 257 ∷ []) ≡ ascii "place entries clauses\n0 128 -\nshort\n"
+unfolding textOf refusedVerdict lastLine rowsText rowText clausesText decimal
 full-picture = refl
 
-pub stops : textOf (ends (Stopped 1 24)) (row 0 10 256 ∷ []) ≡ ascii "place entries clauses\n0 10 256\nstopped 24 at 1\n"
-unfolding textOf runRefused refusedVerdict lastLine rowsText rowText clausesText decimal numberAt
+pub stops : textOf (Stopped 1 24) (row 0 10 256 ∷ []) ≡ ascii "place entries clauses\n0 10 256\nstopped 24 at 1\n"
+unfolding textOf refusedVerdict lastLine rowsText rowText clausesText decimal numberAt
 stops = refl
 
-pub is-full : textOf (ends (Full 1)) (row 0 1 0 ∷ []) ≡ ascii "place entries clauses\n0 1 0\nfull at 1\n"
-unfolding textOf runRefused refusedVerdict lastLine rowsText rowText clausesText decimal
+pub is-full : textOf (Full 1) (row 0 1 0 ∷ []) ≡ ascii "place entries clauses\n0 1 0\nfull at 1\n"
+unfolding textOf refusedVerdict lastLine rowsText rowText clausesText decimal
 is-full = refl
 
 -- nothing but the refusal
-pub is-refused : textOf (ends (Refused 7 3711)) (row 0 1 0 ∷ []) ≡ ascii "refused 7 at 3711\n"
-unfolding textOf runRefused refusedVerdict lastLine decimal numberAt
+pub is-refused : textOf (Refused 7 3711) (row 0 1 0 ∷ []) ≡ ascii "refused 7 at 3711\n"
+unfolding textOf refusedVerdict lastLine decimal numberAt
 is-refused = refl
 
 -- the largest number of 64 bits
@@ -69,5 +64,5 @@ paper-rows = refl
 
 -- its whole output
 pub paper-output : outputOf (sheetOf printed) ≡ ascii "place entries clauses\n0 3 4\n1 2 3\n2 1 3\nreached\n"
-unfolding outputOf verdictOf textOf runRefused refusedVerdict lastLine rowsText rowText clausesText decimal
-paper-output = ap₂ textOf given (rows-call printed paper (bench .says) 65 (omega arith) first (bench .M1) ∙ paper-rows)
+unfolding outputOf verdictOf textOf refusedVerdict lastLine rowsText rowText clausesText decimal
+paper-output = ap₂ textOf (ap (λ (r : RunAnswer). r .verdict) given) (rows-call printed paper (bench .says) 65 (omega arith) first (bench .M1) ∙ paper-rows)

@@ -13,8 +13,8 @@ use borrow.Author.Tests.{ltb-true, ltb-false, lt-ltb, le-ltb}
 use Rattle.plan.specs.declared.Row.{Row}
 use Rattle.plan.specs.declared.Counts.{Counts}
 use Rattle.plan.specs.Rows.{rowAt, rowsBelow}
-use Rattle.plan.specs.declared.RunAnswer.{RunAnswer}
-use Rattle.plan.specs.Demand3.{refusedVerdict, runRefused}
+use Rattle.plan.specs.declared.Verdict.{Verdict}
+use Rattle.plan.specs.Demand3.{refusedVerdict}
 use Rattle.plan.specs.Text.{ascii, digitsOf, decimal, rowText, rowsText, lastLine, textOf, Wrote}
 
 -- ---- bytes in a buffer
@@ -131,19 +131,19 @@ unfolding rowsText
 wrote-no-rows c b at = wrote-none b at
 
 -- the row of the next place
-pub wrote-row : (c : Counts) (i : ℕ) {b : List ℕ} {at q : ℕ} {m : List ℕ} {r : ℕ} {e : List ℕ} → Wrote b at (rowsText (rowsBelow c i)) q m → q ≤ length b
-    → Wrote m q (rowText (rowAt c i)) r e → Wrote b at (rowsText (rowsBelow c (i + 1))) r e
-wrote-row c i f h g = rw (add-one i, rows-snoc (rowsBelow c i) (rowAt c i)) (wrote-then f h g)
+pub wrote-row : (c : Counts) (i : ℕ) {row : Row} → row ≡ rowAt c i → {b : List ℕ} {at q : ℕ} {m : List ℕ} {r : ℕ} {e : List ℕ}
+    → Wrote b at (rowsText (rowsBelow c i)) q m → q ≤ length b → Wrote m q (rowText row) r e → Wrote b at (rowsText (rowsBelow c (i + 1))) r e
+wrote-row c i is f h g = rw (add-one i, rows-snoc (rowsBelow c i) (rowAt c i)) (wrote-then f h (rw is at g))
 
 -- ---- the whole text
 -- of a refused run
-pub refused-text : (ran : RunAnswer) (rows : List Row) {b : List ℕ} {r : ℕ} {e : List ℕ} → refusedVerdict (ran .verdict) ≡ true → Wrote b 0 (lastLine (ran .verdict)) r e
-    → Wrote b 0 (textOf ran rows) r e
-unfolding textOf runRefused
-refused-text ran rows h f = rw h f
+pub refused-text : (verdict : Verdict) (rows : List Row) {b : List ℕ} {r : ℕ} {e : List ℕ} → refusedVerdict verdict ≡ true → Wrote b 0 (lastLine verdict) r e
+    → Wrote b 0 (textOf verdict rows) r e
+unfolding textOf
+refused-text verdict rows h f = rw h f
 
 -- of any other run
-pub whole-text : (ran : RunAnswer) (rows : List Row) {b : List ℕ} {q : ℕ} {m : List ℕ} {r : ℕ} {e : List ℕ} → refusedVerdict (ran .verdict) ≡ false
-    → Wrote b 0 (ascii "place entries clauses\n" ++ rowsText rows) q m → q ≤ length b → Wrote m q (lastLine (ran .verdict)) r e → Wrote b 0 (textOf ran rows) r e
-unfolding textOf runRefused
-whole-text ran rows h f i g = rw h (wrote-then f i g)
+pub whole-text : (verdict : Verdict) (rows : List Row) {b : List ℕ} {q : ℕ} {m : List ℕ} {r : ℕ} {e : List ℕ} → refusedVerdict verdict ≡ false
+    → Wrote b 0 (ascii "place entries clauses\n" ++ rowsText rows) q m → q ≤ length b → Wrote m q (lastLine verdict) r e → Wrote b 0 (textOf verdict rows) r e
+unfolding textOf
+whole-text verdict rows h f i g = rw h (wrote-then f i g)

@@ -2,7 +2,7 @@
 use mathlib.Core.Path.{_≡_}
 use mathlib.Core.List.{List, [], _++_, map}
 use Prim.Native.Nat.{ℕ, _+_}
-use lib.ListN.{length, set}
+use lib.ListN.{length, set, replicate}
 use Rattle.sheet.specs.declared.Literals.{Literals}
 use Rattle.sheet.specs.Lists.{pad}
 use Rattle.sheet.specs.Format.{Judgement}
@@ -33,9 +33,14 @@ courseOf sheet lent = record { ran = runOf sheet lent; counts = countsOf (rowsOf
 abbrev pub countsIn : ℕ → List ℕ → List ℕ → Counts
 countsIn k es cs = record { count = k; entries = es; clauses = cs }
 
+-- the slots of 65 rows, all zero
+pub record FreshRows (es cs : List ℕ) : Type 0 where
+  pub entries : es ≡ replicate 65 0
+  pub clauses : cs ≡ replicate 65 0
+
 -- a run, with the masks of its last table and the numbers of its rows
 abbrev pub courseIn : RunRecord → List ℕ → List ℕ → List ℕ → List ℕ → Course
-courseIn w ts fs es cs = record { ran = record { verdict = w .verdict; table = M.lent (w .size) ts fs }; counts = countsIn (w .rows) es cs }
+courseIn w ts fs es cs = record { ran = record { verdict = w .verdict; table = M.lent (w .count) ts fs }; counts = countsIn (w .rows) es cs }
 
 -- ---- its parts
 -- one row more, of the table t

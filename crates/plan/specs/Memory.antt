@@ -5,9 +5,11 @@ use mathlib.Core.List.{List}
 use Prim.Native.Nat.{ℕ, _+_, _*_, _≤_, _<_}
 use lib.ListN.{length, getD, take, drop}
 use Rattle.sheet.specs.declared.Literals.{Literals}
-use Rattle.sheet.specs.Packed.{itemAt, setsIn, actionOf}
-use Rattle.table.specs.Slots.{entriesOf}
-use Rattle.plan.specs.Walks.{NoShorterPlan}
+use Rattle.sheet.specs.Packed.{itemAt}
+use Rattle.table.specs.Slots.{entriesOf, entries, Room}
+use Rattle.table.specs.declared.Table.{Table}
+use Rattle.plan.specs.declared.searches.Depth.{Depth}
+use Rattle.plan.specs.Walks.{NoShorterFrom, Searchable}
 
 -- ---- a slot: its mark, how many entries, their masks
 abbrev pub markIn : List ℕ → ℕ
@@ -16,14 +18,22 @@ markIn slot = getD slot 0 0
 unfoldable pub tableIn : List ℕ → List Literals
 tableIn slot = entriesOf (getD slot 1 0) (take 128 (drop 2 slot)) (take 128 (drop 130 slot))
 
--- no plan of fewer than `mark` moves from the table es is reached or full
-abbrev pub Known : List ℕ → ℕ → List ℕ → List Literals → ℕ → Type 0
-Known moves count goal es mark = NoShorterPlan (setsIn goal) (actionOf moves) count 0 es mark
+-- two arrays with a table that a slot has room for
+pub record Storable (count : ℕ) (ts fs : List ℕ) : Type 0 where
+  pub most : count ≤ 128
+  pub room : Room count ts fs
 
--- so it is of every slot
+-- of every slot it is so: no plan of fewer moves than its mark is reached or full from its table
 abbrev pub Remembers : List ℕ → ℕ → List ℕ → List ℕ → Type 0
 Remembers moves count goal memory =
-    (j : ℕ) → j * 258 + 258 ≤ length memory → Known moves count goal (tableIn (itemAt 258 memory j)) (markIn (itemAt 258 memory j))
+    (j : ℕ) → j * 258 + 258 ≤ length memory → NoShorterFrom moves count goal 0 (tableIn (itemAt 258 memory j)) (markIn (itemAt 258 memory j))
+
+-- what a search that is under way asks: moves, goal and table; at most eight moves; no answer by fewer; a memory of what is so
+pub record Underway (moves goal : List ℕ) (depth : Depth) (t : Table) (memory : List ℕ) : Type 0 where
+  pub can : Searchable moves (depth .moves) goal t
+  pub most : depth .at + depth .left ≤ 8
+  pub no-shorter : NoShorterFrom moves (depth .moves) goal (depth .at) (entries t) (depth .left)
+  pub remembers : Remembers moves (depth .moves) goal memory
 
 -- some slot has the table es, with a mark above `left`
 pub record Recalls (memory : List ℕ) (es : List Literals) (left : ℕ) : Type 0 where

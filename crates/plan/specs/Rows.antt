@@ -1,4 +1,4 @@
--- The rows of a run from its plain numbers, and a row before anything is written.
+-- The rows of a run from its plain numbers.
 use mathlib.Core.List.{List, [], _∷_, _++_}
 use Prim.Native.Nat.{ℕ, zero, suc}
 use lib.ListN.{getD}
@@ -6,8 +6,12 @@ use Rattle.plan.specs.declared.Row.{Row}
 use Rattle.plan.specs.declared.Counts.{Counts}
 
 -- the row of a place: the place, the entries of its table and the clauses of its picture
+abbrev pub rowIn : List ℕ → List ℕ → ℕ → Row
+rowIn entries clauses place = record { place = place; entries = getD entries place 0; clauses = getD clauses place 0 }
+
+-- the same from the numbers of a run
 abbrev pub rowAt : Counts → ℕ → Row
-rowAt c at = record { place = at; entries = getD (c .entries) at 0; clauses = getD (c .clauses) at 0 }
+rowAt c at = rowIn (c .entries) (c .clauses) at
 
 -- the rows of the places below n
 abbrev pub rowsBelow : Counts → ℕ → List Row
@@ -17,7 +21,3 @@ rowsBelow c (suc n) = rowsBelow c n ++ (rowAt c n ∷ [])
 -- the rows of the places arrived at
 abbrev pub rowsIn : Counts → List Row
 rowsIn c = rowsBelow c (c .count)
-
--- a row before anything is written
-abbrev pub noRow : Row
-noRow = record { place = 0; entries = 0; clauses = 0 }

@@ -9,11 +9,10 @@ use lib.Dec.{ltb, eqb}
 use lib.ListN.{length, take, drop}
 use Rattle.sheet.specs.Format.{Judgement}
 use Rattle.plan.specs.declared.Row.{Row}
-use Rattle.plan.specs.declared.RunAnswer.{RunAnswer}
 use Rattle.plan.specs.declared.Verdict.{Verdict}
 use Rattle.plan.specs.declared.Verdict.the-variants.{Reached, Short, Stopped, Full, Refused}
 use Rattle.plan.specs.Calls.{runOf, rowsOf}
-use Rattle.plan.specs.Demand3.{runRefused}
+use Rattle.plan.specs.Demand3.{refusedVerdict}
 
 -- the codes of the characters of a text
 abbrev pub ascii : String → List ℕ
@@ -55,12 +54,12 @@ lastLine (Full place) = ascii "full at " ++ (decimal place ++ ascii "\n")
 lastLine (Refused number position) = numberAt (ascii "refused ") number position
 
 -- the whole output: the header and the rows, then the last line; "A refused sheet or start prints only `refused N at P`"
-unfoldable pub textOf : RunAnswer → List Row → List ℕ
-textOf r rows = cond (runRefused r) [] (ascii "place entries clauses\n" ++ rowsText rows) ++ lastLine (r .verdict)
+unfoldable pub textOf : Verdict → List Row → List ℕ
+textOf verdict rows = cond (refusedVerdict verdict) [] (ascii "place entries clauses\n" ++ rowsText rows) ++ lastLine verdict
 
 -- the whole output for a sheet, by a run with 65 rows
 unfoldable pub outputOf : Judgement → List ℕ
-outputOf sheet = textOf (runOf sheet 65) (rowsOf sheet 65)
+outputOf sheet = textOf (runOf sheet 65 .verdict) (rowsOf sheet 65)
 
 -- ---- the call `report`: the output in a lent buffer of at least 8,192 bytes; a shorter one is left as it was
 -- the length of the output, 0 in a buffer that is too short

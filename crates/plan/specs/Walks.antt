@@ -8,10 +8,12 @@ use Rattle.sheet.specs.Lists.{All, pad}
 use Rattle.sheet.specs.Problem.{Action}
 use Rattle.sheet.specs.Encoding.{ProperAction}
 use Rattle.sheet.specs.declared.Plan.{Plan}
+use Rattle.sheet.specs.declared.Sheet.{Sheet}
 use Rattle.sheet.specs.Decoded.{planIn}
 use Rattle.sheet.specs.Packed.{setsIn, SetsFit}
 use Rattle.table.specs.declared.Table.{Table}
-use Rattle.table.specs.Slots.{entries}
+use Rattle.table.specs.Slots.{entries, Fresh}
+use Rattle.table.specs.Moves.{Filled}
 use Rattle.plan.specs.declared.SearchAnswer.{SearchAnswer}
 use Rattle.plan.specs.declared.Kind.{Kind}
 use Rattle.plan.specs.declared.Kind.the-variants as kind
@@ -19,7 +21,7 @@ use Rattle.plan.specs.Run.{Verdict, runFrom}
 use Rattle.plan.specs.Search.{plansOf, plansUpTo, Answer, found, fullAt, nothing, firstOf}
 use Rattle.plan.specs.Order.{Fails}
 use Rattle.plan.specs.Calls.{answered}
-use Rattle.plan.specs.Course.{Ready}
+use Rattle.plan.specs.Course.{Ready, FreshRows}
 use Rattle.sheet.specs.Packed.{countOf, actionOf}
 
 -- ---- the first answer from the table t, `place` moves already taken, by the numbers of the moves f
@@ -38,6 +40,10 @@ firstBy goal f k place t n m = firstOf (ranFrom goal f place t) (map (λ p. m �
 -- no plan of fewer than n of the k moves is reached or full
 abbrev pub NoShorterPlan : List Literals → (ℕ → Action) → ℕ → ℕ → List Literals → ℕ → Type 0
 NoShorterPlan goal f k place t n = (q : List ℕ) → All (λ i. i < k) q → length q < n → Fails (ranFrom goal f place t q)
+
+-- the same by moves and a goal that are laid out
+abbrev pub NoShorterFrom : List ℕ → ℕ → List ℕ → ℕ → List Literals → ℕ → Type 0
+NoShorterFrom moves k goal place t n = NoShorterPlan (setsIn goal) (actionOf moves) k place t n
 
 -- ---- the answer of an inner call: its plan from byte `at` on, zeros before it for the moves taken
 unfoldable pub answeredAt : ℕ → Answer → SearchAnswer
@@ -72,9 +78,11 @@ pub record Runnable (plan : Plan) (moves : List ℕ) (goal : List ℕ) (t : Tabl
   pub most : plan .count ≤ 64
   pub numbers : All (λ i. i < count) (planIn plan)
 
--- no shorter plan from here has an answer
-abbrev pub Unmet : List ℕ → ℕ → List ℕ → Table → ℕ → ℕ → Type 0
-Unmet moves count goal t at left = NoShorterPlan (setsIn goal) (actionOf moves) count at (entries t) left
+-- a sheet that was read, in its rows, and arrays of zeros for its run
+pub record RunRoom (sheet : Sheet) (ors oneofs goal moves trues falses entries clauses : List ℕ) : Type 0 where
+  pub filled : Filled sheet ors oneofs goal moves
+  pub fresh : Fresh trues falses
+  pub fresh-rows : FreshRows entries clauses
 
 -- ---- what the inner calls answer
 abbrev pub plansTried : List ℕ → ℕ → List ℕ → Table → ℕ → ℕ → SearchAnswer

@@ -5,12 +5,10 @@ use sheet::packed::count_of;
 use sheet::packed::set_at;
 use table::tables::entry_at;
 ghost use mathlib.Core.Path.{_≡_};
-ghost use Prim.Native.Nat.{_≤_};
-ghost use lib.ListN.{length};
 ghost use Rattle.sheet.specs.Literals as L;
 ghost use Rattle.sheet.specs.Lists.{allOf};
 ghost use Rattle.sheet.specs.Packed.{setsIn, SetsFit};
-ghost use Rattle.table.specs.Slots.{entriesOf};
+ghost use Rattle.table.specs.Slots.{entriesOf, Room};
 ghost use Rattle.plan.specs.Run.{inGoal};
 
 // Some literal of the clause c lies in d.
@@ -45,7 +43,7 @@ pub(crate) fn all_in_goal<'a, 'b>(
     count: usize,
 ) -> bool
     requires { ⌜ SetsFit (now goal) ⌝ }
-    requires { ⌜ (count ≤ length (now trues)) × (count ≤ length (now falses)) ⌝ }
+    requires { ⌜ Room count (now trues) (now falses) ⌝ }
     ensures { λ r. ⌜ r ≡ allOf (inGoal (setsIn (now (goal .entry)))) (entriesOf count (now (trues .entry)) (now (falses .entry))) ⌝ }
 {
     let mut i: usize = 0;

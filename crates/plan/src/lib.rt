@@ -2,10 +2,9 @@
 use sheet::Answer;
 use table::Table;
 ghost use mathlib.Core.Path.{_≡_};
-ghost use lib.ListN.{length, replicate};
+ghost use lib.ListN.{length};
 ghost use Rattle.sheet.specs.Format.{sheetOf};
 ghost use Rattle.plan.specs.Calls.{runOf, rowsAfter, searchOf};
-ghost use Rattle.plan.specs.Rows.{noRow};
 ghost use Rattle.plan.specs.Text.{reportOf, reportIn};
 
 pub mod goals;
@@ -59,10 +58,10 @@ pub struct Counts {
     pub clauses: [usize; 65],
 }
 
-// How a run over lent arrays went: its verdict, how many entries the last table has, and how many rows there are.
+// What a run over lent arrays leaves beside them: its verdict, how many entries the last table has, and how many rows there are.
 pub struct RunRecord {
     pub verdict: Verdict,
-    pub size: usize,
+    pub count: usize,
     pub rows: usize,
 }
 
@@ -72,36 +71,16 @@ pub struct Course {
     pub counts: Counts,
 }
 
-// A run with rows of its own, by value.
-pub struct RanRows {
-    pub ran: RunAnswer,
-    pub rows: [Row; 65],
-}
-
 // The run of a sheet's plan, its rows written into the lent ones.
 pub fn run(bytes: &[u8], rows: &mut [Row]) -> RunAnswer
     ensures { λ r. ⌜ r ≡ runOf (sheetOf (now (bytes .entry))) (length (now (rows .entry))) ⌝ }
     ensures { λ r. ⌜ now (rows .exit) ≡ rowsAfter (sheetOf (now (bytes .entry))) (now (rows .entry)) ⌝ }
 {
-    let n = rows.len();
-    let c = runs::course(bytes, n);
-    let counts = c.counts;
+    let lent = rows.len();
+    let course = runs::course(bytes, lent);
+    let counts = course.counts;
     rows::write_rows(rows, counts);
-    c.ran
-}
-
-// The run for a caller that lends no rows.
-pub fn run_here(bytes: &[u8]) -> RanRows
-    ensures { λ r. ⌜ r .ran ≡ runOf (sheetOf (now (bytes .entry))) 65 ⌝ }
-    ensures { λ r. ⌜ r .rows ≡ rowsAfter (sheetOf (now (bytes .entry))) (replicate 65 noRow) ⌝ }
-{
-    let mut rows = [Row {
-        place: 0,
-        entries: 0,
-        clauses: 0,
-    }; 65];
-    let ran = run(bytes, &mut rows);
-    RanRows { ran, rows }
+    course.ran
 }
 
 // The output of the program `check` for a sheet, and its length; a buffer of fewer than 8,192 bytes is left as it was.
@@ -112,8 +91,20 @@ pub fn report(bytes: &[u8], out: &mut [u8]) -> usize
     if out.len() < 8192 {
         return 0;
     }
-    let course = runs::course(bytes, 65);
-    text::write_text(out, course)
+    let mut trues = [0u32; 128];
+    let mut falses = [0u32; 128];
+    let mut entries = [0usize; 65];
+    let mut clauses = [0usize; 65];
+    let ran = runs::course_into(
+        bytes,
+        65,
+        &mut trues,
+        &mut falses,
+        &mut entries,
+        &mut clauses,
+    );
+    let verdict = ran.verdict;
+    text::write_text(out, verdict, ran.rows, &entries, &clauses)
 }
 
 // The first plan of at most `limit` moves that is reached or full. It has eight slots of memory of its own.

@@ -7,8 +7,9 @@ ghost use mathlib.Core.Bool.{true};
 ghost use Prim.Native.Nat.{ℕ, _+_, _*_, _≤_, _<_};
 ghost use lib.ListN.{length};
 ghost use mathlib.Core.List.{List};
-ghost use Rattle.table.specs.Slots.{entriesOf};
-ghost use Rattle.plan.specs.Memory.{markIn, tableIn, Recalls, Remembers, Known};
+ghost use Rattle.table.specs.Slots.{entriesOf, Room};
+ghost use Rattle.plan.specs.Walks.{NoShorterFrom};
+ghost use Rattle.plan.specs.Memory.{markIn, tableIn, Storable, Recalls, Remembers};
 
 // One entry more in a digest.
 pub(crate) fn stir(digest: usize, trues: usize, falses: usize) -> usize {
@@ -16,15 +17,15 @@ pub(crate) fn stir(digest: usize, trues: usize, falses: usize) -> usize {
 }
 
 // The slot that a table is looked for in first. Any number below `slots` would do.
-pub(crate) fn place<'a>(ts: &'a [u32], fs: &'a [u32], n: usize, slots: usize) -> usize
-    requires { ⌜ (n ≤ length (now ts)) × (n ≤ length (now fs)) ⌝ }
+pub(crate) fn place<'a>(trues: &'a [u32], falses: &'a [u32], count: usize, slots: usize) -> usize
+    requires { ⌜ Room count (now trues) (now falses) ⌝ }
     requires { ⌜ 1 ≤ slots ⌝ }
     ensures { λ r. ⌜ r < slots ⌝ }
 {
     let mut digest: usize = 0;
     let mut i: usize = 0;
-    while i < n {
-        digest = stir(digest, wide(ts[i]), wide(fs[i]));
+    while i < count {
+        digest = stir(digest, wide(trues[i]), wide(falses[i]));
         i += 1;
     }
     digest % slots
@@ -45,36 +46,42 @@ pub(crate) fn following(j: usize, slots: usize) -> usize
 // Said true only if the slot has this table, and a mark above `left`.
 pub(crate) fn holds<'a, 'b>(
     slot: &'a [u32],
-    ts: &'b [u32],
-    fs: &'b [u32],
-    n: usize,
+    trues: &'b [u32],
+    falses: &'b [u32],
+    count: usize,
     left: usize,
 ) -> bool
-    requires { ⌜ (length (now slot) ≡ 258) × (n ≤ 128) ⌝ }
-    requires { ⌜ (n ≤ length (now ts)) × (n ≤ length (now fs)) ⌝ }
-    ensures { λ r. ⌜ (r ≡ true → (left < markIn (now (slot .entry))) × (tableIn (now (slot .entry)) ≡ entriesOf n (now (ts .entry)) (now (fs .entry)))) ⌝ }
+    requires { ⌜ length (now slot) ≡ 258 ⌝ }
+    requires { ⌜ Storable count (now trues) (now falses) ⌝ }
+    ensures { λ r. ⌜ (r ≡ true → (left < markIn (now (slot .entry))) × (tableIn (now (slot .entry)) ≡ entriesOf count (now (trues .entry)) (now (falses .entry)))) ⌝ }
 {
     if wide(slot[0]) <= left {
         return false;
     }
-    if wide(slot[1]) != n {
+    if wide(slot[1]) != count {
         return false;
     }
-    same(&slot[2..130], &slot[130..258], n, ts, fs, n)
+    same(&slot[2..130], &slot[130..258], count, trues, falses, count)
 }
 
 // The table and the mark, written into the slot.
-pub(crate) fn fill<'a, 'b>(slot: &'a mut [u32], ts: &'b [u32], fs: &'b [u32], n: usize, mark: usize)
-    requires { ⌜ (length (now slot) ≡ 258) × (n ≤ 128) × (mark ≤ 9) ⌝ }
-    requires { ⌜ (n ≤ length (now ts)) × (n ≤ length (now fs)) ⌝ }
-    ensures { λ r. ⌜ (length (now (slot .exit)) ≡ 258) × (markIn (now (slot .exit)) ≡ mark) × (tableIn (now (slot .exit)) ≡ entriesOf n (now (ts .entry)) (now (fs .entry))) ⌝ }
+pub(crate) fn fill<'a, 'b>(
+    slot: &'a mut [u32],
+    trues: &'b [u32],
+    falses: &'b [u32],
+    count: usize,
+    mark: usize,
+)
+    requires { ⌜ (length (now slot) ≡ 258) × (mark ≤ 9) ⌝ }
+    requires { ⌜ Storable count (now trues) (now falses) ⌝ }
+    ensures { λ r. ⌜ (length (now (slot .exit)) ≡ 258) × (markIn (now (slot .exit)) ≡ mark) × (tableIn (now (slot .exit)) ≡ entriesOf count (now (trues .entry)) (now (falses .entry))) ⌝ }
 {
     slot[0] = mark as u32;
-    slot[1] = n as u32;
+    slot[1] = count as u32;
     let mut i: usize = 0;
-    while i < n {
-        slot[2 + i] = ts[i];
-        slot[130 + i] = fs[i];
+    while i < count {
+        slot[2 + i] = trues[i];
+        slot[130 + i] = falses[i];
         i += 1;
     }
 }
@@ -93,41 +100,40 @@ pub(crate) fn lesser(memory: &[u32], j: usize, k: usize) -> usize
 // Said true only if some slot has this table, with a mark above `left`.
 pub(crate) fn remembered<'a, 'b>(
     memory: &'a [u32],
-    ts: &'b [u32],
-    fs: &'b [u32],
-    n: usize,
+    trues: &'b [u32],
+    falses: &'b [u32],
+    count: usize,
     left: usize,
 ) -> bool
-    requires { ⌜ n ≤ 128 ⌝ }
-    requires { ⌜ (n ≤ length (now ts)) × (n ≤ length (now fs)) ⌝ }
-    ensures { λ r. ⌜ (r ≡ true → Recalls (now (memory .entry)) (entriesOf n (now (ts .entry)) (now (fs .entry))) left) ⌝ }
+    requires { ⌜ Storable count (now trues) (now falses) ⌝ }
+    ensures { λ r. ⌜ (r ≡ true → Recalls (now (memory .entry)) (entriesOf count (now (trues .entry)) (now (falses .entry))) left) ⌝ }
 {
     let slots = memory.len() / 258;
     if slots == 0 {
         return false;
     }
-    let j = place(ts, fs, n, slots);
+    let j = place(trues, falses, count, slots);
     let at = j * 258;
-    if holds(&memory[at..at + 258], ts, fs, n, left) {
+    if holds(&memory[at..at + 258], trues, falses, count, left) {
         return true;
     }
     let k = following(j, slots);
     let from = k * 258;
-    holds(&memory[from..from + 258], ts, fs, n, left)
+    holds(&memory[from..from + 258], trues, falses, count, left)
 }
 
 // The table with this mark takes the place of another, if there is a slot at all and the mark is of use. Whatever was known of the slots is
 // known of them still.
 pub(crate) fn remember<'a, 'b>(
     memory: &'a mut [u32],
-    ts: &'b [u32],
-    fs: &'b [u32],
-    n: usize,
+    trues: &'b [u32],
+    falses: &'b [u32],
+    count: usize,
     mark: usize,
 )
-    requires { ⌜ (n ≤ 128) × (mark ≤ 9) ⌝ }
-    requires { ⌜ (n ≤ length (now ts)) × (n ≤ length (now fs)) ⌝ }
-    ensures { λ r. ⌜ ((moves : List ℕ) → (count : ℕ) → (goal : List ℕ) → Remembers moves count goal (now (memory .entry)) → Known moves count goal (entriesOf n (now (ts .entry)) (now (fs .entry))) mark → Remembers moves count goal (now (memory .exit))) ⌝ }
+    requires { ⌜ mark ≤ 9 ⌝ }
+    requires { ⌜ Storable count (now trues) (now falses) ⌝ }
+    ensures { λ r. ⌜ ((moves : List ℕ) → (k : ℕ) → (goal : List ℕ) → Remembers moves k goal (now (memory .entry)) → NoShorterFrom moves k goal 0 (entriesOf count (now (trues .entry)) (now (falses .entry))) mark → Remembers moves k goal (now (memory .exit))) ⌝ }
 {
     if mark < 2 {
         return;
@@ -136,15 +142,15 @@ pub(crate) fn remember<'a, 'b>(
     if slots == 0 {
         return;
     }
-    let j = place(ts, fs, n, slots);
+    let j = place(trues, falses, count, slots);
     let k = following(j, slots);
     let at = lesser(memory, j, k) * 258;
-    fill(&mut memory[at..at + 258], ts, fs, n, mark);
+    fill(&mut memory[at..at + 258], trues, falses, count, mark);
 }
 
 // Nothing is remembered, whatever stood there.
 pub(crate) fn forget(memory: &mut [u32])
-    ensures { λ r. ⌜ ((moves : List ℕ) → (count : ℕ) → (goal : List ℕ) → Remembers moves count goal (now (memory .exit))) ⌝ }
+    ensures { λ r. ⌜ ((moves : List ℕ) → (k : ℕ) → (goal : List ℕ) → Remembers moves k goal (now (memory .exit))) ⌝ }
 {
     let slots = memory.len() / 258;
     let mut j: usize = 0;

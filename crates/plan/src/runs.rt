@@ -17,16 +17,16 @@ ghost use mathlib.Core.Path.{_≡_};
 ghost use mathlib.Core.List.{[], map};
 ghost use Prim.Native.Nat.{_+_, _*_, _≤_, _<_};
 ghost use lib.Dec.{eqb};
-ghost use lib.ListN.{length, replicate, drop};
+ghost use lib.ListN.{length, replicate};
 ghost use Rattle.sheet.specs.Lists.{allOf};
 ghost use Rattle.sheet.specs.Decoded.{planIn, problemIn};
 ghost use Rattle.sheet.specs.Packed.{setsIn, SetsFit, actionOf, countOf};
 ghost use Rattle.sheet.specs.Format.{sheetOf};
-ghost use Rattle.table.specs.Slots.{entriesOf};
+ghost use Rattle.table.specs.Slots.{entriesOf, Room, Fresh};
 ghost use Rattle.table.specs.Start.{startTable};
 ghost use Rattle.table.specs.Step.{stepTable};
 ghost use Rattle.table.specs.Calls.{orGiven};
-ghost use Rattle.table.specs.Moves.{lent, tabled, Fits, Filled};
+ghost use Rattle.table.specs.Moves.{lent, tabled, Fits};
 ghost use Rattle.plan.specs.Run as R;
 ghost use Rattle.plan.specs.Calls.{verdictOf};
 ghost use Rattle.plan.specs.Course as C;
@@ -34,19 +34,19 @@ ghost use Rattle.plan.specs.Walks as W;
 
 // One row more: the entries of a lent table and the clauses of its picture.
 pub(crate) fn note<'a, 'b, 'c>(
-    sizes: &'a mut [usize; 65],
+    entries: &'a mut [usize; 65],
     clauses: &'b mut [usize; 65],
     at: usize,
     trues: &'c [u32],
     falses: &'c [u32],
-    n: usize,
+    count: usize,
 )
-    requires { ⌜ (at < 65) × (1 ≤ n) ⌝ }
-    requires { ⌜ (n ≤ length (now trues)) × (n ≤ length (now falses)) ⌝ }
-    ensures { λ _. ⌜ C.countsIn (at + 1) (now (sizes .exit)) (now (clauses .exit)) ≡ C.noted (C.countsIn at (now (sizes .entry)) (now (clauses .entry))) (entriesOf n (now (trues .entry)) (now (falses .entry))) ⌝ }
+    requires { ⌜ (at < 65) × (1 ≤ count) ⌝ }
+    requires { ⌜ Room count (now trues) (now falses) ⌝ }
+    ensures { λ _. ⌜ C.countsIn (at + 1) (now (entries .exit)) (now (clauses .exit)) ≡ C.noted (C.countsIn at (now (entries .entry)) (now (clauses .entry))) (entriesOf count (now (trues .entry)) (now (falses .entry))) ⌝ }
 {
-    sizes[at] = n;
-    clauses[at] = clause_count(trues, falses, n);
+    entries[at] = count;
+    clauses[at] = clause_count(trues, falses, count);
 }
 
 // What a refused step means for a run: 21 is full, the other numbers stop it.
@@ -60,84 +60,95 @@ pub(crate) fn halt(place: usize, number: u8) -> Verdict
 }
 
 // The verdict after the last move: reached if every entry is in the goal, otherwise short.
-pub(crate) fn end<'a, 'b>(goal: &'a [u32], trues: &'b [u32], falses: &'b [u32], n: usize) -> Verdict
+pub(crate) fn end<'a, 'b>(
+    goal: &'a [u32],
+    trues: &'b [u32],
+    falses: &'b [u32],
+    count: usize,
+) -> Verdict
     requires { ⌜ SetsFit (now goal) ⌝ }
-    requires { ⌜ (n ≤ length (now trues)) × (n ≤ length (now falses)) ⌝ }
-    ensures { λ r. ⌜ r ≡ verdictOf (R.endedIn (allOf (R.inGoal (setsIn (now (goal .entry)))) (entriesOf n (now (trues .entry)) (now (falses .entry))))) ⌝ }
+    requires { ⌜ Room count (now trues) (now falses) ⌝ }
+    ensures { λ r. ⌜ r ≡ verdictOf (R.endedIn (allOf (R.inGoal (setsIn (now (goal .entry)))) (entriesOf count (now (trues .entry)) (now (falses .entry))))) ⌝ }
 {
-    if all_in_goal(goal, trues, falses, n) {
+    if all_in_goal(goal, trues, falses, count) {
         return Verdict::Reached;
     }
     Verdict::Short
 }
 
-// The step of a lent table by the move of a number, in its place. Refused, the table is left as it was.
+// The step of a lent table by a move, in its place. Refused, the table is left as it was.
 pub(crate) fn step_here<'a, 'b, 'c>(
     moves: &'a [u32],
-    m: usize,
+    index: usize,
     trues: &'b mut [u32; 128],
     falses: &'c mut [u32; 128],
-    n: usize,
+    count: usize,
 ) -> Stepped
-    requires { ⌜ (m * 35 + 35 ≤ length (now moves)) × (countOf (now moves) m ≤ 8) ⌝ }
-    requires { ⌜ Fits (actionOf (now moves) m) (lent n (now trues) (now falses)) ⌝ }
-    ensures { λ r. ⌜ tabled (lent n (now (trues .exit)) (now (falses .exit))) r (now (trues .exit)) (now (falses .exit)) ≡ orGiven (lent n (now (trues .entry)) (now (falses .entry))) (stepTable 128 (actionOf (now (moves .entry)) m) (entriesOf n (now (trues .entry)) (now (falses .entry)))) ⌝ }
+    requires { ⌜ (index * 35 + 35 ≤ length (now moves)) × (countOf (now moves) index ≤ 8) ⌝ }
+    requires { ⌜ Fits (actionOf (now moves) index) (lent count (now trues) (now falses)) ⌝ }
+    ensures { λ r. ⌜ tabled (lent count (now (trues .exit)) (now (falses .exit))) r (now (trues .exit)) (now (falses .exit)) ≡ orGiven (lent count (now (trues .entry)) (now (falses .entry))) (stepTable 128 (actionOf (now (moves .entry)) index) (entriesOf count (now (trues .entry)) (now (falses .entry)))) ⌝ }
 {
-    let mut us = [0u32; 128];
-    let mut gs = [0u32; 128];
-    match step_at(moves, m, trues, falses, n, &mut us, &mut gs) {
+    let mut to_trues = [0u32; 128];
+    let mut to_falses = [0u32; 128];
+    match step_at(
+        moves,
+        index,
+        trues,
+        falses,
+        count,
+        &mut to_trues,
+        &mut to_falses,
+    ) {
         Stepped::To(k) => {
-            *trues = us;
-            *falses = gs;
+            *trues = to_trues;
+            *falses = to_falses;
             Stepped::To(k)
         }
         Stepped::Refused(number) => Stepped::Refused(number),
     }
 }
 
-// The rest of a plan from a lent table, `place` moves already taken: the last table in its place, the rows in arrays of zeros.
+// A plan from a lent table: the last table in its place, the rows in arrays of zeros.
 pub(crate) fn run_from<'a, 'b, 'c, 'd, 'e>(
     plan: Plan,
     goal: &'a [u32],
     moves: &'a [u32],
-    place: usize,
     trues: &'b mut [u32; 128],
     falses: &'c mut [u32; 128],
-    n: usize,
-    sizes: &'d mut [usize; 65],
+    count: usize,
+    entries: &'d mut [usize; 65],
     clauses: &'e mut [usize; 65],
 ) -> RunRecord
-    requires { ⌜ W.Runnable plan (now moves) (now goal) (lent n (now trues) (now falses)) ⌝ }
-    requires { ⌜ (now sizes ≡ replicate 65 0) × (now clauses ≡ replicate 65 0) ⌝ }
-    ensures { λ r. ⌜ C.courseIn r (now (trues .exit)) (now (falses .exit)) (now (sizes .exit)) (now (clauses .exit)) ≡ C.courseFrom (setsIn (now (goal .entry))) [] place (map (actionOf (now (moves .entry))) (drop place (planIn plan))) (entriesOf n (now (trues .entry)) (now (falses .entry))) ⌝ }
+    requires { ⌜ W.Runnable plan (now moves) (now goal) (lent count (now trues) (now falses)) ⌝ }
+    requires { ⌜ C.FreshRows (now entries) (now clauses) ⌝ }
+    ensures { λ r. ⌜ C.courseIn r (now (trues .exit)) (now (falses .exit)) (now (entries .exit)) (now (clauses .exit)) ≡ C.courseFrom (setsIn (now (goal .entry))) [] 0 (map (actionOf (now (moves .entry))) (planIn plan)) (entriesOf count (now (trues .entry)) (now (falses .entry))) ⌝ }
 {
-    let count = plan.count;
-    let mut size = n;
-    let mut rows: usize = 0;
-    let mut i = place;
-    while i < count {
-        note(sizes, clauses, rows, trues, falses, size);
-        rows += 1;
-        let number = plan.numbers[i] as usize;
-        match step_here(moves, number, trues, falses, size) {
+    let length = plan.count;
+    let mut size = count;
+    let mut i: usize = 0;
+    while i < length {
+        note(entries, clauses, i, trues, falses, size);
+        let place = i + 1;
+        let index = plan.numbers[i] as usize;
+        match step_here(moves, index, trues, falses, size) {
             Stepped::To(k) => {
                 size = k;
             }
-            Stepped::Refused(fault) => {
+            Stepped::Refused(number) => {
                 return RunRecord {
-                    verdict: halt(i + 1, fault),
-                    size,
-                    rows,
+                    verdict: halt(place, number),
+                    count: size,
+                    rows: place,
                 };
             }
         }
         i += 1;
     }
-    note(sizes, clauses, rows, trues, falses, size);
+    note(entries, clauses, i, trues, falses, size);
     RunRecord {
         verdict: end(goal, trues, falses, size),
-        size,
-        rows: rows + 1,
+        count: size,
+        rows: i + 1,
     }
 }
 
@@ -147,7 +158,7 @@ pub(crate) fn refuse_run(number: u8, position: usize) -> RunRecord
 {
     RunRecord {
         verdict: Verdict::Refused(number, position),
-        size: 0,
+        count: 0,
         rows: 0,
     }
 }
@@ -161,18 +172,16 @@ pub(crate) fn run_sheet<'a, 'b, 'c, 'd, 'e>(
     moves: &'a [u32],
     trues: &'b mut [u32; 128],
     falses: &'c mut [u32; 128],
-    sizes: &'d mut [usize; 65],
+    entries: &'d mut [usize; 65],
     clauses: &'e mut [usize; 65],
 ) -> RunRecord
-    requires { ⌜ Filled sheet (now ors) (now oneofs) (now goal) (now moves) ⌝ }
-    requires { ⌜ (now trues ≡ replicate 128 0) × (now falses ≡ replicate 128 0) ⌝ }
-    requires { ⌜ (now sizes ≡ replicate 65 0) × (now clauses ≡ replicate 65 0) ⌝ }
-    ensures { λ r. ⌜ C.courseIn r (now (trues .exit)) (now (falses .exit)) (now (sizes .exit)) (now (clauses .exit)) ≡ C.plannedCourse (problemIn sheet (now (ors .entry)) (now (oneofs .entry)) (now (goal .entry)) (now (moves .entry))) (planIn (sheet .plan)) (startTable 128 (problemIn sheet (now (ors .entry)) (now (oneofs .entry)) (now (goal .entry)) (now (moves .entry)))) ⌝ }
+    requires { ⌜ W.RunRoom sheet (now ors) (now oneofs) (now goal) (now moves) (now trues) (now falses) (now entries) (now clauses) ⌝ }
+    ensures { λ r. ⌜ C.courseIn r (now (trues .exit)) (now (falses .exit)) (now (entries .exit)) (now (clauses .exit)) ≡ C.plannedCourse (problemIn sheet (now (ors .entry)) (now (oneofs .entry)) (now (goal .entry)) (now (moves .entry))) (planIn (sheet .plan)) (startTable 128 (problemIn sheet (now (ors .entry)) (now (oneofs .entry)) (now (goal .entry)) (now (moves .entry)))) ⌝ }
 {
     let known = sheet.known;
     let plan = sheet.plan;
     match first_into(known, ors, sheet.ors, oneofs, sheet.oneofs, trues, falses) {
-        Stepped::To(n) => run_from(plan, goal, moves, 0, trues, falses, n, sizes, clauses),
+        Stepped::To(count) => run_from(plan, goal, moves, trues, falses, count, entries, clauses),
         Stepped::Refused(number) => {
             *trues = [0u32; 128];
             *falses = [0u32; 128];
@@ -187,12 +196,12 @@ pub fn course_into<'a, 'b, 'c, 'd, 'e>(
     lent: usize,
     trues: &'b mut [u32; 128],
     falses: &'c mut [u32; 128],
-    sizes: &'d mut [usize; 65],
+    entries: &'d mut [usize; 65],
     clauses: &'e mut [usize; 65],
 ) -> RunRecord
-    requires { ⌜ (now trues ≡ replicate 128 0) × (now falses ≡ replicate 128 0) ⌝ }
-    requires { ⌜ (now sizes ≡ replicate 65 0) × (now clauses ≡ replicate 65 0) ⌝ }
-    ensures { λ r. ⌜ C.courseIn r (now (trues .exit)) (now (falses .exit)) (now (sizes .exit)) (now (clauses .exit)) ≡ C.courseOf (sheetOf (now (bytes .entry))) lent ⌝ }
+    requires { ⌜ Fresh (now trues) (now falses) ⌝ }
+    requires { ⌜ C.FreshRows (now entries) (now clauses) ⌝ }
+    ensures { λ r. ⌜ C.courseIn r (now (trues .exit)) (now (falses .exit)) (now (entries .exit)) (now (clauses .exit)) ≡ C.courseOf (sheetOf (now (bytes .entry))) lent ⌝ }
 {
     let mut ors = [0u32; 136];
     let mut oneofs = [0u32; 136];
@@ -220,7 +229,7 @@ pub fn course_into<'a, 'b, 'c, 'd, 'e>(
                 moves,
                 trues,
                 falses,
-                sizes,
+                entries,
                 clauses,
             )
         }
@@ -235,7 +244,7 @@ pub fn course(bytes: &[u8], lent: usize) -> Course
     let mut falses = [0u32; 128];
     let mut entries = [0usize; 65];
     let mut clauses = [0usize; 65];
-    let went = course_into(
+    let ran = course_into(
         bytes,
         lent,
         &mut trues,
@@ -243,18 +252,18 @@ pub fn course(bytes: &[u8], lent: usize) -> Course
         &mut entries,
         &mut clauses,
     );
-    let verdict = went.verdict;
+    let verdict = ran.verdict;
     Course {
         ran: RunAnswer {
             verdict,
             table: Table {
-                count: went.size,
+                count: ran.count,
                 trues,
                 falses,
             },
         },
         counts: Counts {
-            count: went.rows,
+            count: ran.rows,
             entries,
             clauses,
         },

@@ -12,9 +12,9 @@ use table::steps::step_at;
 ghost use mathlib.Core.Path.{_≡_};
 ghost use mathlib.Core.Bool.{true};
 ghost use mathlib.Core.List.{_∷_};
-ghost use Prim.Native.Nat.{_+_, _≤_, _<_};
-ghost use lib.ListN.{length, replicate};
-ghost use Rattle.table.specs.Slots.{entriesOf};
+ghost use Prim.Native.Nat.{_+_, _-_, _≤_, _<_};
+ghost use lib.ListN.{replicate};
+ghost use Rattle.table.specs.Slots.{entriesOf, Room};
 ghost use Rattle.sheet.specs.Decoded.{problemIn};
 ghost use Rattle.table.specs.Start.{startTable};
 ghost use Rattle.table.specs.Moves as M;
@@ -22,7 +22,14 @@ ghost use Rattle.table.specs.Moves.{Filled};
 ghost use Rattle.plan.specs.Search.{fullAt, nothing};
 ghost use Rattle.plan.specs.Calls.{refusedSearch, answered, searched};
 ghost use Rattle.plan.specs.Walks as W;
-ghost use Rattle.plan.specs.Memory.{Remembers};
+ghost use Rattle.plan.specs.Memory.{Remembers, Underway};
+
+// Where the search stands: how many moves there are to choose from, how many are taken, how many are left.
+pub struct Depth {
+    pub moves: usize,
+    pub at: usize,
+    pub left: usize,
+}
 
 // No plan.
 pub(crate) fn none() -> SearchAnswer
@@ -46,14 +53,14 @@ pub(crate) fn refuse_search(number: u8, position: usize) -> SearchAnswer
     }
 }
 
-// Full at move m: the first of the plans with `left` moves more has move 0 for each.
-pub(crate) fn full(at: usize, left: usize, m: usize) -> SearchAnswer
-    requires { ⌜ (at + left < 8) × (m < 32) ⌝ }
-    ensures { λ r. ⌜ r ≡ W.answeredAt at (fullAt (m ∷ replicate left 0) (at + 1)) ⌝ }
+// Full at a move: the first of the plans with `left` moves more has move 0 for each.
+pub(crate) fn full(at: usize, left: usize, index: usize) -> SearchAnswer
+    requires { ⌜ (at + left < 8) × (index < 32) ⌝ }
+    ensures { λ r. ⌜ r ≡ W.answeredAt at (fullAt (index ∷ replicate left 0) (at + 1)) ⌝ }
 {
     let next = at + 1;
     let mut plan = [0u8; 8];
-    plan[at] = m as u8;
+    plan[at] = index as u8;
     SearchAnswer {
         kind: Kind::Full(next),
         plan,
@@ -76,26 +83,26 @@ pub(crate) fn is_end(a: SearchAnswer) -> bool
 
 // Said true only of tables with the same entries, in the same order.
 pub(crate) fn same<'a, 'b>(
-    us: &'a [u32],
-    gs: &'a [u32],
-    k: usize,
-    ts: &'b [u32],
-    fs: &'b [u32],
-    n: usize,
+    trues: &'a [u32],
+    falses: &'a [u32],
+    count: usize,
+    other_trues: &'b [u32],
+    other_falses: &'b [u32],
+    others: usize,
 ) -> bool
-    requires { ⌜ (k ≤ length (now us)) × (k ≤ length (now gs)) ⌝ }
-    requires { ⌜ (n ≤ length (now ts)) × (n ≤ length (now fs)) ⌝ }
-    ensures { λ r. ⌜ (r ≡ true → entriesOf k (now (us .entry)) (now (gs .entry)) ≡ entriesOf n (now (ts .entry)) (now (fs .entry))) ⌝ }
+    requires { ⌜ Room count (now trues) (now falses) ⌝ }
+    requires { ⌜ Room others (now «other_trues») (now «other_falses») ⌝ }
+    ensures { λ r. ⌜ (r ≡ true → entriesOf count (now (trues .entry)) (now (falses .entry)) ≡ entriesOf others (now («other_trues» .entry)) (now («other_falses» .entry))) ⌝ }
 {
-    if k != n {
+    if count != others {
         return false;
     }
     let mut i: usize = 0;
-    while i < n {
-        if us[i] != ts[i] {
+    while i < others {
+        if trues[i] != other_trues[i] {
             return false;
         }
-        if gs[i] != fs[i] {
+        if falses[i] != other_falses[i] {
             return false;
         }
         i += 1;
@@ -103,116 +110,127 @@ pub(crate) fn same<'a, 'b>(
     true
 }
 
-// The plans with the moves taken so far, move m next and `left` moves more. No shorter plan has an answer, so a move that leaves the
-// table as it was is not followed.
+// The plans with the moves taken so far and then this move. No shorter plan has an answer, so a move that leaves the table as it was is
+// not followed.
 fn try_move<'a, 'b, 'c>(
     moves: &'a [u32],
-    count: usize,
     goal: &'a [u32],
-    ts: &'b [u32],
-    fs: &'b [u32],
-    n: usize,
-    at: usize,
-    left: usize,
-    m: usize,
+    depth: Depth,
+    index: usize,
+    trues: &'b [u32],
+    falses: &'b [u32],
+    count: usize,
     memory: &'c mut [u32],
 ) -> SearchAnswer
-    requires { ⌜ W.Searchable (now moves) count (now goal) (M.lent n (now ts) (now fs)) ⌝ }
-    requires { ⌜ (at + left < 8) × (m < count) ⌝ }
-    requires { ⌜ W.Unmet (now moves) count (now goal) (M.lent n (now ts) (now fs)) at (left + 1) ⌝ }
-    requires { ⌜ Remembers (now moves) count (now goal) (now memory) ⌝ }
-    ensures answers { λ r. ⌜ r ≡ W.moveTried (now (moves .entry)) count (now (goal .entry)) (M.lent n (now (ts .entry)) (now (fs .entry))) at left m ⌝ }
-    ensures keeps { λ r. ⌜ Remembers (now (moves .entry)) count (now (goal .entry)) (now (memory .exit)) ⌝ }
+    requires { ⌜ Underway (now moves) (now goal) depth (M.lent count (now trues) (now falses)) (now memory) ⌝ }
+    requires { ⌜ (1 ≤ depth .left) × (index < depth .moves) ⌝ }
+    ensures answers { λ r. ⌜ r ≡ W.moveTried (now (moves .entry)) (depth .moves) (now (goal .entry)) (M.lent count (now (trues .entry)) (now (falses .entry))) (depth .at) (depth .left - 1) index ⌝ }
+    ensures keeps { λ r. ⌜ Remembers (now (moves .entry)) (depth .moves) (now (goal .entry)) (now (memory .exit)) ⌝ }
 {
-    let mut us = [0u32; 128];
-    let mut gs = [0u32; 128];
-    let stepped = step_at(moves, m, ts, fs, n, &mut us, &mut gs);
-    let next = at + 1;
+    let mut to_trues = [0u32; 128];
+    let mut to_falses = [0u32; 128];
+    let stepped = step_at(
+        moves,
+        index,
+        trues,
+        falses,
+        count,
+        &mut to_trues,
+        &mut to_falses,
+    );
+    let at = depth.at;
+    let left = depth.left - 1;
     match stepped {
         Stepped::To(k) => {
-            if same(&us, &gs, k, ts, fs, n) {
+            if same(&to_trues, &to_falses, k, trues, falses, count) {
                 return none();
             }
-            let mut r = try_plans(moves, count, goal, &us, &gs, k, next, left, memory);
+            let next = Depth {
+                moves: depth.moves,
+                at: at + 1,
+                left,
+            };
+            let mut r = try_plans(moves, goal, next, &to_trues, &to_falses, k, memory);
             if is_end(r) {
-                r.plan[at] = m as u8;
+                r.plan[at] = index as u8;
             }
             r
         }
         Stepped::Refused(number) => {
             if number == 21 {
-                return full(at, left, m);
+                return full(at, left, index);
             }
             none()
         }
     }
 }
 
-// The plans with the moves taken so far, which led to the table, and `left` moves more, in ascending order.
+// The plans with the moves taken so far, which led to the table, in ascending order of those that are left.
 fn try_plans<'a, 'b, 'c>(
     moves: &'a [u32],
-    count: usize,
     goal: &'a [u32],
-    ts: &'b [u32],
-    fs: &'b [u32],
-    n: usize,
-    at: usize,
-    left: usize,
+    depth: Depth,
+    trues: &'b [u32],
+    falses: &'b [u32],
+    count: usize,
     memory: &'c mut [u32],
 ) -> SearchAnswer
-    requires { ⌜ W.Searchable (now moves) count (now goal) (M.lent n (now ts) (now fs)) ⌝ }
-    requires { ⌜ at + left ≤ 8 ⌝ }
-    requires { ⌜ W.Unmet (now moves) count (now goal) (M.lent n (now ts) (now fs)) at left ⌝ }
-    requires { ⌜ Remembers (now moves) count (now goal) (now memory) ⌝ }
-    ensures answers { λ r. ⌜ r ≡ W.plansTried (now (moves .entry)) count (now (goal .entry)) (M.lent n (now (ts .entry)) (now (fs .entry))) at left ⌝ }
-    ensures keeps { λ r. ⌜ Remembers (now (moves .entry)) count (now (goal .entry)) (now (memory .exit)) ⌝ }
+    requires { ⌜ Underway (now moves) (now goal) depth (M.lent count (now trues) (now falses)) (now memory) ⌝ }
+    ensures answers { λ r. ⌜ r ≡ W.plansTried (now (moves .entry)) (depth .moves) (now (goal .entry)) (M.lent count (now (trues .entry)) (now (falses .entry))) (depth .at) (depth .left) ⌝ }
+    ensures keeps { λ r. ⌜ Remembers (now (moves .entry)) (depth .moves) (now (goal .entry)) (now (memory .exit)) ⌝ }
 {
+    let left = depth.left;
     if left == 0 {
-        if all_in_goal(goal, ts, fs, n) {
+        if all_in_goal(goal, trues, falses, count) {
             return SearchAnswer {
                 kind: Kind::Reached,
                 plan: [0u8; 8],
-                length: at,
+                length: depth.at,
             };
         }
         return none();
     }
-    if remembered(memory, ts, fs, n, left) {
+    if remembered(memory, trues, falses, count, left) {
         return none();
     }
-    remember(memory, ts, fs, n, left);
-    let fewer = left - 1;
-    let mut m: usize = 0;
-    while m < count {
-        let r = try_move(moves, count, goal, ts, fs, n, at, fewer, m, memory);
+    remember(memory, trues, falses, count, left);
+    let move_count = depth.moves;
+    let mut index: usize = 0;
+    while index < move_count {
+        let r = try_move(moves, goal, depth, index, trues, falses, count, memory);
         if is_end(r) {
             return r;
         }
-        m += 1;
+        index += 1;
     }
-    remember(memory, ts, fs, n, left + 1);
+    remember(memory, trues, falses, count, left + 1);
     none()
 }
 
 // Plans of at most `limit` moves, shorter first.
 pub(crate) fn lengths<'a, 'b, 'c>(
     moves: &'a [u32],
-    count: usize,
     goal: &'a [u32],
-    ts: &'b [u32],
-    fs: &'b [u32],
-    n: usize,
+    move_count: usize,
+    trues: &'b [u32],
+    falses: &'b [u32],
+    count: usize,
     limit: usize,
     memory: &'c mut [u32],
 ) -> SearchAnswer
-    requires { ⌜ W.Searchable (now moves) count (now goal) (M.lent n (now ts) (now fs)) ⌝ }
+    requires { ⌜ W.Searchable (now moves) «move_count» (now goal) (M.lent count (now trues) (now falses)) ⌝ }
     requires { ⌜ limit ≤ 8 ⌝ }
-    ensures { λ r. ⌜ r ≡ W.searchedBy (now (moves .entry)) count (now (goal .entry)) (M.lent n (now (ts .entry)) (now (fs .entry))) limit ⌝ }
+    ensures { λ r. ⌜ r ≡ W.searchedBy (now (moves .entry)) «move_count» (now (goal .entry)) (M.lent count (now (trues .entry)) (now (falses .entry))) limit ⌝ }
 {
     forget(memory);
     let mut length: usize = 0;
     while length <= limit {
-        let r = try_plans(moves, count, goal, ts, fs, n, 0, length, memory);
+        let depth = Depth {
+            moves: move_count,
+            at: 0,
+            left: length,
+        };
+        let r = try_plans(moves, goal, depth, trues, falses, count, memory);
         if is_end(r) {
             return r;
         }
@@ -249,8 +267,8 @@ pub(crate) fn search_sheet<'a, 'b>(
     ) {
         Stepped::To(count) => lengths(
             moves,
-            sheet.moves,
             goal,
+            sheet.moves,
             &trues,
             &falses,
             count,

@@ -1,12 +1,12 @@
 // The text of the program `check`, written into a lent buffer.
-use crate::Counts;
-use crate::Course;
 use crate::Row;
 use crate::Verdict;
+use crate::rows::row_at;
 ghost use mathlib.Core.Path.{_≡_};
 ghost use Prim.Native.Nat.{_+_, _*_, _≤_};
 ghost use lib.ListN.{length};
 ghost use Rattle.plan.specs.Demand3.{refusedVerdict};
+ghost use Rattle.plan.specs.Course.{countsIn};
 ghost use Rattle.plan.specs.Rows.{rowsIn};
 ghost use Rattle.plan.specs.Text.{decimal, clausesText, rowText, rowsText, numberAt, lastLine, textOf, Wrote};
 
@@ -23,18 +23,18 @@ pub(crate) fn write_bytes(out: &mut [u8], at: usize, s: &[u8]) -> usize
     at + i
 }
 
-// The number n in decimal.
-pub(crate) fn write_number(out: &mut [u8], at: usize, n: usize) -> usize
+// A number in decimal.
+pub(crate) fn write_number(out: &mut [u8], at: usize, value: usize) -> usize
     requires { ⌜ at + 20 ≤ length (now out) ⌝ }
-    ensures { λ r. ⌜ Wrote (now (out .entry)) at (decimal n) r (now (out .exit)) ⌝ }
+    ensures { λ r. ⌜ Wrote (now (out .entry)) at (decimal value) r (now (out .exit)) ⌝ }
     ensures { λ r. ⌜ r ≤ at + 20 ⌝ }
 {
-    if n < 10 {
-        out[at] = (48 + n) as u8;
+    if value < 10 {
+        out[at] = (48 + value) as u8;
         return at + 1;
     }
-    let last = write_number(out, at, n / 10);
-    out[last] = (48 + n % 10) as u8;
+    let last = write_number(out, at, value / 10);
+    out[last] = (48 + value % 10) as u8;
     last + 1
 }
 
@@ -64,22 +64,23 @@ pub(crate) fn write_row_line(out: &mut [u8], at: usize, row: Row) -> usize
     write_bytes(out, e, b"\n")
 }
 
-// The rows of the places arrived at.
-pub(crate) fn write_row_lines(out: &mut [u8], at: usize, counts: Counts) -> usize
-    requires { ⌜ counts .count ≤ 65 ⌝ }
-    requires { ⌜ at + 63 * counts .count ≤ length (now out) ⌝ }
-    ensures { λ r. ⌜ Wrote (now (out .entry)) at (rowsText (rowsIn counts)) r (now (out .exit)) ⌝ }
-    ensures { λ r. ⌜ r ≤ at + 63 * counts .count ⌝ }
+// The rows of the first places, so many, from their entries and clauses.
+pub(crate) fn write_row_lines<'a, 'b>(
+    out: &'a mut [u8],
+    at: usize,
+    rows: usize,
+    entries: &'b [usize; 65],
+    clauses: &'b [usize; 65],
+) -> usize
+    requires { ⌜ rows ≤ 65 ⌝ }
+    requires { ⌜ at + 63 * rows ≤ length (now out) ⌝ }
+    ensures { λ r. ⌜ Wrote (now (out .entry)) at (rowsText (rowsIn (countsIn rows (now (entries .entry)) (now (clauses .entry))))) r (now (out .exit)) ⌝ }
+    ensures { λ r. ⌜ r ≤ at + 63 * rows ⌝ }
 {
-    let count = counts.count;
     let mut next = at;
     let mut i: usize = 0;
-    while i < count {
-        let row = Row {
-            place: i,
-            entries: counts.entries[i],
-            clauses: counts.clauses[i],
-        };
+    while i < rows {
+        let row = row_at(entries, clauses, i);
         next = write_row_line(out, next, row);
         i += 1;
     }
@@ -129,19 +130,22 @@ pub(crate) fn is_refused(verdict: Verdict) -> bool
     }
 }
 
-// The whole text of a run.
-pub(crate) fn write_text(out: &mut [u8], course: Course) -> usize
-    requires { ⌜ course .counts .count ≤ 65 ⌝ }
+// The whole text of a run: its verdict, and so many rows.
+pub(crate) fn write_text<'a, 'b>(
+    out: &'a mut [u8],
+    verdict: Verdict,
+    rows: usize,
+    entries: &'b [usize; 65],
+    clauses: &'b [usize; 65],
+) -> usize
+    requires { ⌜ rows ≤ 65 ⌝ }
     requires { ⌜ 8192 ≤ length (now out) ⌝ }
-    ensures { λ r. ⌜ Wrote (now (out .entry)) 0 (textOf (course .ran) (rowsIn (course .counts))) r (now (out .exit)) ⌝ }
+    ensures { λ r. ⌜ Wrote (now (out .entry)) 0 (textOf verdict (rowsIn (countsIn rows (now (entries .entry)) (now (clauses .entry))))) r (now (out .exit)) ⌝ }
 {
-    let ran = course.ran;
-    let verdict = ran.verdict;
     if is_refused(verdict) {
         return write_verdict(out, 0, verdict);
     }
-    let counts = course.counts;
     let a = write_bytes(out, 0, b"place entries clauses\n");
-    let b = write_row_lines(out, a, counts);
+    let b = write_row_lines(out, a, rows, entries, clauses);
     write_verdict(out, b, verdict)
 }

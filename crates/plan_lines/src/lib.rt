@@ -4,13 +4,22 @@ use libc::STDIN_FILENO;
 use libc::STDOUT_FILENO;
 use plan::Counts;
 use plan::Kind;
-use plan::RanRows;
+use plan::Row;
 use plan::RunAnswer;
 use plan::SearchAnswer;
 use plan::Verdict;
 ghost use mathlib.Core.Path.{_≡_};
 ghost use Prim.Native.Nat.{_≤_, _<_};
-ghost use lib.ListN.{length};
+ghost use lib.ListN.{length, replicate};
+ghost use Rattle.sheet.specs.Format.{sheetOf};
+ghost use Rattle.plan.specs.Calls.{runOf, rowsAfter};
+ghost use Rattle.plan_lines.specs.Rows.{noRow};
+
+// A run with rows of its own, by value.
+pub struct RanRows {
+    pub ran: RunAnswer,
+    pub rows: [Row; 65],
+}
 
 // A word alone, as a line.
 fn write_word(word: &[u8]) {
@@ -99,9 +108,23 @@ fn show_course(sheet: &[u8], lent: usize) {
     );
 }
 
+// The run of a sheet with 65 rows of its own, lent to the call.
+fn run_here(bytes: &[u8]) -> RanRows
+    ensures { λ r. ⌜ r .ran ≡ runOf (sheetOf (now (bytes .entry))) 65 ⌝ }
+    ensures { λ r. ⌜ r .rows ≡ rowsAfter (sheetOf (now (bytes .entry))) (replicate 65 noRow) ⌝ }
+{
+    let mut rows = [Row {
+        place: 0,
+        entries: 0,
+        clauses: 0,
+    }; 65];
+    let ran = plan::run(bytes, &mut rows);
+    RanRows { ran, rows }
+}
+
 // The run of a sheet with 65 rows.
 fn show_run(sheet: &[u8]) {
-    let r = plan::run_here(sheet);
+    let r = run_here(sheet);
     write_ran(r.ran);
     cases::write_pair(b"rows ", 65, b" numbers ", digest_rows(r));
 }

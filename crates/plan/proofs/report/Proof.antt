@@ -7,19 +7,17 @@ use Rattle.plan.proofs.report.Tie as tie
 returns : tie.Need-returns
 returns c = no-report (c .before .before .before .args .bytes .now) _ (c .if1 .taken)
 
-course-requires : tie.Need-course-requires
-course-requires c κs = search needs
+course-into-requires : tie.Need-course-into-requires
+course-into-requires c κs = search needs
 
 write-text-requires : tie.Need-write-text-requires
-write-text-requires c κs = (few-rows _ _ (c .before .course .ensures), c .before .before .if1 .left)
+write-text-requires c κs = (few-rows _ _ (c .before .before .before .course-into .ensures), c .before .before .before .before .before .before .before .before .if1 .left)
 
 same-length : tie.Need-same-length
 same-length c = search needs
 
 returns-2 : tie.Need-returns-2
-returns-2 c =
-    let k = c .before .before .before .before in
-    reports _ _ (k .course .ensures) _ _ _ (k .before .if1 .left) (c .before .before .write-text .ensures)
+returns-2 c = reports _ _ (c .before .before .before .before .before .before .course-into .ensures) _ _ _ (c .before .before .before .before .before .before .before .before .before .before .before .if1 .left) (c .before .before .write-text .ensures)
 
 pub report-spec : {M : Type 1} → statement M
-report-spec = tie.close (tie.spec returns course-requires write-text-requires same-length returns-2)
+report-spec = tie.close (tie.spec returns course-into-requires write-text-requires same-length returns-2)

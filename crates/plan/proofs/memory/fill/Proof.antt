@@ -9,10 +9,10 @@ use Rattle.plan.proofs.memory.fill.Statement.{statement}
 use Rattle.plan.proofs.memory.fill.Tie as tie
 
 abbrev Inv-loop : tie.InvT-loop
-Inv-loop slot₀ ts fs n mark i₀ slot i = Laid slot ts fs n mark i × (i ≤ n)
+Inv-loop slot₀ trues falses count mark i₀ slot i = Laid slot trues falses count mark i × (i ≤ count)
 
 abbrev μ-loop : tie.MeasureT-loop
-μ-loop slot₀ ts fs n mark i₀ slot i = n - i
+μ-loop slot₀ trues falses count mark i₀ slot i = count - i
 
 cast-slot : tie.Need-cast-slot Inv-loop μ-loop
 cast-slot c = search needs
@@ -29,7 +29,7 @@ slice-write-slot-2 c = search needs
 loop-holds : tie.Need-loop-holds Inv-loop μ-loop
 loop-holds c =
     let s = c .args in
-    (laid-none (s .slot .now) (s .ts .now) (s .fs .now) (s .n) (s .mark) (c .pre .0 .0), omega arith)
+    (laid-none (s .slot .now) (s .trues .now) (s .falses .now) (s .count) (s .mark) (c .pre .0 .0), omega arith)
 
 mul-slot : tie.Need-mul-slot Inv-loop μ-loop
 mul-slot c = search needs
@@ -62,7 +62,7 @@ slice-write-slot-4 : tie.Need-slice-write-slot-4 Inv-loop μ-loop
 slice-write-slot-4 c =
     let g = c .before .before .before .loop in
     let s = c .before .before .before .before in
-    omega (arith, length-set (g .slot) (2 + g .i) (getD (s .args .ts .now) (g .i) 0), g .inv .0 .long, s .pre .0 .1)
+    omega (arith, length-set (g .slot) (2 + g .i) (getD (s .args .trues .now) (g .i) 0), g .inv .0 .long, s .pre .1 .most)
 
 add-i : tie.Need-add-i Inv-loop μ-loop
 add-i c = search needs
@@ -74,7 +74,7 @@ loop-again : tie.Need-loop-again Inv-loop μ-loop
 loop-again c =
     let g = c .before .before .before .loop in
     let s = c .before .before .before .before in
-    (laid-next {slot = g .slot} {ts = s .args .ts .now} {fs = s .args .fs .now} {n = s .args .n} {mark = s .args .mark} {i = g .i} (g .inv .0) (omega (arith, s .pre .0 .1)), omega arith)
+    (laid-next {slot = g .slot} {ts = s .args .trues .now} {fs = s .args .falses .now} {n = s .args .count} {mark = s .args .mark} {i = g .i} (g .inv .0) (omega (arith, s .pre .1 .most)), omega arith)
 
 same-length : tie.Need-same-length Inv-loop μ-loop
 same-length c = c .before .loop .inv .0 .long ∙ sym (c .before .before .pre .0 .0)
@@ -82,7 +82,7 @@ same-length c = c .before .loop .inv .0 .long ∙ sym (c .before .before .pre .0
 returns : tie.Need-returns Inv-loop μ-loop
 returns c =
     let g = c .before .loop in
-    (g .inv .0 .long, g .inv .0 .mark-is, laid-table (g .inv .0) (c .before .before .pre .0 .1) (omega (arith, g .inv .1, c .loop-test .left)))
+    (g .inv .0 .long, g .inv .0 .mark-is, laid-table (g .inv .0) (c .before .before .pre .1 .most) (omega (arith, g .inv .1, c .loop-test .left)))
 
 pub fill-spec : {M : Type 1} → statement M
 fill-spec =

@@ -7,10 +7,10 @@ use Rattle.plan.proofs.memory.place.Statement.{statement}
 use Rattle.plan.proofs.memory.place.Tie as tie
 
 abbrev Inv-loop : tie.InvT-loop
-Inv-loop ts fs n slots digest₀ i₀ digest i = i ≤ n
+Inv-loop trues falses count slots digest₀ i₀ digest i = i ≤ count
 
 abbrev μ-loop : tie.MeasureT-loop
-μ-loop ts fs n slots digest₀ i₀ digest i = n - i
+μ-loop trues falses count slots digest₀ i₀ digest i = count - i
 
 loop-holds : tie.Need-loop-holds Inv-loop μ-loop
 loop-holds c = search needs

@@ -49,7 +49,7 @@ returns-3 c = λ moves count goal h g.
     let f = c .before .before .fill in
     let s = c .before .before .before .before .before .before .before .before .before .before .before .before .before .args in
     kept-by (s .memory .now) (f .last .0) (c .before .before .before .before .lesser .result) (c .before .before .before .before .lesser .ensures) (f .ensures .0) moves count goal h
-    (known-in moves count goal (f .last .0) (entriesOf (s .n) (s .ts .now) (s .fs .now)) (s .mark) (f .ensures .1) (f .ensures .2) g)
+    (known-in moves count goal (f .last .0) (entriesOf (s .count) (s .trues .now) (s .falses .now)) (s .mark) (f .ensures .1) (f .ensures .2) g)
 
 pub remember-spec : {M : Type 1} → statement M
 remember-spec =

@@ -40,7 +40,7 @@ returns-2 c = λ _.
     let s = c .before .before .before .before .before .before .before .before .args in
     let p = c .before .before .before .place in
     let w = c .before .holds .ensures (c .if2 .taken) in
-    recalled (s .memory .now) (entriesOf (s .n) (s .ts .now) (s .fs .now)) (s .left) (p .result) (slots-room (length (s .memory .now)) (p .result) (p .ensures)) (w .0) (w .1)
+    recalled (s .memory .now) (entriesOf (s .count) (s .trues .now) (s .falses .now)) (s .left) (p .result) (slots-room (length (s .memory .now)) (p .result) (p .ensures)) (w .0) (w .1)
 
 following-requires : tie.Need-following-requires
 following-requires c κs = search needs
@@ -71,7 +71,7 @@ returns-3 c = λ e.
     let s = c .before .before .before .before .before .before .before .before .before .before .before .args in
     let p = c .before .before .following in
     let w = c .holds2 .ensures e in
-    recalled (s .memory .now) (entriesOf (s .n) (s .ts .now) (s .fs .now)) (s .left) (p .result) (slots-room (length (s .memory .now)) (p .result) (p .ensures)) (w .0) (w .1)
+    recalled (s .memory .now) (entriesOf (s .count) (s .trues .now) (s .falses .now)) (s .left) (p .result) (slots-room (length (s .memory .now)) (p .result) (p .ensures)) (w .0) (w .1)
 
 pub remembered-spec : {M : Type 1} → statement M
 remembered-spec =

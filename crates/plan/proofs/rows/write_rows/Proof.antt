@@ -1,4 +1,4 @@
--- `plan::rows::write_rows` meets its contract: a walk of its MIR, by hand. It has a loop whose turn makes a row by `row_at`, which is covered, and lends the slice to `write_row`.
+-- `plan::rows::write_rows` meets its contract: a walk of its MIR, by hand. It has a loop whose turn makes a row by `row_of_counts`, which is covered, and lends the slice to `write_row`.
 --     Inv t            the loop's invariant, where t turns are left: with i = n - t, the slice is owned at the list with the rows below i stored.        more, ends      a turn that writes a row, and the turn that leaves the loop, with the rest of the body
 -- Assumes nothing.
 use mathlib.Core.Path.{_≡_, refl, sym, _∙_, ap, subst}
@@ -58,10 +58,10 @@ use Rattle.plan.proofs.Entering.{Places, envOf, rooms, enters}
 use Rattle.plan.proofs.LentCalls.{Own, Back}
 use Rattle.plan.proofs.RowCalls.{WriteRow, Stored, row-call}
 use Rattle.plan.proofs.RowsWritten.{written, length-written, written-is}
-use Rattle.plan.proofs.rows.row_at as row-at
-use Rattle.plan.proofs.rows.row_at.Symbol as row-at-def
-use Rattle.plan.proofs.rows.row_at.Symbol.{name as #plan·rows·row-at}
-use Rattle.plan.proofs.rows.row_at.Met as row-at-thm
+use Rattle.plan.proofs.rows.row_of_counts as row-of-counts
+use Rattle.plan.proofs.rows.row_of_counts.Symbol as row-of-counts-def
+use Rattle.plan.proofs.rows.row_of_counts.Symbol.{name as #plan·rows·row-of-counts}
+use Rattle.plan.proofs.rows.row_of_counts.Met as row-of-counts-thm
 use Rattle.plan.proofs.rows.write_row.Symbol as write-row-def
 use Rattle.plan.proofs.rows.write_row.Symbol.{name as #plan·rows·write-row}
 use Rattle.plan.proofs.rows.write_row.Met as write-row-thm
@@ -89,12 +89,12 @@ slice-again = sliceTy ref-again
 
 module _ {M : Type 1} (𝓤 : URA M) (H : Heap 𝓤) (A : Atoms 𝓤) (mem : Memory → SProp 𝓤) (run : Routine → Fun 𝓤) where
   -- the contracts that the proof cites
-  abbrev RowAt : Contract 𝓤
-  RowAt = tripleOf 𝓤 H A row-at.signature (row-at.spec 𝓤 H A mem run)
+  abbrev RowOfCounts : Contract 𝓤
+  RowOfCounts = tripleOf 𝓤 H A row-of-counts.signature (row-of-counts.spec 𝓤 H A mem run)
 
-  -- of `row_at`'s `ensured`, the clause alone
-  made-of : (c : Counts) (i : ℕ) (r : Row) → ent 𝓤 (ensured 𝓤 H A row-at.ended (row-at.clauses 𝓤 H A mem run) tt (c, (i, tt)) tt r) (fact 𝓤 (r ≡ rowAt c i))
-  made-of c i r = exE 𝓤 _ (λ ws. snd∗ 𝓤 (sem 𝓤 H A (lasts row-at.ended tt (c, (i, tt)) ws)) (fact 𝓤 (r ≡ rowAt c i)))
+  -- of `row_of_counts`'s `ensured`, the clause alone
+  made-of : (c : Counts) (i : ℕ) (r : Row) → ent 𝓤 (ensured 𝓤 H A row-of-counts.ended (row-of-counts.clauses 𝓤 H A mem run) tt (c, (i, tt)) tt r) (fact 𝓤 (r ≡ rowAt c i))
+  made-of c i r = exE 𝓤 _ (λ ws. snd∗ 𝓤 (sem 𝓤 H A (lasts row-of-counts.ended tt (c, (i, tt)) ws)) (fact 𝓤 (r ≡ rowAt c i)))
 
 module _ {M : Type 1} (𝓤 : URA M) (H : Heap 𝓤) (A : Atoms 𝓤) (W : Given 𝓤 H A) (mem : Memory → SProp 𝓤) (run : Routine → Fun 𝓤) (κ : Lft) (q : Share) (b o : ℕ) (γ : GName) (ys : List Row) (c : Counts) where
   -- the slice under the name δ at the list l
@@ -137,16 +137,16 @@ module _ {M : Type 1} (𝓤 : URA M) (H : Heap 𝓤) (A : Atoms 𝓤) (W : Given
       nothing ! $ owned ! N.the-row (Is N.the-row) ((LL.makes N.the-type N′.the-plain) 𝓤 H A) c _ is $ fjoin ! $ move ! (1 ∷ 0 ∷ []) $ fjoin ! $
       feqI ! (List Val) (vunit ∷ []) (vunit ∷ []) refl $ move ! (1 ∷ 0 ∷ []) $ done !
 
-  -- ---- the call of `row_at`
-  abbrev to-row-at : ℕ → RowAt 𝓤 H A mem run .Ghost
-  to-row-at i = ((tt, tt, tt, (c, (i, tt)), (cval ∷ [], (vint w64 i ∷ [], tt))), tt)
+  -- ---- the call of `row_of_counts`
+  abbrev to-row-of-counts : ℕ → RowOfCounts 𝓤 H A mem run .Ghost
+  to-row-of-counts i = ((tt, tt, tt, (c, (i, tt)), (cval ∷ [], (vint w64 i ∷ [], tt))), tt)
 
-  goes-row-at : (i : ℕ) → Is N.the-row c (cval ∷ []) → i < 2 ^ 64 → i < 65 → ent 𝓤 (emp 𝓤) (RowAt 𝓤 H A mem run .pre (to-row-at i))
-  goes-row-at i is fits below =
+  goes-row-of-counts : (i : ℕ) → Is N.the-row c (cval ∷ []) → i < 2 ^ 64 → i < 65 → ent 𝓤 (emp 𝓤) (RowOfCounts 𝓤 H A mem run .pre (to-row-of-counts i))
+  goes-row-of-counts i is fits below =
       qed W [] ∵ says ! below $ nothing ! $ frame ! $
       nothing ! $ owned ! usize (Is usize) (uint-makes 𝓤 H A W w64) i _ (refl, fits) $ fjoin ! $ owned ! N.the-row (Is N.the-row) ((LL.makes N.the-type N′.the-plain) 𝓤 H A) c _ is $ fjoin ! $ done !
 
-  module _ (𝓣 : Tables 𝓤 H) (known-row-at : Triple 𝓤 (𝓣 .C #plan·rows·row-at) (RowAt 𝓤 H A mem run)) (known-write-row : Triple 𝓤 (𝓣 .C #plan·rows·write-row) (WriteRow 𝓤 H A mem run))
+  module _ (𝓣 : Tables 𝓤 H) (known-row-of-counts : Triple 𝓤 (𝓣 .C #plan·rows·row-of-counts) (RowOfCounts 𝓤 H A mem run)) (known-write-row : Triple 𝓤 (𝓣 .C #plan·rows·write-row) (WriteRow 𝓤 H A mem run))
       (room : Room T.the-row m) (c-is : Is N.the-row c (cval ∷ [])) (n-fits : n < 2 ^ 64) (n-rows : n ≤ m) (n-small : n ≤ 65) where
     abbrev C : Calls 𝓤 H
     C = 𝓣 .C
@@ -187,9 +187,9 @@ module _ {M : Type 1} (𝓤 : URA M) (H : Heap 𝓤) (A : Atoms 𝓤) (W : Given
           rewrite ! 4 (λ (t : Bool). ‵ (fat fullShare tyBool l₆ 0 (vbool t))) (lt-ltb i n small) refl $
           stays ! (load ! (from ! (stop !)) (look ! 4 refl)) $
           -- the row is made
-          use0 W (raw (RowAt 𝓤 H A mem run .pre (to-row-at i))) (goes-row-at i c-is i-fits (lt-of-lt-of-le small n-small)) $
-          calls-at ! fm (RowAt 𝓤 H A mem run) known-row-at (to-row-at i) (and-then ! (load ! (from ! (stop !)) (look ! 10 refl)) (and-then ! (load ! (from ! (stop !)) (look ! 3 refl)) (no-more !))) (λ v.
-          use1 W (later (some (λ (r : Row). (‵ ftrue ⊛ ‵ (T.the-row .own r (v ∷ []))) ⊛ raw (ensured 𝓤 H A row-at.ended (row-at.clauses 𝓤 H A mem run) tt (c, (i, tt)) tt r)))) (id⊢ 𝓤 _) $ await ! tt $ pick ! (λ r.
+          use0 W (raw (RowOfCounts 𝓤 H A mem run .pre (to-row-of-counts i))) (goes-row-of-counts i c-is i-fits (lt-of-lt-of-le small n-small)) $
+          calls-at ! fm (RowOfCounts 𝓤 H A mem run) known-row-of-counts (to-row-of-counts i) (and-then ! (load ! (from ! (stop !)) (look ! 10 refl)) (and-then ! (load ! (from ! (stop !)) (look ! 3 refl)) (no-more !))) (λ v.
+          use1 W (later (some (λ (r : Row). (‵ ftrue ⊛ ‵ (T.the-row .own r (v ∷ []))) ⊛ raw (ensured 𝓤 H A row-of-counts.ended (row-of-counts.clauses 𝓤 H A mem run) tt (c, (i, tt)) tt r)))) (id⊢ 𝓤 _) $ await ! tt $ pick ! (λ r.
           split ! $ move ! (1 ∷ []) $ use1 W (raw (fact 𝓤 (r ≡ rowAt c i))) (made-of 𝓤 H A mem run c i r) $ heard ! (r ≡ rowAt c i) (λ is-row. split ! $ drop ! $
           peeks ! T.the-row (Is T.the-row) (shows 𝓤 H A T.the-row) r (v ∷ []) (λ is.
           land ! (from ! (stop !)) (init ! 4 refl (LL.lawful T.the-type T′.the-laws 𝓤 H A W .typed r _ is .0)) $ drop ! $
@@ -297,19 +297,19 @@ module _ {M : Type 1} (𝓤 : URA M) (H : Heap 𝓤) (A : Atoms 𝓤) (W : Given
     walk = enters 𝓤 H A W C Λ code.function (s ∷ cval ∷ []) Post ((‵ (flft κ q) ⊛ ‵ ftrue) ∷ ‵ (owns (MutSlice (named 0) κ T.the-row ∷ N.the-row ∷ []) a at) ∷ []) passes
 
 module _ {M : Type 1} (𝓤 : URA M) (H : Heap 𝓤) (A : Atoms 𝓤) (W : Given 𝓤 H A) (mem : Memory → SProp 𝓤) (run : Routine → Fun 𝓤) where
-  write-rows-walks : (𝓣 : Tables 𝓤 H) → Triple 𝓤 (𝓣 .C #plan·rows·row-at) (RowAt 𝓤 H A mem run) → Triple 𝓤 (𝓣 .C #plan·rows·write-row) (WriteRow 𝓤 H A mem run)
+  write-rows-walks : (𝓣 : Tables 𝓤 H) → Triple 𝓤 (𝓣 .C #plan·rows·row-of-counts) (RowOfCounts 𝓤 H A mem run) → Triple 𝓤 (𝓣 .C #plan·rows·write-row) (WriteRow 𝓤 H A mem run)
       → Walks 𝓤 H A write′.ended stayed (WpFn 𝓤 H (𝓣 .C) (𝓣 .Λ) code.function) (write′.clauses 𝓤 H A mem run)
-  write-rows-walks 𝓣 known-row-at known-write-row = walked 𝓤 H A write′.ended stayed (write′.clauses 𝓤 H A mem run) (WpFn 𝓤 H (𝓣 .C) (𝓣 .Λ) code.function)
+  write-rows-walks 𝓣 known-row-of-counts known-write-row = walked 𝓤 H A write′.ended stayed (write′.clauses 𝓤 H A mem run) (WpFn 𝓤 H (𝓣 .C) (𝓣 .Λ) code.function)
       (λ κs. (slice-vals, (LL.vals N.the-type N′.the-laws, tt))) (λ κs. (mut-slice-tells (named 0) (κs .0) T.the-row, (LL.tells N.the-type N′.the-laws, tt)))
       (λ κs qs bounds a g are. needs 𝓤 ((a .1 .0 .count ≤ length (a .0 .now)) × (a .1 .0 .count ≤ 65)) _ (λ asked.
-      walk 𝓤 H A W mem run (κs .0) (qs .0) (a .0 .ptr .0) (a .0 .ptr .1) (a .0 .name) (a .0 .now) (a .1 .0) 𝓣 known-row-at known-write-row (are .0 .0 .1) (are .1 .0) (LL.owed N.the-type N′.the-laws (a .1 .0) _ (are .1 .0) .0 .1) (asked .0) (asked .1)))
+      walk 𝓤 H A W mem run (κs .0) (qs .0) (a .0 .ptr .0) (a .0 .ptr .1) (a .0 .name) (a .0 .now) (a .1 .0) 𝓣 known-row-of-counts known-write-row (are .0 .0 .1) (are .1 .0) (LL.owed N.the-type N′.the-laws (a .1 .0) _ (are .1 .0) .0 .1) (asked .0) (asked .1)))
 
 write-rows-meets : {M : Type 1} (𝓤 : URA M) (H : Heap 𝓤) (A : Atoms 𝓤) → Given 𝓤 H A → (mem : Memory → SProp 𝓤) (run : Routine → Fun 𝓤) (𝓣 : Tables 𝓤 H)
-    → Triple 𝓤 (𝓣 .C #plan·rows·row-at) (RowAt 𝓤 H A mem run) → Triple 𝓤 (𝓣 .C #plan·rows·write-row) (WriteRow 𝓤 H A mem run)
+    → Triple 𝓤 (𝓣 .C #plan·rows·row-of-counts) (RowOfCounts 𝓤 H A mem run) → Triple 𝓤 (𝓣 .C #plan·rows·write-row) (WriteRow 𝓤 H A mem run)
     → Meets 𝓤 H A write′.signature (WpFn 𝓤 H (𝓣 .C) (𝓣 .Λ) code.function) (write′.spec 𝓤 H A mem run)
-write-rows-meets 𝓤 H A W mem run 𝓣 known-row-at known-write-row =
+write-rows-meets 𝓤 H A W mem run 𝓣 known-row-of-counts known-write-row =
     walk-meets 𝓤 H A write′.ended stayed W (goes-slice 𝓤 H A W 1 0 tt (plain (λ _. T.the-row)), (goes-none 𝓤 H A W 1 (λ _. N.the-row) yes (λ κs x f. refl), tt)) (write′.clauses 𝓤 H A mem run)
-    (WpFn 𝓤 H (𝓣 .C) (𝓣 .Λ) code.function) (WpFn-mono 𝓤 H (W .laws) 𝓣 code.function) (write-rows-walks 𝓤 H A W mem run 𝓣 known-row-at known-write-row)
+    (WpFn 𝓤 H (𝓣 .C) (𝓣 .Λ) code.function) (WpFn-mono 𝓤 H (W .laws) 𝓣 code.function) (write-rows-walks 𝓤 H A W mem run 𝓣 known-row-of-counts known-write-row)
 
 pub write-rows-spec : {M : Type 1} → stated.statement M
 unfolding code.routine tablesOf
@@ -317,5 +317,5 @@ write-rows-spec 𝓤 H 𝓜 𝓖 𝓡 =
     entered 𝓤 H (tripleOf 𝓤 H (𝓖 .A) write′.signature (write′.spec 𝓤 H (𝓖 .A) (𝓜 .mem) (𝓡 .run)))
     (tables 𝓤 H 𝓜 𝓡 code.env .C) (tables 𝓤 H 𝓜 𝓡 code.env .Λ) #plan·rows·write-rows code.function (code.unfolded 𝓤 H 𝓜 𝓡)
     (write-rows-meets 𝓤 H (𝓖 .A) (givenOf 𝓤 H 𝓜 𝓖) (𝓜 .mem) (𝓡 .run) (tablesOf 𝓤 H 𝓜 (tables 𝓤 H 𝓜 𝓡 code.env))
-    (cited 𝓤 H (RowAt 𝓤 H (𝓖 .A) (𝓜 .mem) (𝓡 .run)) 𝓜 𝓡 code.env #plan·rows·row-at row-at-def.routine code.calls-plan·rows·row-at (row-at-thm.met 𝓤 H 𝓜 𝓖 𝓡))
+    (cited 𝓤 H (RowOfCounts 𝓤 H (𝓖 .A) (𝓜 .mem) (𝓡 .run)) 𝓜 𝓡 code.env #plan·rows·row-of-counts row-of-counts-def.routine code.calls-plan·rows·row-of-counts (row-of-counts-thm.met 𝓤 H 𝓜 𝓖 𝓡))
     (cited 𝓤 H (WriteRow 𝓤 H (𝓖 .A) (𝓜 .mem) (𝓡 .run)) 𝓜 𝓡 code.env #plan·rows·write-row write-row-def.routine code.calls-plan·rows·write-row (write-row-thm.met 𝓤 H 𝓜 𝓖 𝓡)))

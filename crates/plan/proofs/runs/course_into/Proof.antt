@@ -27,19 +27,22 @@ refuse-run-requires-2 c κs = search needs
 returns : tie.Need-returns
 returns c =
     let z = c .before .before .before .before .before .before .before .before .before .before .pre in
-    in-zeros (c .refuse-run2 .result) (z .0 .0) (z .0 .1) (z .1 .0) (z .1 .1)
+    in-zeros (c .refuse-run2 .result) (z .0) (z .1)
     ∙ c .refuse-run2 .ensures
     ∙ course-few _ _ (accepted-says _ _ _ _ _ _ (c .before .before .before .before .decode .ensures .0) (c .before .before .enum-told .given .1)) _ (c .before .if1 .taken)
 
 run-sheet-requires : tie.Need-run-sheet-requires
 run-sheet-requires c κs =
-    let d = c .before .before .before .before .before .before .before .before .before .before .before .before .before .before .before .before .decode in
-    (filled _ _ _ _ _ _ (d .ensures) (c .before .before .before .before .before .before .before .before .before .before .before .before .before .before .enum-told .given .1) (search needs) (search needs) (search needs) (search needs), c .before .before .before .before .before .before .before .before .before .before .before .before .before .before .before .before .before .before .before .before .before .before .pre)
+    record {
+      filled = filled _ _ _ _ _ _ (c .before .before .before .before .before .before .before .before .before .before .before .before .before .before .before .before .decode .ensures) (c .before .before .before .before .before .before .before .before .before .before .before .before .before .before .enum-told .given .1) (search needs) (search needs) (search needs) (search needs);
+      fresh = c .before .before .before .before .before .before .before .before .before .before .before .before .before .before .before .before .before .before .before .before .before .before .pre .0;
+      fresh-rows = c .before .before .before .before .before .before .before .before .before .before .before .before .before .before .before .before .before .before .before .before .before .before .pre .1;
+    }
 
 returns-2 : tie.Need-returns-2
 returns-2 c =
     let z = c .before .before .before .before .before .before .before .before .before .before .pre in
-    in-zeros (c .refuse-run .result) (z .0 .0) (z .0 .1) (z .1 .0) (z .1 .1)
+    in-zeros (c .refuse-run .result) (z .0) (z .1)
     ∙ c .refuse-run .ensures
     ∙ course-fault _ _ _ _ (refused-says _ _ _ _ _ _ (c .before .before .before .before .decode .ensures .0) _ _ (c .before .before .answer .given .1))
 

@@ -9,11 +9,11 @@ use borrow.Author.Needs.{needs}
 use Rattle.plan.proofs.runs.note.Statement.{statement}
 use Rattle.plan.proofs.runs.note.Tie as tie
 
-mul-sizes : tie.Need-mul-sizes
-mul-sizes c = search needs
+mul-entries : tie.Need-mul-entries
+mul-entries c = search needs
 
-element-write-sizes : tie.Need-element-write-sizes
-element-write-sizes c = search needs
+element-write-entries : tie.Need-element-write-entries
+element-write-entries c = search needs
 
 clause-count-requires : tie.Need-clause-count-requires
 clause-count-requires c κs = search needs
@@ -28,15 +28,15 @@ returns : tie.Need-returns
 unfolding noted
 returns c =
     let a = c .before .before .before .args in
-    let n : a .n ≡ length (entriesOf (a .n) (a .trues .now) (a .falses .now)) = sym (length-entriesOf (a .n) (a .trues .now) (a .falses .now)) in
-    (λ j. record { count = a .at + 1; entries = set (a .sizes .now) (a .at) (n j); clauses = set (a .clauses .now) (a .at) (c .clause-count .ensures j) })
+    let n : a .count ≡ length (entriesOf (a .count) (a .trues .now) (a .falses .now)) = sym (length-entriesOf (a .count) (a .trues .now) (a .falses .now)) in
+    (λ j. record { count = a .at + 1; entries = set (a .entries .now) (a .at) (n j); clauses = set (a .clauses .now) (a .at) (c .clause-count .ensures j) })
 
 pub note-spec : {M : Type 1} → statement M
 note-spec =
     tie.close
     (tie.spec
-    mul-sizes
-    element-write-sizes
+    mul-entries
+    element-write-entries
     clause-count-requires
     mul-clauses
     element-write-clauses

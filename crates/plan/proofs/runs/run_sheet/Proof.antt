@@ -10,15 +10,18 @@ use Rattle.plan.proofs.runs.run_sheet.Tie as tie
 first-into-requires : tie.Need-first-into-requires
 first-into-requires c κs =
     let z = c .before .before .before .before .before .before .before .before in
-    (ors-fit (z .args .sheet) (z .args .ors .now) (z .args .oneofs .now) (z .args .goal .now) (z .args .moves .now) (z .pre .0), (oneofs-fit (z .args .sheet) (z .args .ors .now) (z .args .oneofs .now) (z .args .goal .now) (z .args .moves .now) (z .pre .0), z .pre .1 .0))
+    let a = z .args in
+    let fresh = z .pre .fresh in
+    (ors-fit (a .sheet) (a .ors .now) (a .oneofs .now) (a .goal .now) (a .moves .now) (z .pre .filled), (oneofs-fit (a .sheet) (a .ors .now) (a .oneofs .now) (a .goal .now) (a .moves .now) (z .pre .filled), (fresh .trues, fresh .falses)))
 
-enum-known-n : tie.Need-enum-known-n
-enum-known-n c = search needs
+enum-known-count : tie.Need-enum-known-count
+enum-known-count c = search needs
 
 run-from-requires : tie.Need-run-from-requires
 run-from-requires c κs =
     let z = c .before .before .before .before .before .before .before .before .before .before .before .before .before .before .before .before in
-    (can-run (z .args .sheet) (z .args .ors .now) (z .args .oneofs .now) (z .args .goal .now) (z .args .moves .now) (z .pre .0) _ _ _ (c .before .before .before .before .before .before .before .first-into .ensures) _ (c .before .before .before .before .before .n .given .1), z .pre .1 .1)
+    let a = z .args in
+    (can-run (a .sheet) (a .ors .now) (a .oneofs .now) (a .goal .now) (a .moves .now) (z .pre .filled) _ _ _ (c .before .before .before .before .before .before .before .first-into .ensures) _ (c .before .before .before .before .before .count .given .1), z .pre .fresh-rows)
 
 enum-known-number : tie.Need-enum-known-number
 enum-known-number c = search needs
@@ -30,21 +33,23 @@ returns : tie.Need-returns
 unfolding entries
 returns c =
     let z = c .before .before .before .before .before .before .before .before .before .before .before .before .before .before .before .before .before in
-    c .run-from .ensures ∙ run-is (z .args .sheet) (z .args .ors .now) (z .args .oneofs .now) (z .args .goal .now) (z .args .moves .now) (z .pre .0) _ _ _ (c .before .before .before .before .before .before .before .before .first-into .ensures) _ (c .before .before .before .before .before .before .n .given .1)
+    let a = z .args in
+    c .run-from .ensures ∙ run-is (a .sheet) (a .ors .now) (a .oneofs .now) (a .goal .now) (a .moves .now) (z .pre .filled) _ _ _ (c .before .before .before .before .before .before .before .before .first-into .ensures) _ (c .before .before .before .before .before .before .count .given .1)
 
 returns-2 : tie.Need-returns-2
 returns-2 c =
     let z = c .before .before .before .before .before .before .before .before .before .before .before .before .before .before .before in
-    in-zeros (c .refuse-run .result) refl refl (z .pre .1 .1 .0) (z .pre .1 .1 .1)
+    let a = z .args in
+    in-zeros (c .refuse-run .result) (record { trues = refl; falses = refl }) (z .pre .fresh-rows)
     ∙ c .refuse-run .ensures
-    ∙ run-stops (z .args .sheet) (z .args .ors .now) (z .args .oneofs .now) (z .args .goal .now) (z .args .moves .now) (z .pre .0) _ _ _ (c .before .before .before .before .before .before .first-into .ensures) _ (c .before .before .before .before .number .given .1)
+    ∙ run-stops (a .sheet) (a .ors .now) (a .oneofs .now) (a .goal .now) (a .moves .now) (z .pre .filled) _ _ _ (c .before .before .before .before .before .before .first-into .ensures) _ (c .before .before .before .before .number .given .1)
 
 pub run-sheet-spec : {M : Type 1} → statement M
 run-sheet-spec =
     tie.close
     (tie.spec
     first-into-requires
-    enum-known-n
+    enum-known-count
     run-from-requires
     enum-known-number
     refuse-run-requires

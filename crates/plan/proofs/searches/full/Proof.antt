@@ -19,7 +19,7 @@ add-t11 : tie.Need-add-t11
 add-t11 c = search needs
 
 returns : tie.Need-returns
-returns c = let a = c .args in sym (full-here (a .at) (a .left) (a .m) (a .at + 1))
+returns c = let a = c .args in sym (full-here (a .at) (a .left) (a .index) (a .at + 1))
 
 pub full-spec : {M : Type 1} → statement M
 full-spec = tie.close (tie.spec add-next cast-plan array-write-plan add-t11 returns)

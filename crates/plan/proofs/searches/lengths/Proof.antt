@@ -18,11 +18,11 @@ use Rattle.plan.proofs.searches.lengths.Statement.{statement}
 use Rattle.plan.proofs.searches.lengths.Tie as tie
 
 abbrev Inv-loop : tie.InvT-loop
-Inv-loop moves count goal ts fs n limit memory₀ length₀ memory length =
-    (firstBelow (firstFrom (setsIn goal) (actionOf moves) count 0 (entriesOf n ts fs)) length ≡ nothing) × (length ≤ limit + 1) × (N.length memory ≡ N.length memory₀) × Remembers moves count goal memory
+Inv-loop moves goal move-count trues falses count limit memory₀ length₀ memory length =
+    (firstBelow (firstFrom (setsIn goal) (actionOf moves) move-count 0 (entriesOf count trues falses)) length ≡ nothing) × (length ≤ limit + 1) × (N.length memory ≡ N.length memory₀) × Remembers moves move-count goal memory
 
 abbrev μ-loop : tie.MeasureT-loop
-μ-loop moves count goal ts fs n limit memory₀ length₀ memory length = limit + 1 - length
+μ-loop moves goal move-count trues falses count limit memory₀ length₀ memory length = limit + 1 - length
 
 forget-requires : tie.Need-forget-requires Inv-loop μ-loop
 forget-requires c κs = search needs
@@ -30,7 +30,7 @@ forget-requires c κs = search needs
 loop-holds : tie.Need-loop-holds Inv-loop μ-loop
 loop-holds c =
     let s = c .before .before .before .before .before .before .before .before .before .args in
-    (refl, omega arith, refl, c .before .before .forget .ensures (now (s .moves)) (s .count) (now (s .goal)))
+    (refl, omega arith, refl, c .before .before .forget .ensures (now (s .moves)) (s .move-count) (now (s .goal)))
 
 try-plans-requires : tie.Need-try-plans-requires Inv-loop μ-loop
 unfolding entries
@@ -38,7 +38,12 @@ try-plans-requires c κs =
     let z = c .before .before .before .before .before .before .before .before .before .before .before .before in
     let s = z .args in
     let g = c .before .before .loop in
-    (z .pre .0, (omega arith, (quiet-lengths (setsIn (now (s .goal))) (actionOf (now (s .moves))) (s .count) (entriesOf (s .n) (now (s .ts)) (now (s .fs))) (g .length) (g .inv .0), g .inv .3)))
+    record {
+      can = z .pre .0;
+      most = omega arith;
+      no-shorter = quiet-lengths (setsIn (now (s .goal))) (actionOf (now (s .moves))) (s .move-count) (entriesOf (s .count) (now (s .trues)) (now (s .falses))) (g .length) (g .inv .0);
+      remembers = g .inv .3;
+    }
 
 is-end-requires : tie.Need-is-end-requires Inv-loop μ-loop
 is-end-requires c κs = search needs
@@ -51,7 +56,7 @@ unfolding entries
 returns c =
     let s = c .before .before .before .before .before .before .before .before .before .before .before .before .before .before .before .before .before .args in
     let g = c .before .before .before .before .before .before .before .loop in
-    length-found (setsIn (now (s .goal))) (actionOf (now (s .moves))) (s .count) (entriesOf (s .n) (now (s .ts)) (now (s .fs))) (s .limit) (g .length) _ (g .inv .0) (c .before .before .before .before .before .before .loop-test .taken) (c .before .before .before .before .try-plans .ensures .0) (sym (c .before .is-end .ensures) ∙ c .if1 .taken)
+    length-found (setsIn (now (s .goal))) (actionOf (now (s .moves))) (s .move-count) (entriesOf (s .count) (now (s .trues)) (now (s .falses))) (s .limit) (g .length) _ (g .inv .0) (c .before .before .before .before .before .before .loop-test .taken) (c .before .before .before .before .try-plans .ensures .0) (sym (c .before .is-end .ensures) ∙ c .if1 .taken)
 
 add-length : tie.Need-add-length Inv-loop μ-loop
 add-length c = search needs
@@ -64,7 +69,7 @@ unfolding entries
 loop-again c =
     let s = c .before .before .before .before .before .before .before .before .before .before .before .before .before .before .before .before .before .args in
     let g = c .before .before .before .before .before .before .before .loop in
-    (length-next (setsIn (now (s .goal))) (actionOf (now (s .moves))) (s .count) (entriesOf (s .n) (now (s .ts)) (now (s .fs))) (s .limit) (g .length) _ (g .inv .0) (c .before .before .before .before .try-plans .ensures .0) (sym (c .before .is-end .ensures) ∙ c .if1 .left), omega arith, search needs, c .before .before .before .before .try-plans .ensures .1)
+    (length-next (setsIn (now (s .goal))) (actionOf (now (s .moves))) (s .move-count) (entriesOf (s .count) (now (s .trues)) (now (s .falses))) (s .limit) (g .length) _ (g .inv .0) (c .before .before .before .before .try-plans .ensures .0) (sym (c .before .is-end .ensures) ∙ c .if1 .left), omega arith, search needs, c .before .before .before .before .try-plans .ensures .1)
 
 none-requires : tie.Need-none-requires Inv-loop μ-loop
 none-requires c κs = search needs
@@ -77,7 +82,7 @@ unfolding entries
 returns-2 c =
     let s = c .before .before .before .before .before .before .before .before .before .before .before .before .args in
     let g = c .before .before .loop in
-    length-none (setsIn (now (s .goal))) (actionOf (now (s .moves))) (s .count) (entriesOf (s .n) (now (s .ts)) (now (s .fs))) (s .limit) (g .length) _ (g .inv .0) (omega arith) (c .none .ensures)
+    length-none (setsIn (now (s .goal))) (actionOf (now (s .moves))) (s .move-count) (entriesOf (s .count) (now (s .trues)) (now (s .falses))) (s .limit) (g .length) _ (g .inv .0) (omega arith) (c .none .ensures)
 
 pub lengths-spec : {M : Type 1} → statement M
 lengths-spec =

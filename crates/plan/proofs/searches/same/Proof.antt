@@ -13,10 +13,10 @@ use Rattle.plan.proofs.searches.same.Statement.{statement}
 use Rattle.plan.proofs.searches.same.Tie as tie
 
 abbrev Inv-loop : tie.InvT-loop
-Inv-loop us gs k ts fs n i₀ i = (i ≤ n) × Agree us ts i × Agree gs fs i
+Inv-loop trues falses count other-trues other-falses others i₀ i = (i ≤ others) × Agree trues other-trues i × Agree falses other-falses i
 
 abbrev μ-loop : tie.MeasureT-loop
-μ-loop us gs k ts fs n i₀ i = n - i
+μ-loop trues falses count other-trues other-falses others i₀ i = others - i
 
 returns : tie.Need-returns Inv-loop μ-loop
 returns c = λ e. absurd (true≢false (sym e))
@@ -65,8 +65,8 @@ loop-again c =
     let v = c .before .before .before .before .before .before .before .loop in
     let s = c .before .before .before .before .before .before .before .before .before .args in (
       omega arith,
-      below-more (λ k. getD (now (s .us)) k 0 ≡ getD (now (s .ts)) k 0) (v .i) (v .inv .1) (c .before .before .before .if2 .left),
-      below-more (λ k. getD (now (s .gs)) k 0 ≡ getD (now (s .fs)) k 0) (v .i) (v .inv .2) (c .if3 .left),
+      below-more (λ k. getD (now (s .trues)) k 0 ≡ getD (now (s .other-trues)) k 0) (v .i) (v .inv .1) (c .before .before .before .if2 .left),
+      below-more (λ k. getD (now (s .falses)) k 0 ≡ getD (now (s .other-falses)) k 0) (v .i) (v .inv .2) (c .if3 .left),
     )
 
 returns-4 : tie.Need-returns-4 Inv-loop μ-loop
@@ -74,7 +74,7 @@ returns-4 c = λ _.
     let s = c .before .before .before .args in
     let v = c .before .loop in
     let e = c .before .before .if1 .left in
-    agree-entries (s .k) (s .n) (now (s .us)) (now (s .gs)) (now (s .ts)) (now (s .fs)) e
+    agree-entries (s .count) (s .others) (now (s .trues)) (now (s .falses)) (now (s .other-trues)) (now (s .other-falses)) e
     (λ i l. v .inv .1 i (omega (arith, e, v .inv .0, c .loop-test .left))) (λ i l. v .inv .2 i (omega (arith, e, v .inv .0, c .loop-test .left)))
 
 pub same-spec : {M : Type 1} → statement M

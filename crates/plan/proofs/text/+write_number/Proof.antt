@@ -54,7 +54,7 @@ write-number-cast-out-2 t c = omega arith
 write-number-slice-write-out-2 : (t : ℕ) → write-number-lts.Need-slice-write-out-2 (claims t) (write-number-at t) write-number.Post
 write-number-slice-write-out-2 t c =
     let s = c .before .before .before .before .before .before in
-    let few = few-higher (s .args .n) (omega arith) in
+    let few = few-higher (s .args .value) (omega arith) in
     let w = c .before .before .write-number in
     omega (arith, w .ensures .0 .place, w .kept .0)
 
@@ -69,7 +69,7 @@ write-number-same-length-2 t c = simp length-set (search needs)
 write-number-returns-2 : (t : ℕ) → write-number-lts.Need-returns-2 (claims t) (write-number-at t) write-number.Post
 write-number-returns-2 t c =
     let s = c .before .before .before .before .before .before in
-    let few = few-higher (s .args .n) (omega arith) in
+    let few = few-higher (s .args .value) (omega arith) in
     let w = c .before .before .write-number in
     (wrote-high _ _ _ _ _ (c .before .before .before .before .if1 .left) (omega arith) (w .kept .0) (w .ensures .0), omega (arith, w .ensures .0 .place))
 

@@ -1,4 +1,4 @@
--- `text::refused` meets its contract. Assumes nothing.
+-- `text::is_refused` meets its contract. Assumes nothing.
 use mathlib.Core.Path.{sym, ap}
 use borrow.Author.Needs.{needs}
 use Rattle.plan.specs.Demand3.{refusedVerdict}

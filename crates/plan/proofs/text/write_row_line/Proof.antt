@@ -1,4 +1,4 @@
--- `text::write_row` meets its contract: six pieces one after the other. Assumes nothing.
+-- `text::write_row_line` meets its contract: six pieces one after the other. Assumes nothing.
 use native.Mathlib.Omega.{arith}
 use Rattle.plan.specs.Text.{rowText}
 use Rattle.plan.proofs.Texts.{wrote-then}

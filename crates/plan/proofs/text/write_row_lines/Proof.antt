@@ -1,9 +1,10 @@
--- `text::write_rows` meets its contract. The invariant: the rows below i are written. Assumes nothing.
+-- `text::write_row_lines` meets its contract. The invariant: the rows below i are written. Assumes nothing.
 use mathlib.Core.Path.{_≡_, refl, subst, _∙_}
 use Prim.Native.Nat.{ℕ, _+_, _*_, _-_, _≤_}
 use native.Mathlib.Omega.{arith}
 use lib.ListN.{length}
 use borrow.Author.Needs.{needs}
+use Rattle.plan.specs.Course.{countsIn}
 use Rattle.plan.specs.Rows.{rowsBelow}
 use Rattle.plan.specs.Text.{rowsText, Wrote}
 use Rattle.plan.proofs.Texts.{wrote-no-rows, wrote-row}
@@ -11,26 +12,17 @@ use Rattle.plan.proofs.text.write_row_lines.Statement.{statement}
 use Rattle.plan.proofs.text.write_row_lines.Tie as tie
 
 abbrev Inv-loop : tie.InvT-loop
-Inv-loop out₀ at counts count next₀ i₀ out next i =
-    (i ≤ count) × (next ≤ at + 63 * i) × (length out ≡ length out₀) × Wrote out₀ at (rowsText (rowsBelow counts i)) next out
+Inv-loop out₀ at rows entries clauses next₀ i₀ out next i =
+    (i ≤ rows) × (next ≤ at + 63 * i) × (length out ≡ length out₀) × Wrote out₀ at (rowsText (rowsBelow (countsIn rows entries clauses) i)) next out
 
 abbrev μ-loop : tie.MeasureT-loop
-μ-loop out₀ at counts count next₀ i₀ out next i = count - i
+μ-loop out₀ at rows entries clauses next₀ i₀ out next i = rows - i
 
 loop-holds : tie.Need-loop-holds Inv-loop μ-loop
-loop-holds c = (omega arith, omega arith, refl, wrote-no-rows (c .before .args .t3) _ _)
+loop-holds c = let a = c .before .args in (omega arith, omega arith, refl, wrote-no-rows (countsIn (a .rows) (a .entries .now) (a .clauses .now)) _ _)
 
-mul-t10 : tie.Need-mul-t10 Inv-loop μ-loop
-mul-t10 c = search needs
-
-element-copy-out-t13 : tie.Need-element-copy-out-t13 Inv-loop μ-loop
-element-copy-out-t13 c = search needs
-
-mul-t14 : tie.Need-mul-t14 Inv-loop μ-loop
-mul-t14 c = search needs
-
-element-copy-out-t17 : tie.Need-element-copy-out-t17 Inv-loop μ-loop
-element-copy-out-t17 c = search needs
+row-at-requires : tie.Need-row-at-requires Inv-loop μ-loop
+row-at-requires c κs = search needs
 
 write-row-line-requires : tie.Need-write-row-line-requires Inv-loop μ-loop
 write-row-line-requires c κs = omega arith
@@ -43,10 +35,11 @@ loop-less c = omega arith
 
 loop-again : tie.Need-loop-again Inv-loop μ-loop
 loop-again c =
-    let o = c .before .before .before .before .before .before .before in
-    let a = o .before .before .args in
+    let o = c .before .before .before .before .before .before in
+    let a = c .before .before .before .before .before .before .before .before .args in
     let w = c .before .before .write-row-line in
-    (omega arith, omega arith, w .kept .0 ∙ o .loop .inv .2, wrote-row (a .t3) (o .loop .i) (o .loop .inv .3) (omega arith) (w .ensures .0))
+    let rows = countsIn (a .rows) (a .entries .now) (a .clauses .now) in
+    (omega arith, omega arith, w .kept .0 ∙ o .loop .inv .2, wrote-row rows (o .loop .i) (c .before .before .before .before .row-at .ensures) (o .loop .inv .3) (omega arith) (w .ensures .0))
 
 same-length : tie.Need-same-length Inv-loop μ-loop
 same-length c = c .before .loop .inv .2
@@ -55,8 +48,9 @@ returns : tie.Need-returns Inv-loop μ-loop
 returns c =
     let a = c .before .before .before .args in
     let l = c .before .loop in
-    let whole : l .i ≡ a .t3 .count = omega arith in
-    (subst (λ (k : ℕ). Wrote (a .out .now) (a .at) (rowsText (rowsBelow (a .t3) k)) (l .next) (l .out)) whole (l .inv .3), omega arith)
+    let rows = countsIn (a .rows) (a .entries .now) (a .clauses .now) in
+    let whole : l .i ≡ a .rows = omega arith in
+    (subst (λ (k : ℕ). Wrote (a .out .now) (a .at) (rowsText (rowsBelow rows k)) (l .next) (l .out)) whole (l .inv .3), omega arith)
 
 pub write-row-lines-spec : {M : Type 1} → statement M
 write-row-lines-spec =
@@ -65,10 +59,7 @@ write-row-lines-spec =
     Inv-loop
     μ-loop
     loop-holds
-    mul-t10
-    element-copy-out-t13
-    mul-t14
-    element-copy-out-t17
+    row-at-requires
     write-row-line-requires
     add-i
     loop-less

@@ -35,12 +35,10 @@ same-length-2 c = search needs
 
 returns-2 : tie.Need-returns-2
 returns-2 c =
-    let z = c .before .before in
-    let r = z .before .before .before .before in
-    let b = r .before .before .before .before in
-    let p = b .before .before .before .before .before .before .before .before .pre in
-    whole-text _ _ (sym (b .before .before .before .before .before .is-refused .ensures) ∙ b .before .before .before .before .if1 .left)
-    (wrote-then (b .write-bytes .ensures) (omega (arith, p .1)) (r .write-row-lines .ensures .0)) (omega (arith, p .0, p .1)) (z .write-verdict2 .ensures)
+    let b = c .before .before .before .before .before .before .before .before .before .before in
+    let p = c .before .before .before .before .before .before .before .before .before .before .before .before .before .before .before .before .pre in
+    whole-text _ _ (sym (c .before .before .before .before .before .before .before .before .before .before .before .before .before .before .is-refused .ensures) ∙ c .before .before .before .before .before .before .before .before .before .before .before .before .before .if1 .left)
+    (wrote-then (b .write-bytes .ensures) (omega (arith, p .1)) (c .before .before .before .before .before .before .write-row-lines .ensures .0)) (omega (arith, p .0, p .1)) (c .before .before .write-verdict2 .ensures)
 
 pub write-text-spec : {M : Type 1} → statement M
 write-text-spec =

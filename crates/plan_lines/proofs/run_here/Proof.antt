@@ -1,4 +1,4 @@
--- `plan::run_here` meets its contract: a walk of its MIR, by hand. A local array of rows is lent to `run` as a slice, is back at the last list, and is returned by value.
+-- `plan_lines::run_here` meets its contract: a walk of its MIR, by hand. A local array of rows is lent to `run` as a slice, is back at the last list, and is returned by value.
 -- Assumes nothing.
 use mathlib.Core.Path.{_≡_, refl, _∙_}
 use Prim.Native.Nat.{ℕ}
@@ -41,28 +41,28 @@ use denote.Triple.Clauses.{Lasts, lasts}
 use denote.Triple.Walked.{Stays, stay-none-slice, walkOf, goes-none-slice, Walks, ends-at, walked, walk-meets}
 use denote.Exit.{yes}
 use Rattle.sheet.specs.Format.{sheetOf}
 use Rattle.plan.specs.declared.Row.{Row}
 use Rattle.plan.specs.declared.RunAnswer.{RunAnswer}
 use Rattle.plan.specs.Calls.{runOf, rowsAfter}
-use Rattle.plan.specs.Rows.{noRow}
+use Rattle.plan_lines.specs.Rows.{noRow}
 use Rattle.plan.proofs.Row as T
 use Rattle.plan.proofs.Row.Laws as T′
 use Rattle.plan.proofs.RunAnswer as S
 use Rattle.plan.proofs.RunAnswer.Laws as S′
-use Rattle.plan.proofs.RanRows as D
-use Rattle.plan.proofs.RanRows.Laws as D′
+use Rattle.plan_lines.proofs.RanRows as D
+use Rattle.plan_lines.proofs.RanRows.Laws as D′
 use Rattle.plan.proofs.Entering.{Places, envOf, rooms, enters}
 use Rattle.plan.proofs.LentCalls.{says-both}
-use Rattle.plan.proofs.LentArrays.{repeated, home-in, home-out, LentHome, Home, SaidHome, home-call}
+use Rattle.plan_lines.proofs.LentArrays.{repeated, home-in, home-out, LentHome, Home, SaidHome, home-call}
 use Rattle.plan.proofs.run as run-rows
 use Rattle.plan.proofs.run.Symbol as run-def
 use Rattle.plan.proofs.run.Symbol.{name as #plan·run}
 use Rattle.plan.proofs.run.Met as run-thm
-use Rattle.plan.proofs.run_here.Key.{name as #plan·run-here}
-use Rattle.plan.proofs.run_here as here
-use Rattle.plan.proofs.run_here.Statement as stated
-use Rattle.plan.proofs.run_here.Code as code
-use Rattle.plan.proofs.run_here.Code.Mir as body
+use Rattle.plan_lines.proofs.run_here.Key.{name as #plan-lines·run-here}
+use Rattle.plan_lines.proofs.run_here as here
+use Rattle.plan_lines.proofs.run_here.Statement as stated
+use Rattle.plan_lines.proofs.run_here.Code as code
+use Rattle.plan_lines.proofs.run_here.Code.Mir as body
 
 abbrev stayed : Stays (here.ended .signature .params) (here.ended .kept)
 stayed = (stay-none-slice (0 ∷ []) tt (plain (λ _. u8)) yes, tt)
@@ -277,6 +277,6 @@ pub run-here-spec : {M : Type 1} → stated.statement M
 unfolding code.routine tablesOf
 run-here-spec 𝓤 H 𝓜 𝓖 𝓡 =
     entered 𝓤 H (tripleOf 𝓤 H (𝓖 .A) here.signature (here.spec 𝓤 H (𝓖 .A) (𝓜 .mem) (𝓡 .run)))
-    (tables 𝓤 H 𝓜 𝓡 code.env .C) (tables 𝓤 H 𝓜 𝓡 code.env .Λ) #plan·run-here code.function (code.unfolded 𝓤 H 𝓜 𝓡)
+    (tables 𝓤 H 𝓜 𝓡 code.env .C) (tables 𝓤 H 𝓜 𝓡 code.env .Λ) #plan-lines·run-here code.function (code.unfolded 𝓤 H 𝓜 𝓡)
     (run-here-meets 𝓤 H (𝓖 .A) (givenOf 𝓤 H 𝓜 𝓖) (𝓜 .mem) (𝓡 .run) (tablesOf 𝓤 H 𝓜 (tables 𝓤 H 𝓜 𝓡 code.env))
     (cited 𝓤 H (Run 𝓤 H (𝓖 .A) (𝓜 .mem) (𝓡 .run)) 𝓜 𝓡 code.env #plan·run run-def.routine code.calls-plan·run (run-thm.met 𝓤 H 𝓜 𝓖 𝓡)))
