@@ -6,7 +6,7 @@ use Prim.Native.Nat.{ℕ, _+_, _<_}
 use native.Mathlib.Omega.{arith}
 use lib.ListN.{length, replicate}
 use Rattle.sheet.specs.declared.Literals.{Literals}
-use Rattle.sheet.specs.Packed.{setsIn}
+use Rattle.sheet.specs.Packed.{setsIn, goalIn, movesIn}
 use Rattle.table.specs.declared.Table.{Table}
 use Rattle.table.specs.Minimal.{Outcome, refused, table, Described}
 use Rattle.table.specs.Step.{stepTable}
@@ -17,7 +17,7 @@ use Rattle.table.proofs.Pads.{length-pad}
 use Rattle.plan.specs.declared.SearchAnswer.{SearchAnswer}
 use Rattle.table.specs.declared.steps.Stepped.{Stepped}
 use Rattle.table.specs.declared.steps.Stepped.the-variants as moved
-use Rattle.table.specs.Moves.{Fits, lent, tabled}
+use Rattle.table.specs.Moves.{Fits, lent, stepAnswer}
 use Rattle.plan.specs.Search.{fullAt, nothing}
 use Rattle.plan.specs.Calls.{answered}
 use Rattle.sheet.specs.Packed.{actionOf}
@@ -30,23 +30,23 @@ use Rattle.plan.proofs.Pruning.{quiet-after, unchanged}
 use Rattle.plan.proofs.Walking.{written, onward-ended, onward-not, at-stop, at-full}
 
 -- the slots hold the entries
-pub slots-room : {moves : List ℕ} {k : ℕ} {goal : List ℕ} {n : ℕ} {ts fs : List ℕ} → Searchable moves k goal (lent n ts fs) → Room n ts fs
+pub slots-room : {packed : List ℕ} {k : ℕ} {n : ℕ} {ts fs : List ℕ} → Searchable packed k (lent n ts fs) → Room n ts fs
 unfolding tableOf
-slots-room {moves} {k} {goal} {n} {ts} {fs} h =
+slots-room {packed} {k} {n} {ts} {fs} h =
     let z = h .ready .zeros in
     let a : length ts ≡ 128 = ap (λ (t : Table). length (t .trues)) z ∙ length-pad 128 0 _ in
     let b : length fs ≡ 128 = ap (λ (t : Table). length (t .falses)) z ∙ length-pad 128 0 _ in
     record { trues = omega (arith, h .entries-most); falses = omega (arith, h .entries-most) }
 
 -- a slot of the memory has room for them
-pub storable : {moves : List ℕ} {k : ℕ} {goal : List ℕ} {n : ℕ} {ts fs : List ℕ} → Searchable moves k goal (lent n ts fs) → Storable n ts fs
+pub storable : {packed : List ℕ} {k : ℕ} {n : ℕ} {ts fs : List ℕ} → Searchable packed k (lent n ts fs) → Storable n ts fs
 storable h = record { most = h .entries-most; room = slots-room h }
 
-module _ {moves : List ℕ} {k : ℕ} {goal : List ℕ} {n : ℕ} {ts fs : List ℕ} (h : Searchable moves k goal (lent n ts fs)) {m : ℕ} (lt : m < k) where
+module _ {packed : List ℕ} {k : ℕ} {n : ℕ} {ts fs : List ℕ} (h : Searchable packed k (lent n ts fs)) {m : ℕ} (lt : m < k) where
   abbrev t : Table
   t = lent n ts fs
 
-  pub can-step : Fits (actionOf moves m) t
+  pub can-step : Fits (actionOf (movesIn packed) m) t
   can-step = record {
     n = h .n;
     n-most = h .n-most;
@@ -55,13 +55,13 @@ module _ {moves : List ℕ} {k : ℕ} {goal : List ℕ} {n : ℕ} {ts fs : List 
     proper = h .ready .described .proper;
   }
 
-  module _ (r : Stepped) (us gs : List ℕ) (told : tabled t r us gs ≡ orGiven t (stepTable 128 (actionOf moves m) (entriesOf n ts fs))) where
+  module _ (r : Stepped) (us gs : List ℕ) (told : stepAnswer t r us gs ≡ orGiven t (stepTable 128 (actionOf (movesIn packed) m) (entriesOf n ts fs))) where
     abbrev outcome : Outcome
-    outcome = stepTable 128 (actionOf moves m) (entries t)
+    outcome = stepTable 128 (actionOf (movesIn packed) m) (entries t)
 
-    step-is : (x : Stepped) → r ≡ x → tabled t x us gs ≡ orGiven t outcome
+    step-is : (x : Stepped) → r ≡ x → stepAnswer t x us gs ≡ orGiven t outcome
     unfolding entries
-    step-is x e = ap (λ (y : Stepped). tabled t y us gs) (sym e) ∙ told
+    step-is x e = ap (λ (y : Stepped). stepAnswer t y us gs) (sym e) ∙ told
 
     -- ---- the step gave a table to go on from
     module _ {j : ℕ} (e : r ≡ moved.To j) where
@@ -69,21 +69,21 @@ module _ {moves : List ℕ} {k : ℕ} {goal : List ℕ} {n : ℕ} {ts fs : List 
       u = lent j us gs
 
       s : (es : List Literals) × (outcome ≡ table es) × (u ≡ tableOf es)
-      s = stepped t outcome (tabled t (moved.To j) us gs) (step-is (moved.To j) e) refl
+      s = stepped t outcome (stepAnswer t (moved.To j) us gs) (step-is (moved.To j) e) refl
 
       d : Described 128 (h .n) (s .0)
-      d = step-table (h .n) (h .n-most) (actionOf moves m) (h .actions m lt) (entries t) (h .ready .described) 128 (s .0) (s .1) .0
+      d = step-table (h .n) (h .n-most) (actionOf (movesIn packed) m) (h .actions m lt) (entries t) (h .ready .described) 128 (s .0) (s .1) .0
 
       pub came : outcome ≡ table (entries u)
       came = s .1 ∙ ap table (sym (ap entries (s .2) ∙ entries-table (s .0) (d .most)))
 
-      pub ready-after : Searchable moves k goal u
+      pub ready-after : Searchable packed k u
       ready-after = let r = subst (Ready (h .n)) (sym (s .2)) (ready-table (h .n) (s .0) d) in record {
         n = h .n;
         n-most = h .n-most;
         least = h .least;
         most = h .most;
-        room = h .room;
+        long = h .long;
         effects-most = h .effects-most;
         actions = h .actions;
         goal-fits = h .goal-fits;
@@ -92,28 +92,28 @@ module _ {moves : List ℕ} {k : ℕ} {goal : List ℕ} {n : ℕ} {ts fs : List 
       }
 
       module _ (at left : ℕ) where
-        module _ (q : NoShorterFrom moves k goal at (entries t) (left + 1)) where
-          pub quiet-next : NoShorterFrom moves k goal (at + 1) (entries u) left
-          quiet-next = quiet-after (setsIn goal) (actionOf moves) k at (entries t) m left (entries u) came q lt
+        module _ (q : NoShorterFrom packed k at (entries t) (left + 1)) where
+          pub quiet-next : NoShorterFrom packed k (at + 1) (entries u) left
+          quiet-next = quiet-after (setsIn (goalIn packed)) (actionOf (movesIn packed)) k at (entries t) m left (entries u) came q lt
 
-          pub begun-same : entriesOf j us gs ≡ entriesOf n ts fs → {a : SearchAnswer} → a ≡ answered nothing → a ≡ moveTried moves k goal t at left m
+          pub begun-same : entriesOf j us gs ≡ entriesOf n ts fs → {a : SearchAnswer} → a ≡ answered nothing → a ≡ moveTried packed k t at left m
           unfolding answeredAt entries
-          begun-same z {a} w = w ∙ sym (ap (answeredAt at) (unchanged (setsIn goal) (actionOf moves) k at (entries t) m left (entries u) came q z))
+          begun-same z {a} w = w ∙ sym (ap (answeredAt at) (unchanged (setsIn (goalIn packed)) (actionOf (movesIn packed)) k at (entries t) m left (entries u) came q z))
 
-        module _ {a : SearchAnswer} (w : a ≡ plansTried moves k goal u (at + 1) left) where
-          pub begun-ended : isEnd (a .kind) ≡ true → written a at m ≡ moveTried moves k goal t at left m
-          begun-ended b = onward-ended (setsIn goal) (actionOf moves) k at (entries t) left m (entries u) a came w b
+        module _ {a : SearchAnswer} (w : a ≡ plansTried packed k u (at + 1) left) where
+          pub begun-ended : isEnd (a .kind) ≡ true → written a at m ≡ moveTried packed k t at left m
+          begun-ended b = onward-ended (setsIn (goalIn packed)) (actionOf (movesIn packed)) k at (entries t) left m (entries u) a came w b
 
-          pub begun-not : isEnd (a .kind) ≡ false → a ≡ moveTried moves k goal t at left m
-          begun-not b = onward-not (setsIn goal) (actionOf moves) k at (entries t) left m (entries u) a came w b
+          pub begun-not : isEnd (a .kind) ≡ false → a ≡ moveTried packed k t at left m
+          begun-not b = onward-not (setsIn (goalIn packed)) (actionOf (movesIn packed)) k at (entries t) left m (entries u) a came w b
 
     -- ---- the step was refused
-    module _ {code : ℕ} (e : r ≡ moved.Refused code) (at left : ℕ) where
+    module _ {code position : ℕ} (e : r ≡ moved.Refused code position) (at left : ℕ) where
       pub refused-by : outcome ≡ refused code
-      refused-by = stopped t outcome (tabled t (moved.Refused code) us gs) code 0 (step-is (moved.Refused code) e) refl
+      refused-by = stopped t outcome (stepAnswer t (moved.Refused code position) us gs) code position (step-is (moved.Refused code position) e) refl
 
-      pub begun-full : code ≡ 21 → {a : SearchAnswer} → a ≡ answeredAt at (fullAt (m ∷ replicate left 0) (at + 1)) → a ≡ moveTried moves k goal t at left m
-      begun-full z {a} w = at-full (setsIn goal) (actionOf moves) k at (entries t) left m a (h .least) (refused-by ∙ ap refused z) w
+      pub begun-full : code ≡ 21 → {a : SearchAnswer} → a ≡ answeredAt at (fullAt (m ∷ replicate left 0) (at + 1)) → a ≡ moveTried packed k t at left m
+      begun-full z {a} w = at-full (setsIn (goalIn packed)) (actionOf (movesIn packed)) k at (entries t) left m a (h .least) (refused-by ∙ ap refused z) w
 
-      pub begun-stopped : (code ≡ 21 → ⊥) → {a : SearchAnswer} → a ≡ answered nothing → a ≡ moveTried moves k goal t at left m
-      begun-stopped z {a} w = at-stop (setsIn goal) (actionOf moves) k at (entries t) left m code a refused-by z w
+      pub begun-stopped : (code ≡ 21 → ⊥) → {a : SearchAnswer} → a ≡ answered nothing → a ≡ moveTried packed k t at left m
+      begun-stopped z {a} w = at-stop (setsIn (goalIn packed)) (actionOf (movesIn packed)) k at (entries t) left m code a refused-by z w

@@ -11,7 +11,7 @@ use Rattle.sheet.specs.declared.Plan.{Plan}
 use Rattle.sheet.specs.Lists.{allOf, pad}
 use Rattle.sheet.specs.Problem.{Action}
 use Rattle.sheet.specs.Decoded.{planIn}
-use Rattle.sheet.specs.Packed.{setsIn}
+use Rattle.sheet.specs.Packed.{setsIn, goalIn, movesIn}
 use Rattle.sheet.proofs.base.ListFacts.{all-at}
 use Rattle.sheet.proofs.base.Prefixes.{part-step, part-end}
 use Rattle.table.specs.declared.Table.{Table}
@@ -22,7 +22,7 @@ use Rattle.table.specs.Minimal.{Outcome}
 use Rattle.table.specs.Step.{stepTable}
 use Rattle.table.specs.Slots.{entriesOf, entries, Fresh}
 use Rattle.table.specs.Calls.{orGiven}
-use Rattle.table.specs.Moves.{lent, tabled}
+use Rattle.table.specs.Moves.{lent, stepAnswer}
 use Rattle.plan.specs.declared.Row.{Row}
 use Rattle.plan.specs.declared.Counts.{Counts}
 use Rattle.plan.specs.declared.Course.{Course}
@@ -37,27 +37,29 @@ use Rattle.plan.proofs.Courses.{Ending, note-row, taken, halted, stoppe
 use Rattle.plan.proofs.Beginning.{ready-after, came, refused-by}
 
 -- ---- what a step gave, as an answer with a table
-pub step-as : (t : Table) {r : Stepped} (us gs : List ℕ) {s : TableAnswer} → tabled t r us gs ≡ s → {y : Stepped} → r ≡ y → tabled t y us gs ≡ s
-step-as t us gs e q = sym (ap (λ (y : Stepped). tabled t y us gs) q) ∙ e
+pub step-as : (t : Table) {r : Stepped} (us gs : List ℕ) {s : TableAnswer} → stepAnswer t r us gs ≡ s → {y : Stepped} → r ≡ y → stepAnswer t y us gs ≡ s
+step-as t us gs e q = sym (ap (λ (y : Stepped). stepAnswer t y us gs) q) ∙ e
 
 -- ---- a step in its place, on the table t: in the arrays lies the new table, or still t
 module _ (t : Table) (us gs : List ℕ) where
   -- it gives what a step into other arrays gives
-  told-here : (r : Stepped) (o : Outcome) → tabled (lent (t .count) us gs) r us gs ≡ orGiven t o → tabled t r us gs ≡ orGiven t o
+  told-here : (r : Stepped) (o : Outcome) → stepAnswer (lent (t .count) us gs) r us gs ≡ orGiven t o → stepAnswer t r us gs ≡ orGiven t o
   unfolding orGiven
   told-here (moved.To k) o e = e
-  told-here (moved.Refused k) o e = sym (ap (orGiven t) (stopped t o _ k 0 e refl))
+  told-here (moved.Refused k p) o e =
+      let f = stopped t o _ k p e refl in
+      ap (λ (s : TableAnswer). record { answer = s .answer; table = t }) (e ∙ ap (orGiven t) f) ∙ sym (ap (orGiven t) f)
 
-  kept-here : (r : Stepped) (o : Outcome) → tabled (lent (t .count) us gs) r us gs ≡ orGiven t o → (k : ℕ) → r ≡ moved.Refused k → lent (t .count) us gs ≡ t
+  kept-here : (r : Stepped) (o : Outcome) → stepAnswer (lent (t .count) us gs) r us gs ≡ orGiven t o → (k p : ℕ) → r ≡ moved.Refused k p → lent (t .count) us gs ≡ t
   unfolding orGiven
-  kept-here r o e k q =
-      let f : tabled (lent (t .count) us gs) (moved.Refused k) us gs ≡ orGiven t o = step-as (lent (t .count) us gs) us gs e q in
-      ap (λ (s : TableAnswer). s .table) f ∙ ap (λ (x : Outcome). orGiven t x .table) (stopped t o _ k 0 f refl)
+  kept-here r o e k p q =
+      let f : stepAnswer (lent (t .count) us gs) (moved.Refused k p) us gs ≡ orGiven t o = step-as (lent (t .count) us gs) us gs e q in
+      ap (λ (s : TableAnswer). s .table) f ∙ ap (λ (x : Outcome). orGiven t x .table) (stopped t o _ k p f refl)
 
 -- ---- the loop
 -- the moves from place i on
 abbrev pub left : Plan → List ℕ → ℕ → List Action
-left plan moves i = map (actionOf moves) (drop i (planIn plan))
+left plan packed i = map (actionOf (movesIn packed)) (drop i (planIn plan))
 
 -- no row yet
 pub no-rows : {es cs : List ℕ} → FreshRows es cs → countsIn 0 es cs ≡ countsOf []
@@ -70,28 +72,28 @@ pub in-zeros : (w : RunRecord) {ts fs es cs : List ℕ} → Fresh ts fs → Fres
 in-zeros w a b = λ j. courseIn w (a .trues j) (a .falses j) (b .entries j) (b .clauses j)
 
 -- what is left of the plan gives, after the rows so far, what the whole gives
-pub record Going (plan : Plan) (moves goal : List ℕ) (whole : Course) (i : ℕ) (t : Table) (c : Counts) : Type 0 where
-  pub can : Runnable plan moves goal t
+pub record Going (plan : Plan) (packed : List ℕ) (whole : Course) (i : ℕ) (t : Table) (c : Counts) : Type 0 where
+  pub can : Runnable plan packed t
   pub long : plan .count ≤ length (plan .numbers)
   pub rows : List Row
   pub few : length rows ≤ i
   pub most : length rows ≤ plan .count
   pub counts-are : c ≡ countsOf rows
-  pub onwards : courseFrom (setsIn goal) rows i (left plan moves i) (entries t) ≡ whole
+  pub onwards : courseFrom (setsIn (goalIn packed)) rows i (left plan packed i) (entries t) ≡ whole
 
-pub going-start : {plan : Plan} {moves goal : List ℕ} {t : Table} {c : Counts} → Runnable plan moves goal t → length (plan .numbers) ≡ 64 → c ≡ countsOf []
-    → Going plan moves goal (courseFrom (setsIn goal) [] 0 (left plan moves 0) (entries t)) 0 t c
+pub going-start : {plan : Plan} {packed : List ℕ} {t : Table} {c : Counts} → Runnable plan packed t → length (plan .numbers) ≡ 64 → c ≡ countsOf []
+    → Going plan packed (courseFrom (setsIn (goalIn packed)) [] 0 (left plan packed 0) (entries t)) 0 t c
 going-start h l e = record { can = h; long = omega (arith, h .most); rows = []; few = omega arith; most = omega arith; counts-are = e; onwards = refl }
 
 -- the number of the next move is that of a move
-pub number-below : {plan : Plan} {moves goal : List ℕ} {t : Table} {i : ℕ} (h : Runnable plan moves goal t) → plan .count ≤ length (plan .numbers) → i < plan .count
+pub number-below : {plan : Plan} {packed : List ℕ} {t : Table} {i : ℕ} (h : Runnable plan packed t) → plan .count ≤ length (plan .numbers) → i < plan .count
     → getD (plan .numbers) i 0 < h .count
 unfolding planIn
 number-below {plan} {i = i} h long lt =
     let l = length-take-le (plan .count) (plan .numbers) long in
     subst (λ (n : ℕ). n < h .count) (getD-take (plan .count) (plan .numbers) i 0 lt) (all-at (λ n. n < h .count) (planIn plan) i 0 (omega (arith, l)) (h .numbers))
 
-module _ {plan : Plan} {moves goal : List ℕ} {whole : Course} {i : ℕ} {t : Table} {c : Counts} (h : Going plan moves goal whole i t c) where
+module _ {plan : Plan} {packed : List ℕ} {whole : Course} {i : ℕ} {t : Table} {c : Counts} (h : Going plan packed whole i t c) where
   -- there is room for a row
   pub going-room : c .count < 65
   unfolding countsOf
@@ -101,12 +103,12 @@ module _ {plan : Plan} {moves goal : List ℕ} {whole : Course} {i : ℕ} {t : T
   noted-rows = ap (λ (y : Counts). noted y (entries t)) (h .counts-are) ∙ note-row (h .rows) i (entries t) (omega (arith, h .most, h .can .most))
 
   -- after the last move
-  pub going-end : plan .count ≤ i → {v : case.Verdict} → v ≡ verdictOf (endedIn (allOf (inGoal (setsIn goal)) (entries t)))
+  pub going-end : plan .count ≤ i → {v : case.Verdict} → v ≡ verdictOf (endedIn (allOf (inGoal (setsIn (goalIn packed))) (entries t)))
       → {d : Counts} → d ≡ noted c (entries t) → Ending v t d ≡ whole
   unfolding courseFrom planIn
   going-end k ev ed =
       (λ j. record { ran = record { verdict = ev j; table = h .can .fits .ready .zeros j }; counts = (ed ∙ noted-rows) j })
-      ∙ sym (ap (λ (p : List ℕ). courseFrom (setsIn goal) (h .rows) i (map (actionOf moves) p) (entries t)) (part-end (plan .count) (plan .numbers) i k (h .long)))
+      ∙ sym (ap (λ (p : List ℕ). courseFrom (setsIn (goalIn packed)) (h .rows) i (map (actionOf (movesIn packed)) p) (entries t)) (part-end (plan .count) (plan .numbers) i k (h .long)))
       ∙ h .onwards
 
   module _ (lt : i < plan .count) where
@@ -116,19 +118,19 @@ module _ {plan : Plan} {moves goal : List ℕ} {whole : Course} {i : ℕ} {t : T
     below : m < h .can .count
     below = number-below (h .can) (h .long) lt
 
-    unrolled : courseFrom (setsIn goal) (h .rows) i (actionOf moves m ∷ left plan moves (i + 1)) (entries t) ≡ whole
+    unrolled : courseFrom (setsIn (goalIn packed)) (h .rows) i (actionOf (movesIn packed) m ∷ left plan packed (i + 1)) (entries t) ≡ whole
     unfolding planIn
     unrolled =
-        sym (ap (λ (p : List ℕ). courseFrom (setsIn goal) (h .rows) i (map (actionOf moves) p) (entries t)) (part-step (plan .count) (plan .numbers) i 0 lt (h .long)))
+        sym (ap (λ (p : List ℕ). courseFrom (setsIn (goalIn packed)) (h .rows) i (map (actionOf (movesIn packed)) p) (entries t)) (part-step (plan .count) (plan .numbers) i 0 lt (h .long)))
         ∙ h .onwards
 
-    module _ (r : Stepped) (us gs : List ℕ) (here : tabled (lent (t .count) us gs) r us gs ≡ orGiven t (stepTable 128 (actionOf moves m) (entriesOf (t .count) (t .trues) (t .falses))))
+    module _ (r : Stepped) (us gs : List ℕ) (here : stepAnswer (lent (t .count) us gs) r us gs ≡ orGiven t (stepTable 128 (actionOf (movesIn packed) m) (entriesOf (t .count) (t .trues) (t .falses))))
         {d : Counts} (ed : d ≡ noted c (entries t)) where
-      told : tabled t r us gs ≡ orGiven t (stepTable 128 (actionOf moves m) (entriesOf (t .count) (t .trues) (t .falses)))
+      told : stepAnswer t r us gs ≡ orGiven t (stepTable 128 (actionOf (movesIn packed) m) (entriesOf (t .count) (t .trues) (t .falses)))
       told = told-here t us gs r _ here
 
       -- the step gave a table
-      pub going-on : {k : ℕ} → r ≡ moved.To k → Going plan moves goal whole (i + 1) (lent k us gs) d
+      pub going-on : {k : ℕ} → r ≡ moved.To k → Going plan packed whole (i + 1) (lent k us gs) d
       going-on {k} e = record {
         can = record { count = h .can .count; fits = ready-after (h .can .fits) below r us gs told e; most = h .can .most; numbers = h .can .numbers };
         long = h .long;
@@ -137,17 +139,17 @@ module _ {plan : Plan} {moves goal : List ℕ} {whole : Course} {i : ℕ} {t : T
         most = omega (arith, h .few, length-append (h .rows) (rowOf i (entries t) ∷ []));
         counts-are = ed ∙ noted-rows;
         onwards =
-            ap (λ (n : ℕ). courseFrom (setsIn goal) (h .rows ++ rowOf i (entries t) ∷ []) n (left plan moves (i + 1)) (entries (lent k us gs))) (add-one i)
-            ∙ sym (taken (setsIn goal) (h .rows) i (actionOf moves m) (left plan moves (i + 1)) (entries t) _ (came (h .can .fits) below r us gs told e))
+            ap (λ (n : ℕ). courseFrom (setsIn (goalIn packed)) (h .rows ++ rowOf i (entries t) ∷ []) n (left plan packed (i + 1)) (entries (lent k us gs))) (add-one i)
+            ∙ sym (taken (setsIn (goalIn packed)) (h .rows) i (actionOf (movesIn packed) m) (left plan packed (i + 1)) (entries t) _ (came (h .can .fits) below r us gs told e))
             ∙ unrolled;
       }
 
       -- the step was refused
-      pub going-halt : {k : ℕ} → r ≡ moved.Refused k → {v : case.Verdict} → v ≡ verdictOf (haltedBy (eqb k 21) (i + 1) k) → Ending v (lent (t .count) us gs) d ≡ whole
-      going-halt {k} e ev =
+      pub going-halt : {k p : ℕ} → r ≡ moved.Refused k p → {v : case.Verdict} → v ≡ verdictOf (haltedBy (eqb k 21) (i + 1) k) → Ending v (lent (t .count) us gs) d ≡ whole
+      going-halt {k} {p} e ev =
           (λ j. record {
-            ran = record { verdict = (ev ∙ ap (λ (n : ℕ). verdictOf (haltedBy (eqb k 21) n k)) (add-one i)) j; table = (kept-here t us gs r _ here k e ∙ h .can .fits .ready .zeros) j };
+            ran = record { verdict = (ev ∙ ap (λ (n : ℕ). verdictOf (haltedBy (eqb k 21) n k)) (add-one i)) j; table = (kept-here t us gs r _ here k p e ∙ h .can .fits .ready .zeros) j };
             counts = (ed ∙ noted-rows) j;
           })
-          ∙ sym (halted (setsIn goal) (h .rows) i (actionOf moves m) (left plan moves (i + 1)) (entries t) k (refused-by (h .can .fits) below r us gs told e i 0))
+          ∙ sym (halted (setsIn (goalIn packed)) (h .rows) i (actionOf (movesIn packed) m) (left plan packed (i + 1)) (entries t) k (refused-by (h .can .fits) below r us gs told e i 0))
           ∙ unrolled

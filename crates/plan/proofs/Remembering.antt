@@ -14,7 +14,7 @@ use lib.Seq.{getD-set-same, getD-set-other, getD-take, getD-drop, getD-append-ad
 use Rattle.sheet.specs.declared.Literals.{Literals}
 use Rattle.sheet.specs.Lists.{All}
 use Rattle.sheet.specs.Problem.{Action}
-use Rattle.sheet.specs.Packed.{itemAt, setsIn, actionOf}
+use Rattle.sheet.specs.Packed.{itemAt, setsIn, actionOf, goalIn, movesIn}
 use Rattle.sheet.proofs.base.ListFacts.{all-map, any-out}
 use Rattle.sheet.proofs.PackedLaws.{item-lent}
 use Rattle.table.specs.Slots.{entriesOf}
@@ -49,34 +49,34 @@ module _ (goal : List Literals) (f : ℕ → Action) (k : ℕ) (t : List Literal
       go (no z) = h q i (omega (arith, s, z))
 
 -- ---- the laws of a memory
-module _ (moves : List ℕ) (count : ℕ) (goal : List ℕ) where
+module _ (packed : List ℕ) (count : ℕ) where
   -- what is recalled need not be tried
-  pub skip : {memory : List ℕ} {es : List Literals} {left : ℕ} (at : ℕ) → Remembers moves count goal memory → Recalls memory es left
-      → firstFrom (setsIn goal) (actionOf moves) count at es left ≡ nothing
+  pub skip : {memory : List ℕ} {es : List Literals} {left : ℕ} (at : ℕ) → Remembers packed count memory → Recalls memory es left
+      → firstFrom (setsIn (goalIn packed)) (actionOf (movesIn packed)) count at es left ≡ nothing
   skip {memory} {es} {left} at h r =
-      quiet-none (setsIn goal) (actionOf moves) count es at (markIn (itemAt 258 memory (r .slot))) left
-      (quiet-place (setsIn goal) (actionOf moves) count es 0 at (markIn (itemAt 258 memory (r .slot)))
-      (subst (λ (x : List Literals). NoShorterFrom moves count goal 0 x (markIn (itemAt 258 memory (r .slot)))) (r .alike) (h (r .slot) (r .room))))
+      quiet-none (setsIn (goalIn packed)) (actionOf (movesIn packed)) count es at (markIn (itemAt 258 memory (r .slot))) left
+      (quiet-place (setsIn (goalIn packed)) (actionOf (movesIn packed)) count es 0 at (markIn (itemAt 258 memory (r .slot)))
+      (subst (λ (x : List Literals). NoShorterFrom packed count 0 x (markIn (itemAt 258 memory (r .slot)))) (r .alike) (h (r .slot) (r .room))))
       (r .above)
 
   -- what is entered after all shorter plans is known
-  pub entered : (es : List Literals) (at left : ℕ) → NoShorterFrom moves count goal at es left → NoShorterFrom moves count goal 0 es left
-  entered es at left h = quiet-place (setsIn goal) (actionOf moves) count es at 0 left h
+  pub entered : (es : List Literals) (at left : ℕ) → NoShorterFrom packed count at es left → NoShorterFrom packed count 0 es left
+  entered es at left h = quiet-place (setsIn (goalIn packed)) (actionOf (movesIn packed)) count es at 0 left h
 
   -- what was tried without an answer is known for one move more
-  pub tried : (es : List Literals) (at left : ℕ) → NoShorterFrom moves count goal at es left
-      → firstFrom (setsIn goal) (actionOf moves) count at es left ≡ nothing → NoShorterFrom moves count goal 0 es (left + 1)
+  pub tried : (es : List Literals) (at left : ℕ) → NoShorterFrom packed count at es left
+      → firstFrom (setsIn (goalIn packed)) (actionOf (movesIn packed)) count at es left ≡ nothing → NoShorterFrom packed count 0 es (left + 1)
   tried es at left h e =
-      quiet-place (setsIn goal) (actionOf moves) count es at 0 (left + 1) (quiet-more (setsIn goal) (actionOf moves) count es at left h e)
+      quiet-place (setsIn (goalIn packed)) (actionOf (movesIn packed)) count es at 0 (left + 1) (quiet-more (setsIn (goalIn packed)) (actionOf (movesIn packed)) count es at left h e)
 
   -- by what is in a slot
-  pub known-in : (slot : List ℕ) (es : List Literals) (mark : ℕ) → markIn slot ≡ mark → tableIn slot ≡ es → NoShorterFrom moves count goal 0 es mark
-      → NoShorterFrom moves count goal 0 (tableIn slot) (markIn slot)
+  pub known-in : (slot : List ℕ) (es : List Literals) (mark : ℕ) → markIn slot ≡ mark → tableIn slot ≡ es → NoShorterFrom packed count 0 es mark
+      → NoShorterFrom packed count 0 (tableIn slot) (markIn slot)
   known-in slot es mark a b h =
-      subst (λ (x : List Literals). NoShorterFrom moves count goal 0 x (markIn slot)) (sym b) (subst (λ (m : ℕ). NoShorterFrom moves count goal 0 es m) (sym a) h)
+      subst (λ (x : List Literals). NoShorterFrom packed count 0 x (markIn slot)) (sym b) (subst (λ (m : ℕ). NoShorterFrom packed count 0 es m) (sym a) h)
 
   -- where no slot has a mark, nothing is said
-  pub blank : (memory : List ℕ) → ((j : ℕ) → j * 258 + 258 ≤ length memory → markIn (itemAt 258 memory j) ≡ 0) → Remembers moves count goal memory
+  pub blank : (memory : List ℕ) → ((j : ℕ) → j * 258 + 258 ≤ length memory → markIn (itemAt 258 memory j) ≡ 0) → Remembers packed count memory
   blank memory h j l q i s = absurd (not-suc-le-zero (subst (λ (m : ℕ). length q < m) (h j l) s))
 
 -- ---- a slot that is written
@@ -185,15 +185,15 @@ module _ (xs slot : List ℕ) (j : ℕ) (room : j * 258 + 258 ≤ length xs) (lo
       at y c false e = elsewhere (i * 258 + y) (λ z. omega (arith, z, ltb-false i j e)) (λ z. ne (omega (arith, z, ltb-false i j e)))
 
   -- what every slot said, every slot says still, if the new one says what is known
-  pub kept-by : (moves : List ℕ) (count : ℕ) (goal : List ℕ) → Remembers moves count goal xs → NoShorterFrom moves count goal 0 (tableIn slot) (markIn slot)
-      → Remembers moves count goal put
-  kept-by moves count goal h g i l = go (ℕ-discrete i j)
+  pub kept-by : (packed : List ℕ) (count : ℕ) → Remembers packed count xs → NoShorterFrom packed count 0 (tableIn slot) (markIn slot)
+      → Remembers packed count put
+  kept-by packed count h g i l = go (ℕ-discrete i j)
     where
-      go : Dec (i ≡ j) → NoShorterFrom moves count goal 0 (tableIn (itemAt 258 put i)) (markIn (itemAt 258 put i))
-      go (yes e) = subst (λ (s : List ℕ). NoShorterFrom moves count goal 0 (tableIn s) (markIn s)) (sym (ap (itemAt 258 put) e ∙ row-same)) g
+      go : Dec (i ≡ j) → NoShorterFrom packed count 0 (tableIn (itemAt 258 put i)) (markIn (itemAt 258 put i))
+      go (yes e) = subst (λ (s : List ℕ). NoShorterFrom packed count 0 (tableIn s) (markIn s)) (sym (ap (itemAt 258 put) e ∙ row-same)) g
       go (no ne) =
           let r : i * 258 + 258 ≤ length xs = omega (arith, l, put-long) in
-          subst (λ (s : List ℕ). NoShorterFrom moves count goal 0 (tableIn s) (markIn s)) (sym (row-other i ne r)) (h i r)
+          subst (λ (s : List ℕ). NoShorterFrom packed count 0 (tableIn s) (markIn s)) (sym (row-other i ne r)) (h i r)
 
 -- ---- marks at the heads of the slots
 pub mark-head : (memory : List ℕ) (j : ℕ) → markIn (itemAt 258 memory j) ≡ getD memory (j * 258) 0

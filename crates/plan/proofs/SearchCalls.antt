@@ -16,7 +16,7 @@ use Rattle.sheet.specs.Problem.{Action, Problem, Statement}
 use Rattle.sheet.specs.Format.{Judgement, accepted, refused as faulty, sheetOf}
 use Rattle.sheet.specs.Encoding.{ProperAction, ProperProblem}
 use Rattle.sheet.specs.Decoded.{planIn}
-use Rattle.sheet.specs.Packed.{itemAt, itemsAt, setsIn, countIn, actionFrom, actionOf}
+use Rattle.sheet.specs.Packed.{itemAt, itemsAt, setsIn, countIn, actionFrom, actionOf, goalIn, movesIn}
 use Rattle.sheet.proofs.base.ListFacts.{all-map}
 use Rattle.table.specs.declared.Table.{Table}
 use Rattle.table.specs.declared.TableAnswer.{TableAnswer}
@@ -29,7 +29,7 @@ use Rattle.plan.specs.Order.{PlanOf}
 use Rattle.plan.specs.Calls.{refusedSearch, answered, searchedFrom, searched, searchOf}
 use Rattle.plan.specs.Course.{courseFrom, Ready}
 use Rattle.plan.specs.Walks.{ranFrom, Searchable, Runnable, searchedBy}
-use Rattle.sheet.proofs.PackedLaws.{sets-long, effects-long, item-at}
+use Rattle.sheet.proofs.PackedLaws.{part-long, sets-long, effects-long, item-at}
 use Rattle.table.proofs.Started.{at-proper}
 use Rattle.plan.proofs.Searching.{out-plans}
 use Rattle.plan.proofs.Courses.{stopped, ready-count, started}
@@ -48,55 +48,55 @@ effects-count : (row : List ℕ) → length (actionFrom row .effects) ≡ countI
 unfolding actionFrom
 effects-count row = effects-long (countIn row) (take 32 (drop 3 row))
 
--- ---- the moves and the goal of a problem in rows
-module _ (p : Problem) (g : ProperProblem p) (moves goal : List ℕ) (long : length moves ≡ 1120) (are : itemsAt 35 actionFrom (length (p .actions)) moves ≡ p .actions)
-    (goal-long : length goal ≡ 17) (is : setsIn goal ≡ p .goal) where
+-- ---- the moves and the goal of a problem in a packed array
+module _ (p : Problem) (g : ProperProblem p) (packed : List ℕ) (long : length packed ≡ 1409)
+    (are : itemsAt 35 actionFrom (length (p .actions)) (movesIn packed) ≡ p .actions) (is : setsIn (goalIn packed) ≡ p .goal) where
   abbrev count : ℕ
   count = length (p .actions)
 
-  laid : (i : ℕ) → i < count → actionOf moves i ≡ actionAt p i
+  laid : (i : ℕ) → i < count → actionOf (movesIn packed) i ≡ actionAt p i
   unfolding actionAt
   laid i lt =
       let d : Action = record { precondition = noLiteral; effects = [] } in
-      sym (item-at 35 actionFrom count moves i d lt) ∙ ap (λ (q : List Action). getD q i d) are
+      sym (item-at 35 actionFrom count (movesIn packed) i d lt) ∙ ap (λ (q : List Action). getD q i d) are
 
   -- the moves of a plan
-  pub plan-laid : (q : List ℕ) → All (λ i. i < count) q → map (actionOf moves) q ≡ actionsOf p q
+  pub plan-laid : (q : List ℕ) → All (λ i. i < count) q → map (actionOf (movesIn packed)) q ≡ actionsOf p q
   unfolding actionsOf
-  plan-laid q h = map-below (actionOf moves) (actionAt p) count laid q h
+  plan-laid q h = map-below (actionOf (movesIn packed)) (actionAt p) count laid q h
 
   module _ (t : Table) (ready : Ready (p .n) t) where
-    pub searchable : Searchable moves count goal t
+    pub searchable : Searchable packed count t
     searchable = record {
       n = p .n;
       n-most = g .n-most;
       least = g .actions .least;
       most = g .actions .most;
-      room = omega (arith, g .actions .most);
-      effects-most = λ i lt. omega (arith, effects-count (itemAt 35 moves i), move i lt .effects .most);
+      long = long;
+      effects-most = λ i lt. omega (arith, effects-count (itemAt 35 (movesIn packed) i), move i lt .effects .most);
       actions = move;
-      goal-fits = (goal-long, omega (arith, sets-count goal, ap length is, g .goal .most));
+      goal-fits = (part-long 272 17 packed (omega (arith, long)), omega (arith, sets-count (goalIn packed), ap length is, g .goal .most));
       entries-most = ready-count (p .n) t ready .1;
       ready = ready;
     }
       where
-        move : (i : ℕ) → i < count → ProperAction (p .n) (actionOf moves i)
+        move : (i : ℕ) → i < count → ProperAction (p .n) (actionOf (movesIn packed) i)
         move i lt = subst (ProperAction (p .n)) (sym (laid i lt)) (at-proper p g i lt)
 
-    pub runnable : (plan : Plan) → plan .count ≤ 64 → All (λ i. i < count) (planIn plan) → Runnable plan moves goal t
+    pub runnable : (plan : Plan) → plan .count ≤ 64 → All (λ i. i < count) (planIn plan) → Runnable plan packed t
     runnable plan most numbers = record { count = count; fits = searchable; most = most; numbers = numbers }
 
-  -- by the rows as by the problem
+  -- by the packed array as by the problem
   module _ (t : Table) where
-    pub sought : (limit : ℕ) → searchedBy moves count goal t limit ≡ answered (searchedFrom p limit (entries t))
+    pub sought : (limit : ℕ) → searchedBy packed count t limit ≡ answered (searchedFrom p limit (entries t))
     unfolding searchedFrom
     sought limit =
         ap answered (same-first _ _ (plansUpTo count limit)
-        (all-map (PlanOf count limit) (λ q. ranFrom (setsIn goal) (actionOf moves) 0 (entries t) q ≡ runFrom 128 (p .goal) 0 (actionsOf p q) (entries t))
+        (all-map (PlanOf count limit) (λ q. ranFrom (setsIn (goalIn packed)) (actionOf (movesIn packed)) 0 (entries t) q ≡ runFrom 128 (p .goal) 0 (actionsOf p q) (entries t))
         (λ q h. ap₂ (λ (x : List Literals) (q : List Action). runFrom 128 x 0 q (entries t)) is (plan-laid q (h .0)))
         (plansUpTo count limit) (out-plans count limit)))
 
-    pub coursed : (q : List ℕ) → All (λ i. i < count) q → courseFrom (setsIn goal) [] 0 (map (actionOf moves) q) (entries t) ≡ courseFrom (p .goal) [] 0 (actionsOf p q) (entries t)
+    pub coursed : (q : List ℕ) → All (λ i. i < count) q → courseFrom (setsIn (goalIn packed)) [] 0 (map (actionOf (movesIn packed)) q) (entries t) ≡ courseFrom (p .goal) [] 0 (actionsOf p q) (entries t)
     coursed q h = ap₂ (λ (x : List Literals) (q : List Action). courseFrom x [] 0 q (entries t)) is (plan-laid q h)
 
 -- ---- the search of a problem from its start

@@ -24,16 +24,16 @@ pub record Storable (count : ℕ) (ts fs : List ℕ) : Type 0 where
   pub room : Room count ts fs
 
 -- of every slot it is so: no plan of fewer moves than its mark is reached or full from its table
-abbrev pub Remembers : List ℕ → ℕ → List ℕ → List ℕ → Type 0
-Remembers moves count goal memory =
-    (j : ℕ) → j * 258 + 258 ≤ length memory → NoShorterFrom moves count goal 0 (tableIn (itemAt 258 memory j)) (markIn (itemAt 258 memory j))
+abbrev pub Remembers : List ℕ → ℕ → List ℕ → Type 0
+Remembers packed count memory =
+    (j : ℕ) → j * 258 + 258 ≤ length memory → NoShorterFrom packed count 0 (tableIn (itemAt 258 memory j)) (markIn (itemAt 258 memory j))
 
 -- what a search that is under way asks: moves, goal and table; at most eight moves; no answer by fewer; a memory of what is so
-pub record Underway (moves goal : List ℕ) (depth : Depth) (t : Table) (memory : List ℕ) : Type 0 where
-  pub can : Searchable moves (depth .moves) goal t
+pub record Underway (packed : List ℕ) (depth : Depth) (t : Table) (memory : List ℕ) : Type 0 where
+  pub can : Searchable packed (depth .moves) t
   pub most : depth .at + depth .left ≤ 8
-  pub no-shorter : NoShorterFrom moves (depth .moves) goal (depth .at) (entries t) (depth .left)
-  pub remembers : Remembers moves (depth .moves) goal memory
+  pub no-shorter : NoShorterFrom packed (depth .moves) (depth .at) (entries t) (depth .left)
+  pub remembers : Remembers packed (depth .moves) memory
 
 -- some slot has the table es, with a mark above `left`
 pub record Recalls (memory : List ℕ) (es : List Literals) (left : ℕ) : Type 0 where

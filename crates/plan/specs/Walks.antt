@@ -1,4 +1,5 @@
 -- The search in the middle of a plan: what is left to find from a table, some moves already taken, and the answer so far.
+use mathlib.Core.Path.{_≡_}
 use mathlib.Core.Bool.{Bool, true, false}
 use mathlib.Core.List.{List, _∷_, _++_, map}
 use Prim.Native.Nat.{ℕ, _+_, _*_, _≤_, _<_}
@@ -9,11 +10,11 @@ use Rattle.sheet.specs.Problem.{Action}
 use Rattle.sheet.specs.Encoding.{ProperAction}
 use Rattle.sheet.specs.declared.Plan.{Plan}
 use Rattle.sheet.specs.declared.Sheet.{Sheet}
-use Rattle.sheet.specs.Decoded.{planIn}
-use Rattle.sheet.specs.Packed.{setsIn, SetsFit}
+use Rattle.sheet.specs.Decoded.{planIn, Filled}
+use Rattle.sheet.specs.Packed.{goalIn, movesIn, setsIn, SetsFit, countOf, actionOf}
 use Rattle.table.specs.declared.Table.{Table}
+use Rattle.table.specs.Moves.{Fits}
 use Rattle.table.specs.Slots.{entries, Fresh}
-use Rattle.table.specs.Moves.{Filled}
 use Rattle.plan.specs.declared.SearchAnswer.{SearchAnswer}
 use Rattle.plan.specs.declared.Kind.{Kind}
 use Rattle.plan.specs.declared.Kind.the-variants as kind
@@ -22,7 +23,6 @@ use Rattle.plan.specs.Search.{plansOf, plansUpTo, Answer, found, fullAt,
 use Rattle.plan.specs.Order.{Fails}
 use Rattle.plan.specs.Calls.{answered}
 use Rattle.plan.specs.Course.{Ready, FreshRows}
-use Rattle.sheet.specs.Packed.{countOf, actionOf}
 
 -- ---- the first answer from the table t, `place` moves already taken, by the numbers of the moves f
 -- the verdict of a plan
@@ -41,9 +41,9 @@ firstBy goal f k place t n m = firstOf (ranFrom goal f place t) (map (λ p. m �
 abbrev pub NoShorterPlan : List Literals → (ℕ → Action) → ℕ → ℕ → List Literals → ℕ → Type 0
 NoShorterPlan goal f k place t n = (q : List ℕ) → All (λ i. i < k) q → length q < n → Fails (ranFrom goal f place t q)
 
--- the same by moves and a goal that are laid out
-abbrev pub NoShorterFrom : List ℕ → ℕ → List ℕ → ℕ → List Literals → ℕ → Type 0
-NoShorterFrom moves k goal place t n = NoShorterPlan (setsIn goal) (actionOf moves) k place t n
+-- the same by the moves and the goal of a packed array
+abbrev pub NoShorterFrom : List ℕ → ℕ → ℕ → List Literals → ℕ → Type 0
+NoShorterFrom packed k place t n = NoShorterPlan (setsIn (goalIn packed)) (actionOf (movesIn packed)) k place t n
 
 -- ---- the answer of an inner call: its plan from byte `at` on, zeros before it for the moves taken
 unfoldable pub answeredAt : ℕ → Answer → SearchAnswer
@@ -58,38 +58,45 @@ isEnd (kind.Full k) = true
 isEnd kind.Nothing = false
 isEnd (kind.Refused number position) = true
 
--- ---- moves laid out, goal and table over the same n propositions, within their slots
-pub record Searchable (moves : List ℕ) (count : ℕ) (goal : List ℕ) (t : Table) : Type 0 where
+-- ---- so many moves, a goal and a table over the same n propositions, within their slots
+pub record Searchable (packed : List ℕ) (count : ℕ) (t : Table) : Type 0 where
   pub n : ℕ
   pub n-most : n ≤ 32
   pub least : 1 ≤ count
   pub most : count ≤ 32
-  pub room : count * 35 ≤ length moves
-  pub effects-most : (i : ℕ) → i < count → countOf moves i ≤ 8
-  pub actions : (i : ℕ) → i < count → ProperAction n (actionOf moves i)
-  pub goal-fits : SetsFit goal
+  pub long : length packed ≡ 1409
+  pub effects-most : (i : ℕ) → i < count → countOf (movesIn packed) i ≤ 8
+  pub actions : (i : ℕ) → i < count → ProperAction n (actionOf (movesIn packed) i)
+  pub goal-fits : SetsFit (goalIn packed)
   pub entries-most : t .count ≤ 128
   pub ready : Ready n t
 
+-- what a step of a run asks: the packed array with the move of a number, and a table over the same propositions
+pub record StepHere (packed : List ℕ) (index : ℕ) (t : Table) : Type 0 where
+  pub long : length packed ≡ 1409
+  pub most : index < 32
+  pub effects-few : countOf (movesIn packed) index ≤ 8
+  pub fits : Fits (actionOf (movesIn packed) index) t
+
 -- the same with a plan of these moves
-pub record Runnable (plan : Plan) (moves : List ℕ) (goal : List ℕ) (t : Table) : Type 0 where
+pub record Runnable (plan : Plan) (packed : List ℕ) (t : Table) : Type 0 where
   pub count : ℕ
-  pub fits : Searchable moves count goal t
+  pub fits : Searchable packed count t
   pub most : plan .count ≤ 64
   pub numbers : All (λ i. i < count) (planIn plan)
 
--- a sheet that was read, in its rows, and arrays of zeros for its run
-pub record RunRoom (sheet : Sheet) (ors oneofs goal moves trues falses entries clauses : List ℕ) : Type 0 where
-  pub filled : Filled sheet ors oneofs goal moves
+-- a sheet that was read, and arrays of zeros for its run
+pub record RunRoom (sheet : Sheet) (packed trues falses entries clauses : List ℕ) : Type 0 where
+  pub filled : Filled sheet packed
   pub fresh : Fresh trues falses
   pub fresh-rows : FreshRows entries clauses
 
 -- ---- what the inner calls answer
-abbrev pub plansTried : List ℕ → ℕ → List ℕ → Table → ℕ → ℕ → SearchAnswer
-plansTried moves count goal t at left = answeredAt at (firstFrom (setsIn goal) (actionOf moves) count at (entries t) left)
+abbrev pub plansTried : List ℕ → ℕ → Table → ℕ → ℕ → SearchAnswer
+plansTried packed count t at left = answeredAt at (firstFrom (setsIn (goalIn packed)) (actionOf (movesIn packed)) count at (entries t) left)
 
-abbrev pub moveTried : List ℕ → ℕ → List ℕ → Table → ℕ → ℕ → ℕ → SearchAnswer
-moveTried moves count goal t at left m = answeredAt at (firstBy (setsIn goal) (actionOf moves) count at (entries t) left m)
+abbrev pub moveTried : List ℕ → ℕ → Table → ℕ → ℕ → ℕ → SearchAnswer
+moveTried packed count t at left m = answeredAt at (firstBy (setsIn (goalIn packed)) (actionOf (movesIn packed)) count at (entries t) left m)
 
-abbrev pub searchedBy : List ℕ → ℕ → List ℕ → Table → ℕ → SearchAnswer
-searchedBy moves count goal t limit = answered (firstOf (ranFrom (setsIn goal) (actionOf moves) 0 (entries t)) (plansUpTo count limit))
+abbrev pub searchedBy : List ℕ → ℕ → Table → ℕ → SearchAnswer
+searchedBy packed count t limit = answered (firstOf (ranFrom (setsIn (goalIn packed)) (actionOf (movesIn packed)) 0 (entries t)) (plansUpTo count limit))

@@ -1,5 +1,6 @@
 // Plans: the run of a plan, the search for one, and the text of the program.
 use sheet::Answer;
+use sheet::packed::LENGTH;
 use table::Table;
 ghost use mathlib.Core.Path.{_≡_};
 ghost use lib.ListN.{length};
@@ -120,11 +121,8 @@ pub fn search(bytes: &[u8], limit: usize) -> SearchAnswer
 pub fn search_with<'a, 'b>(bytes: &'a [u8], limit: usize, memory: &'b mut [u32]) -> SearchAnswer
     ensures { λ r. ⌜ r ≡ searchOf (sheetOf (now (bytes .entry))) limit ⌝ }
 {
-    let mut ors = [0u32; 136];
-    let mut oneofs = [0u32; 136];
-    let mut goal = [0u32; 17];
-    let mut moves = [0u32; 1120];
-    let decoded = sheet::decode(bytes, &mut ors, &mut oneofs, &mut goal, &mut moves);
+    let mut packed = [0u32; LENGTH];
+    let decoded = sheet::decode(bytes, &mut packed);
     let answer = decoded.answer;
     match answer {
         Answer::Refused(number, position) => searches::refuse_search(number, position),
@@ -133,12 +131,9 @@ pub fn search_with<'a, 'b>(bytes: &'a [u8], limit: usize, memory: &'b mut [u32])
                 return searches::refuse_search(8, 0);
             }
             let sheet = decoded.sheet;
-            // References to whole arrays: their types have the lengths.
-            let ors = &ors;
-            let oneofs = &oneofs;
-            let goal = &goal;
-            let moves = &moves;
-            searches::search_sheet(sheet, ors, oneofs, goal, moves, limit, memory)
+            // A reference to the whole array: its type has the length.
+            let packed = &packed;
+            searches::search_sheet(sheet, packed, limit, memory)
         }
     }
 }

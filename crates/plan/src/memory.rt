@@ -133,7 +133,7 @@ pub(crate) fn remember<'a, 'b>(
 )
     requires { ⌜ mark ≤ 9 ⌝ }
     requires { ⌜ Storable count (now trues) (now falses) ⌝ }
-    ensures { λ r. ⌜ ((moves : List ℕ) → (k : ℕ) → (goal : List ℕ) → Remembers moves k goal (now (memory .entry)) → NoShorterFrom moves k goal 0 (entriesOf count (now (trues .entry)) (now (falses .entry))) mark → Remembers moves k goal (now (memory .exit))) ⌝ }
+    ensures { λ r. ⌜ ((packed : List ℕ) → (k : ℕ) → Remembers packed k (now (memory .entry)) → NoShorterFrom packed k 0 (entriesOf count (now (trues .entry)) (now (falses .entry))) mark → Remembers packed k (now (memory .exit))) ⌝ }
 {
     if mark < 2 {
         return;
@@ -150,7 +150,7 @@ pub(crate) fn remember<'a, 'b>(
 
 // Nothing is remembered, whatever stood there.
 pub(crate) fn forget(memory: &mut [u32])
-    ensures { λ r. ⌜ ((moves : List ℕ) → (k : ℕ) → (goal : List ℕ) → Remembers moves k goal (now (memory .exit))) ⌝ }
+    ensures { λ r. ⌜ ((packed : List ℕ) → (k : ℕ) → Remembers packed k (now (memory .exit))) ⌝ }
 {
     let slots = memory.len() / 258;
     let mut j: usize = 0;

@@ -8,25 +8,29 @@ use crate::goals::all_in_goal;
 use sheet::Answer;
 use sheet::Plan;
 use sheet::Sheet;
+use sheet::packed::GOAL;
+use sheet::packed::LENGTH;
+use sheet::packed::MOVES;
 use table::Table;
 use table::picture_clauses::clause_count;
+use table::starts::Started;
 use table::starts::first_into;
 use table::steps::Stepped;
 use table::steps::step_at;
 ghost use mathlib.Core.Path.{_≡_};
 ghost use mathlib.Core.List.{[], map};
-ghost use Prim.Native.Nat.{_+_, _*_, _≤_, _<_};
+ghost use Prim.Native.Nat.{_+_, _≤_, _<_};
 ghost use lib.Dec.{eqb};
-ghost use lib.ListN.{length, replicate};
+ghost use lib.ListN.{replicate};
 ghost use Rattle.sheet.specs.Lists.{allOf};
 ghost use Rattle.sheet.specs.Decoded.{planIn, problemIn};
-ghost use Rattle.sheet.specs.Packed.{setsIn, SetsFit, actionOf, countOf};
+ghost use Rattle.sheet.specs.Packed.{goalIn, movesIn, setsIn, SetsFit, actionOf};
 ghost use Rattle.sheet.specs.Format.{sheetOf};
 ghost use Rattle.table.specs.Slots.{entriesOf, Room, Fresh};
 ghost use Rattle.table.specs.Start.{startTable};
 ghost use Rattle.table.specs.Step.{stepTable};
 ghost use Rattle.table.specs.Calls.{orGiven};
-ghost use Rattle.table.specs.Moves.{lent, tabled, Fits};
+ghost use Rattle.table.specs.Moves.{lent, stepAnswer};
 ghost use Rattle.plan.specs.Run as R;
 ghost use Rattle.plan.specs.Calls.{verdictOf};
 ghost use Rattle.plan.specs.Course as C;
@@ -78,20 +82,19 @@ pub(crate) fn end<'a, 'b>(
 
 // The step of a lent table by a move, in its place. Refused, the table is left as it was.
 pub(crate) fn step_here<'a, 'b, 'c>(
-    moves: &'a [u32],
+    packed: &'a [u32],
     index: usize,
     trues: &'b mut [u32; 128],
     falses: &'c mut [u32; 128],
     count: usize,
 ) -> Stepped
-    requires { ⌜ (index * 35 + 35 ≤ length (now moves)) × (countOf (now moves) index ≤ 8) ⌝ }
-    requires { ⌜ Fits (actionOf (now moves) index) (lent count (now trues) (now falses)) ⌝ }
-    ensures { λ r. ⌜ tabled (lent count (now (trues .exit)) (now (falses .exit))) r (now (trues .exit)) (now (falses .exit)) ≡ orGiven (lent count (now (trues .entry)) (now (falses .entry))) (stepTable 128 (actionOf (now (moves .entry)) index) (entriesOf count (now (trues .entry)) (now (falses .entry)))) ⌝ }
+    requires { ⌜ W.StepHere (now packed) index (lent count (now trues) (now falses)) ⌝ }
+    ensures { λ r. ⌜ stepAnswer (lent count (now (trues .exit)) (now (falses .exit))) r (now (trues .exit)) (now (falses .exit)) ≡ orGiven (lent count (now (trues .entry)) (now (falses .entry))) (stepTable 128 (actionOf (movesIn (now (packed .entry))) index) (entriesOf count (now (trues .entry)) (now (falses .entry)))) ⌝ }
 {
     let mut to_trues = [0u32; 128];
     let mut to_falses = [0u32; 128];
     match step_at(
-        moves,
+        packed,
         index,
         trues,
         falses,
@@ -104,24 +107,23 @@ pub(crate) fn step_here<'a, 'b, 'c>(
             *falses = to_falses;
             Stepped::To(k)
         }
-        Stepped::Refused(number) => Stepped::Refused(number),
+        Stepped::Refused(number, position) => Stepped::Refused(number, position),
     }
 }
 
 // A plan from a lent table: the last table in its place, the rows in arrays of zeros.
 pub(crate) fn run_from<'a, 'b, 'c, 'd, 'e>(
     plan: Plan,
-    goal: &'a [u32],
-    moves: &'a [u32],
+    packed: &'a [u32],
     trues: &'b mut [u32; 128],
     falses: &'c mut [u32; 128],
     count: usize,
     entries: &'d mut [usize; 65],
     clauses: &'e mut [usize; 65],
 ) -> RunRecord
-    requires { ⌜ W.Runnable plan (now moves) (now goal) (lent count (now trues) (now falses)) ⌝ }
+    requires { ⌜ W.Runnable plan (now packed) (lent count (now trues) (now falses)) ⌝ }
     requires { ⌜ C.FreshRows (now entries) (now clauses) ⌝ }
-    ensures { λ r. ⌜ C.courseIn r (now (trues .exit)) (now (falses .exit)) (now (entries .exit)) (now (clauses .exit)) ≡ C.courseFrom (setsIn (now (goal .entry))) [] 0 (map (actionOf (now (moves .entry))) (planIn plan)) (entriesOf count (now (trues .entry)) (now (falses .entry))) ⌝ }
+    ensures { λ r. ⌜ C.courseIn r (now (trues .exit)) (now (falses .exit)) (now (entries .exit)) (now (clauses .exit)) ≡ C.courseFrom (setsIn (goalIn (now (packed .entry)))) [] 0 (map (actionOf (movesIn (now (packed .entry)))) (planIn plan)) (entriesOf count (now (trues .entry)) (now (falses .entry))) ⌝ }
 {
     let length = plan.count;
     let mut size = count;
@@ -130,11 +132,11 @@ pub(crate) fn run_from<'a, 'b, 'c, 'd, 'e>(
         note(entries, clauses, i, trues, falses, size);
         let place = i + 1;
         let index = plan.numbers[i] as usize;
-        match step_here(moves, index, trues, falses, size) {
+        match step_here(packed, index, trues, falses, size) {
             Stepped::To(k) => {
                 size = k;
             }
-            Stepped::Refused(number) => {
+            Stepped::Refused(number, _) => {
                 return RunRecord {
                     verdict: halt(place, number),
                     count: size,
@@ -145,6 +147,7 @@ pub(crate) fn run_from<'a, 'b, 'c, 'd, 'e>(
         i += 1;
     }
     note(entries, clauses, i, trues, falses, size);
+    let goal = &packed[GOAL..MOVES];
     RunRecord {
         verdict: end(goal, trues, falses, size),
         count: size,
@@ -166,23 +169,19 @@ pub(crate) fn refuse_run(number: u8, position: usize) -> RunRecord
 // The run of a sheet that was read, into arrays of zeros: 20 or 21 of its start, otherwise its plan from the first table.
 pub(crate) fn run_sheet<'a, 'b, 'c, 'd, 'e>(
     sheet: Sheet,
-    ors: &'a [u32],
-    oneofs: &'a [u32],
-    goal: &'a [u32],
-    moves: &'a [u32],
+    packed: &'a [u32],
     trues: &'b mut [u32; 128],
     falses: &'c mut [u32; 128],
     entries: &'d mut [usize; 65],
     clauses: &'e mut [usize; 65],
 ) -> RunRecord
-    requires { ⌜ W.RunRoom sheet (now ors) (now oneofs) (now goal) (now moves) (now trues) (now falses) (now entries) (now clauses) ⌝ }
-    ensures { λ r. ⌜ C.courseIn r (now (trues .exit)) (now (falses .exit)) (now (entries .exit)) (now (clauses .exit)) ≡ C.plannedCourse (problemIn sheet (now (ors .entry)) (now (oneofs .entry)) (now (goal .entry)) (now (moves .entry))) (planIn (sheet .plan)) (startTable 128 (problemIn sheet (now (ors .entry)) (now (oneofs .entry)) (now (goal .entry)) (now (moves .entry)))) ⌝ }
+    requires { ⌜ W.RunRoom sheet (now packed) (now trues) (now falses) (now entries) (now clauses) ⌝ }
+    ensures { λ r. ⌜ C.courseIn r (now (trues .exit)) (now (falses .exit)) (now (entries .exit)) (now (clauses .exit)) ≡ C.plannedCourse (problemIn sheet (now (packed .entry))) (planIn (sheet .plan)) (startTable 128 (problemIn sheet (now (packed .entry)))) ⌝ }
 {
-    let known = sheet.known;
     let plan = sheet.plan;
-    match first_into(known, ors, sheet.ors, oneofs, sheet.oneofs, trues, falses) {
-        Stepped::To(count) => run_from(plan, goal, moves, trues, falses, count, entries, clauses),
-        Stepped::Refused(number) => {
+    match first_into(sheet, packed, trues, falses) {
+        Started::To(count) => run_from(plan, packed, trues, falses, count, entries, clauses),
+        Started::Refused(number) => {
             *trues = [0u32; 128];
             *falses = [0u32; 128];
             refuse_run(number, 0)
@@ -203,11 +202,8 @@ pub fn course_into<'a, 'b, 'c, 'd, 'e>(
     requires { ⌜ C.FreshRows (now entries) (now clauses) ⌝ }
     ensures { λ r. ⌜ C.courseIn r (now (trues .exit)) (now (falses .exit)) (now (entries .exit)) (now (clauses .exit)) ≡ C.courseOf (sheetOf (now (bytes .entry))) lent ⌝ }
 {
-    let mut ors = [0u32; 136];
-    let mut oneofs = [0u32; 136];
-    let mut goal = [0u32; 17];
-    let mut moves = [0u32; 1120];
-    let decoded = sheet::decode(bytes, &mut ors, &mut oneofs, &mut goal, &mut moves);
+    let mut packed = [0u32; LENGTH];
+    let decoded = sheet::decode(bytes, &mut packed);
     let answer = decoded.answer;
     match answer {
         Answer::Refused(number, position) => refuse_run(number, position),
@@ -216,22 +212,9 @@ pub fn course_into<'a, 'b, 'c, 'd, 'e>(
                 return refuse_run(23, 0);
             }
             let sheet = decoded.sheet;
-            // References to whole arrays: their types have the lengths.
-            let ors = &ors;
-            let oneofs = &oneofs;
-            let goal = &goal;
-            let moves = &moves;
-            run_sheet(
-                sheet,
-                ors,
-                oneofs,
-                goal,
-                moves,
-                trues,
-                falses,
-                entries,
-                clauses,
-            )
+            // A reference to the whole array: its type has the length.
+            let packed = &packed;
+            run_sheet(sheet, packed, trues, falses, entries, clauses)
         }
     }
 }

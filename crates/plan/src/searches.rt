@@ -6,6 +6,9 @@ use crate::memory::forget;
 use crate::memory::remember;
 use crate::memory::remembered;
 use sheet::Sheet;
+use sheet::packed::GOAL;
+use sheet::packed::MOVES;
+use table::starts::Started;
 use table::starts::first_into;
 use table::steps::Stepped;
 use table::steps::step_at;
@@ -15,10 +18,9 @@ ghost use mathlib.Core.List.{_∷_};
 ghost use Prim.Native.Nat.{_+_, _-_, _≤_, _<_};
 ghost use lib.ListN.{replicate};
 ghost use Rattle.table.specs.Slots.{entriesOf, Room};
-ghost use Rattle.sheet.specs.Decoded.{problemIn};
+ghost use Rattle.sheet.specs.Decoded.{problemIn, Filled};
 ghost use Rattle.table.specs.Start.{startTable};
 ghost use Rattle.table.specs.Moves as M;
-ghost use Rattle.table.specs.Moves.{Filled};
 ghost use Rattle.plan.specs.Search.{fullAt, nothing};
 ghost use Rattle.plan.specs.Calls.{refusedSearch, answered, searched};
 ghost use Rattle.plan.specs.Walks as W;
@@ -113,8 +115,7 @@ pub(crate) fn same<'a, 'b>(
 // The plans with the moves taken so far and then this move. No shorter plan has an answer, so a move that leaves the table as it was is
 // not followed.
 fn try_move<'a, 'b, 'c>(
-    moves: &'a [u32],
-    goal: &'a [u32],
+    packed: &'a [u32],
     depth: Depth,
     index: usize,
     trues: &'b [u32],
@@ -122,15 +123,15 @@ fn try_move<'a, 'b, 'c>(
     count: usize,
     memory: &'c mut [u32],
 ) -> SearchAnswer
-    requires { ⌜ Underway (now moves) (now goal) depth (M.lent count (now trues) (now falses)) (now memory) ⌝ }
+    requires { ⌜ Underway (now packed) depth (M.lent count (now trues) (now falses)) (now memory) ⌝ }
     requires { ⌜ (1 ≤ depth .left) × (index < depth .moves) ⌝ }
-    ensures answers { λ r. ⌜ r ≡ W.moveTried (now (moves .entry)) (depth .moves) (now (goal .entry)) (M.lent count (now (trues .entry)) (now (falses .entry))) (depth .at) (depth .left - 1) index ⌝ }
-    ensures keeps { λ r. ⌜ Remembers (now (moves .entry)) (depth .moves) (now (goal .entry)) (now (memory .exit)) ⌝ }
+    ensures answers { λ r. ⌜ r ≡ W.moveTried (now (packed .entry)) (depth .moves) (M.lent count (now (trues .entry)) (now (falses .entry))) (depth .at) (depth .left - 1) index ⌝ }
+    ensures keeps { λ r. ⌜ Remembers (now (packed .entry)) (depth .moves) (now (memory .exit)) ⌝ }
 {
     let mut to_trues = [0u32; 128];
     let mut to_falses = [0u32; 128];
     let stepped = step_at(
-        moves,
+        packed,
         index,
         trues,
         falses,
@@ -150,13 +151,13 @@ fn try_move<'a, 'b, 'c>(
                 at: at + 1,
                 left,
             };
-            let mut r = try_plans(moves, goal, next, &to_trues, &to_falses, k, memory);
+            let mut r = try_plans(packed, next, &to_trues, &to_falses, k, memory);
             if is_end(r) {
                 r.plan[at] = index as u8;
             }
             r
         }
-        Stepped::Refused(number) => {
+        Stepped::Refused(number, _) => {
             if number == 21 {
                 return full(at, left, index);
             }
@@ -167,20 +168,20 @@ fn try_move<'a, 'b, 'c>(
 
 // The plans with the moves taken so far, which led to the table, in ascending order of those that are left.
 fn try_plans<'a, 'b, 'c>(
-    moves: &'a [u32],
-    goal: &'a [u32],
+    packed: &'a [u32],
     depth: Depth,
     trues: &'b [u32],
     falses: &'b [u32],
     count: usize,
     memory: &'c mut [u32],
 ) -> SearchAnswer
-    requires { ⌜ Underway (now moves) (now goal) depth (M.lent count (now trues) (now falses)) (now memory) ⌝ }
-    ensures answers { λ r. ⌜ r ≡ W.plansTried (now (moves .entry)) (depth .moves) (now (goal .entry)) (M.lent count (now (trues .entry)) (now (falses .entry))) (depth .at) (depth .left) ⌝ }
-    ensures keeps { λ r. ⌜ Remembers (now (moves .entry)) (depth .moves) (now (goal .entry)) (now (memory .exit)) ⌝ }
+    requires { ⌜ Underway (now packed) depth (M.lent count (now trues) (now falses)) (now memory) ⌝ }
+    ensures answers { λ r. ⌜ r ≡ W.plansTried (now (packed .entry)) (depth .moves) (M.lent count (now (trues .entry)) (now (falses .entry))) (depth .at) (depth .left) ⌝ }
+    ensures keeps { λ r. ⌜ Remembers (now (packed .entry)) (depth .moves) (now (memory .exit)) ⌝ }
 {
     let left = depth.left;
     if left == 0 {
+        let goal = &packed[GOAL..MOVES];
         if all_in_goal(goal, trues, falses, count) {
             return SearchAnswer {
                 kind: Kind::Reached,
@@ -197,7 +198,7 @@ fn try_plans<'a, 'b, 'c>(
     let move_count = depth.moves;
     let mut index: usize = 0;
     while index < move_count {
-        let r = try_move(moves, goal, depth, index, trues, falses, count, memory);
+        let r = try_move(packed, depth, index, trues, falses, count, memory);
         if is_end(r) {
             return r;
         }
@@ -209,8 +210,7 @@ fn try_plans<'a, 'b, 'c>(
 
 // Plans of at most `limit` moves, shorter first.
 pub(crate) fn lengths<'a, 'b, 'c>(
-    moves: &'a [u32],
-    goal: &'a [u32],
+    packed: &'a [u32],
     move_count: usize,
     trues: &'b [u32],
     falses: &'b [u32],
@@ -218,9 +218,9 @@ pub(crate) fn lengths<'a, 'b, 'c>(
     limit: usize,
     memory: &'c mut [u32],
 ) -> SearchAnswer
-    requires { ⌜ W.Searchable (now moves) «move_count» (now goal) (M.lent count (now trues) (now falses)) ⌝ }
+    requires { ⌜ W.Searchable (now packed) «move_count» (M.lent count (now trues) (now falses)) ⌝ }
     requires { ⌜ limit ≤ 8 ⌝ }
-    ensures { λ r. ⌜ r ≡ W.searchedBy (now (moves .entry)) «move_count» (now (goal .entry)) (M.lent count (now (trues .entry)) (now (falses .entry))) limit ⌝ }
+    ensures { λ r. ⌜ r ≡ W.searchedBy (now (packed .entry)) «move_count» (M.lent count (now (trues .entry)) (now (falses .entry))) limit ⌝ }
 {
     forget(memory);
     let mut length: usize = 0;
@@ -230,7 +230,7 @@ pub(crate) fn lengths<'a, 'b, 'c>(
             at: 0,
             left: length,
         };
-        let r = try_plans(moves, goal, depth, trues, falses, count, memory);
+        let r = try_plans(packed, depth, trues, falses, count, memory);
         if is_end(r) {
             return r;
         }
@@ -242,39 +242,18 @@ pub(crate) fn lengths<'a, 'b, 'c>(
 // The search on a sheet that was read: 20 or 21 of the start, then the plans.
 pub(crate) fn search_sheet<'a, 'b>(
     sheet: Sheet,
-    ors: &'a [u32],
-    oneofs: &'a [u32],
-    goal: &'a [u32],
-    moves: &'a [u32],
+    packed: &'a [u32],
     limit: usize,
     memory: &'b mut [u32],
 ) -> SearchAnswer
-    requires { ⌜ Filled sheet (now ors) (now oneofs) (now goal) (now moves) ⌝ }
+    requires { ⌜ Filled sheet (now packed) ⌝ }
     requires { ⌜ limit ≤ 8 ⌝ }
-    ensures { λ r. ⌜ r ≡ searched (problemIn sheet (now (ors .entry)) (now (oneofs .entry)) (now (goal .entry)) (now (moves .entry))) limit (startTable 128 (problemIn sheet (now (ors .entry)) (now (oneofs .entry)) (now (goal .entry)) (now (moves .entry)))) ⌝ }
+    ensures { λ r. ⌜ r ≡ searched (problemIn sheet (now (packed .entry))) limit (startTable 128 (problemIn sheet (now (packed .entry)))) ⌝ }
 {
-    let known = sheet.known;
     let mut trues = [0u32; 128];
     let mut falses = [0u32; 128];
-    match first_into(
-        known,
-        ors,
-        sheet.ors,
-        oneofs,
-        sheet.oneofs,
-        &mut trues,
-        &mut falses,
-    ) {
-        Stepped::To(count) => lengths(
-            moves,
-            goal,
-            sheet.moves,
-            &trues,
-            &falses,
-            count,
-            limit,
-            memory,
-        ),
-        Stepped::Refused(number) => refuse_search(number, 0),
+    match first_into(sheet, packed, &mut trues, &mut falses) {
+        Started::To(count) => lengths(packed, sheet.moves, &trues, &falses, count, limit, memory),
+        Started::Refused(number) => refuse_search(number, 0),
     }
 }

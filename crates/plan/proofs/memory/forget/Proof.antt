@@ -48,9 +48,9 @@ same-length : tie.Need-same-length Inv-loop μ-loop
 same-length c = c .before .loop .inv .1
 
 returns : tie.Need-returns Inv-loop μ-loop
-returns c = λ moves count goal.
+returns c = λ packed count.
     let g = c .before .loop in
-    blank moves count goal (g .memory) (λ j l. mark-head (g .memory) j
+    blank packed count (g .memory) (λ j l. mark-head (g .memory) j
     ∙ g .inv .2 j (omega (arith, slots-all (length (c .before .before .args .memory .now)) j (omega (arith, l, g .inv .1)), c .loop-test .left)))
 
 pub forget-spec : {M : Type 1} → statement M

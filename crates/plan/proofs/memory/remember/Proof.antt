@@ -45,11 +45,11 @@ same-length : tie.Need-same-length
 same-length c = search needs
 
 returns-3 : tie.Need-returns-3
-returns-3 c = λ moves count goal h g.
+returns-3 c = λ packed count h g.
     let f = c .before .before .fill in
     let s = c .before .before .before .before .before .before .before .before .before .before .before .before .before .args in
-    kept-by (s .memory .now) (f .last .0) (c .before .before .before .before .lesser .result) (c .before .before .before .before .lesser .ensures) (f .ensures .0) moves count goal h
-    (known-in moves count goal (f .last .0) (entriesOf (s .count) (s .trues .now) (s .falses .now)) (s .mark) (f .ensures .1) (f .ensures .2) g)
+    kept-by (s .memory .now) (f .last .0) (c .before .before .before .before .lesser .result) (c .before .before .before .before .lesser .ensures) (f .ensures .0) packed count h
+    (known-in packed count (f .last .0) (entriesOf (s .count) (s .trues .now) (s .falses .now)) (s .mark) (f .ensures .1) (f .ensures .2) g)
 
 pub remember-spec : {M : Type 1} → statement M
 remember-spec =

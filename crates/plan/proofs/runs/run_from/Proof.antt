@@ -6,7 +6,7 @@ use native.Mathlib.Omega.{arith}
 use borrow.Author.Needs.{needs}
 use lib.ListN.{length}
 use Rattle.sheet.proofs.base.Prefixes.{length-mapped}
-use Rattle.sheet.specs.Packed.{setsIn}
+use Rattle.sheet.specs.Packed.{goalIn, setsIn}
 use Rattle.table.specs.Slots.{entries as tableEntries}
 use Rattle.table.specs.Moves.{lent}
 use Rattle.plan.specs.Course.{countsIn, courseFrom}
@@ -17,17 +17,16 @@ use Rattle.plan.proofs.runs.run_from.Statement.{statement}
 use Rattle.plan.proofs.runs.run_from.Tie as tie
 
 abbrev Inv-loop : tie.InvT-loop
-Inv-loop goal moves trues₀ falses₀ count entries₀ clauses₀ plan length size₀ i₀ trues falses entries clauses size i =
-    Going plan moves goal (courseFrom (setsIn goal) [] 0 (left plan moves 0) (tableEntries (lent count trues₀ falses₀))) i (lent size trues falses) (countsIn i entries clauses)
+Inv-loop packed trues₀ falses₀ count entries₀ clauses₀ plan length size₀ i₀ trues falses entries clauses size i =
+    Going plan packed (courseFrom (setsIn (goalIn packed)) [] 0 (left plan packed 0) (tableEntries (lent count trues₀ falses₀))) i (lent size trues falses) (countsIn i entries clauses)
 
 abbrev μ-loop : tie.MeasureT-loop
-μ-loop goal moves trues₀ falses₀ count entries₀ clauses₀ plan length size₀ i₀ trues falses entries clauses size i = length - i
+μ-loop packed trues₀ falses₀ count entries₀ clauses₀ plan length size₀ i₀ trues falses entries clauses size i = length - i
 
 loop-holds : tie.Need-loop-holds Inv-loop μ-loop
 loop-holds c =
-    let q = c .before .before in
-    let n : length (q .args .t1 .numbers) ≡ 64 = search (needs, length-mapped) in
-    going-start (q .pre .0) n (no-rows (q .pre .1))
+    let n : length (c .before .args .t1 .numbers) ≡ 64 = search (needs, length-mapped) in
+    going-start (c .before .pre .0) n (no-rows (c .before .pre .1))
 
 note-requires : tie.Need-note-requires Inv-loop μ-loop
 note-requires c κs =
@@ -50,7 +49,7 @@ step-here-requires c κs =
     let v = c .before .before .before .before .before .before .before .before .before .before .before .loop .inv in
     let h = v .can .fits in
     let l = number-below (v .can) (v .long) (c .before .before .before .before .before .before .before .before .before .before .loop-test .taken) in
-    ((omega (arith, h .room), h .effects-most _ l), can-step h l)
+    record { long = h .long; most = omega (arith, l, h .most); effects-few = h .effects-most _ l; fits = can-step h l }
 
 enum-known-k : tie.Need-enum-known-k Inv-loop μ-loop
 enum-known-k c = search needs
@@ -80,15 +79,24 @@ note-requires-2 c κs =
     let v = c .before .before .before .before .before .before .before .loop .inv in
     ((going-room v, ready-count (v .can .fits .n) _ (v .can .fits .ready) .0), slots-room (v .can .fits))
 
-end-requires : tie.Need-end-requires Inv-loop μ-loop
-end-requires c κs = let h = c .before .before .before .before .before .before .before .before .before .before .before .before .loop .inv .can .fits in (h .goal-fits, slots-room h)
+sub-goal : tie.Need-sub-goal Inv-loop μ-loop
+sub-goal c = search needs
 
-add-t44 : tie.Need-add-t44 Inv-loop μ-loop
-add-t44 c = omega (arith, going-room (c .before .before .before .before .before .before .before .before .before .before .before .before .before .loop .inv))
+part-goal-start : tie.Need-part-goal-start Inv-loop μ-loop
+part-goal-start c = search needs
+
+part-goal-end : tie.Need-part-goal-end Inv-loop μ-loop
+part-goal-end c = omega (arith, c .before .before .before .before .before .before .before .before .loop .inv .can .fits .long)
+
+end-requires : tie.Need-end-requires Inv-loop μ-loop
+end-requires c κs = let h = c .before .before .before .before .before .before .before .before .before .before .before .before .before .loop .inv .can .fits in (h .goal-fits, slots-room h)
+
+add-t40 : tie.Need-add-t40 Inv-loop μ-loop
+add-t40 c = omega (arith, going-room (c .before .before .before .before .before .before .before .before .before .before .before .before .before .before .loop .inv))
 
 returns-2 : tie.Need-returns-2 Inv-loop μ-loop
 unfolding tableEntries
-returns-2 c = going-end (c .before .before .before .before .before .before .before .before .before .before .before .before .before .loop .inv) (c .before .before .before .before .before .before .before .before .before .before .before .before .loop-test .left) (c .end .ensures) (c .before .before .before .before .before .note2 .ensures)
+returns-2 c = going-end (c .before .before .before .before .before .before .before .before .before .before .before .before .before .before .loop .inv) (c .before .before .before .before .before .before .before .before .before .before .before .before .before .loop-test .left) (c .end .ensures) (c .before .before .before .before .before .before .note2 .ensures)
 
 pub run-from-spec : {M : Type 1} → statement M
 run-from-spec =
@@ -110,6 +118,9 @@ run-from-spec =
     loop-less
     loop-again
     note-requires-2
+    sub-goal
+    part-goal-start
+    part-goal-end
     end-requires
-    add-t44
+    add-t40
     returns-2)

@@ -15,10 +15,17 @@ slice-aggregate-step-at-2 c = search needs
 
 step-at-requires : tie.Need-step-at-requires
 step-at-requires c κs =
-    let a = c .before .before .before .before .before .before .before in
-    let k : length (a .args .trues .now) ≡ 128 = search needs in
-    let l : length (a .args .falses .now) ≡ 128 = search needs in
-    (a .pre .0, (a .pre .1, ((omega (arith, k, a .pre .1 .entries-most), omega (arith, l, a .pre .1 .entries-most)), (refl, refl))))
+    let h = c .before .before .before .before .before .before .before .pre in
+    let k : length (c .before .before .before .before .before .before .before .args .trues .now) ≡ 128 = search needs in
+    let l : length (c .before .before .before .before .before .before .before .args .falses .now) ≡ 128 = search needs in
+    record {
+      long = h .long;
+      move-most = h .most;
+      effects-few = h .effects-few;
+      fits = h .fits;
+      room = record { trues = omega (arith, k, h .fits .entries-most); falses = omega (arith, l, h .fits .entries-most) };
+      fresh = record { trues = refl; falses = refl };
+    }
 
 enum-known-k : tie.Need-enum-known-k
 enum-known-k c = search needs

@@ -5,10 +5,9 @@ use Prim.Native.Nat.{_*_, _-_, _≤_}
 use native.Mathlib.Omega.{arith}
 use borrow.Author.Needs.{needs}
 use denote.Ref.{now}
-use Rattle.sheet.specs.Packed.{setsIn}
+use Rattle.sheet.specs.Packed.{goalIn, movesIn, setsIn, actionOf}
 use Rattle.table.specs.Slots.{entriesOf, entries}
 use Rattle.plan.specs.Search.{nothing}
-use Rattle.sheet.specs.Packed.{actionOf}
 use Rattle.plan.specs.Walks.{firstBy}
 use Rattle.plan.proofs.FirstAnswers.{firstBelow}
 use Rattle.plan.proofs.Walking.{no-answer, at-goal, at-short, not-yet, found-now, none-at-all}
@@ -37,10 +36,10 @@ use Rattle.plan.proofs.searches.+try_move+try_plans.{statement}
 use Rattle.plan.proofs.searches.+try_move+try_plans.Tie.{close}
 
 abbrev μ-try-move : Measures 3 try-move-kinds.ps ℕ
-μ-try-move κs a = 2 * a .1 .1 .0 .left - 1
+μ-try-move κs a = 2 * a .1 .0 .left - 1
 
 abbrev μ-try-plans : Measures 3 try-plans-kinds.ps ℕ
-μ-try-plans κs a = 2 * a .1 .1 .0 .left
+μ-try-plans κs a = 2 * a .1 .0 .left
 
 abbrev try-move-at : ℕ → In 3 try-move-kinds.ps
 try-move-at t = and 3 try-move-kinds.ps (is 3 try-move-kinds.ps μ-try-move t) try-move.Pre
@@ -94,14 +93,12 @@ try-move-slice-aggregate-step-at-2 t c = search needs
 
 try-move-step-at-requires : (t : ℕ) → try-move-lts.Need-step-at-requires (try-move-claims t) (try-move-at t) try-move.Post
 try-move-step-at-requires t c κs =
-    let z = c .before .before .before .before .before .before .before in
-    let h = z .pre .1 .0 .can in
-    let l = z .pre .1 .1 .1 in
-    let room = slots-room h in
-    ((omega (arith, h .room), h .effects-most _ l), (can-step h l, ((room .trues, room .falses), (refl, refl))))
+    let h = c .before .before .before .before .before .before .pre .1 .0 .can in
+    let l = c .before .before .before .before .before .before .pre .1 .1 .1 in
+    record { long = h .long; move-most = omega (arith, l, h .most); effects-few = h .effects-most _ l; fits = can-step h l; room = slots-room h; fresh = record { trues = refl; falses = refl } }
 
 try-move-sub-left : (t : ℕ) → try-move-lts.Need-sub-left (try-move-claims t) (try-move-at t) try-move.Post
-try-move-sub-left t c = omega (arith, c .before .before .before .before .before .before .before .before .before .before .before .pre .1 .1 .0)
+try-move-sub-left t c = omega (arith, c .before .before .before .before .before .before .before .before .before .before .pre .1 .1 .0)
 
 try-move-enum-known-stepped : (t : ℕ) → try-move-lts.Need-enum-known-stepped (try-move-claims t) (try-move-at t) try-move.Post
 try-move-enum-known-stepped t c = search needs
@@ -114,21 +111,19 @@ try-move-slice-aggregate-same-2 t c = search needs
 
 try-move-same-requires : (t : ℕ) → try-move-lts.Need-same-requires (try-move-claims t) (try-move-at t) try-move.Post
 try-move-same-requires t c κs =
-    let z = c .before .before .before .before .before .before .before .before .before .before .before .before .before .before .before .before in
-    let h = z .pre .1 .0 .can in
-    (slots-room (ready-after h (z .pre .1 .1 .1) _ _ _ (c .before .before .before .before .before .before .before .before .step-at .ensures) (c .before .before .before .stepped .given .1)), slots-room h)
+    let h = c .before .before .before .before .before .before .before .before .before .before .before .before .before .before .before .pre .1 .0 .can in
+    (slots-room (ready-after h (c .before .before .before .before .before .before .before .before .before .before .before .before .before .before .before .pre .1 .1 .1) _ _ _ (c .before .before .before .before .before .before .before .before .step-at .ensures) (c .before .before .before .stepped .given .1)), slots-room h)
 
 try-move-none-requires : (t : ℕ) → try-move-lts.Need-none-requires (try-move-claims t) (try-move-at t) try-move.Post
 try-move-none-requires t c κs = search needs
 
 try-move-returns : (t : ℕ) → try-move-lts.Need-returns (try-move-claims t) (try-move-at t) try-move.Post
 try-move-returns t c =
-    let z = c .before .before .before .before .before .before .before .before .before .before .before .before .before .before .before .before .before .before .before in
-    let d = z .args .depth in
-    (begun-same (z .pre .1 .0 .can) (z .pre .1 .1 .1) _ _ _ (c .before .before .before .before .before .before .before .before .before .before .before .step-at .ensures) (c .before .before .before .before .before .before .stepped .given .1) (d .at) (d .left - 1) (λ p i l. z .pre .1 .0 .no-shorter p i (omega (arith, l, z .pre .1 .1 .0))) (c .before .before .same .ensures (c .before .if1 .taken)) (c .none .ensures), z .pre .1 .0 .remembers)
+    let d = c .before .before .before .before .before .before .before .before .before .before .before .before .before .before .before .before .before .before .args .depth in
+    (begun-same (c .before .before .before .before .before .before .before .before .before .before .before .before .before .before .before .before .before .before .pre .1 .0 .can) (c .before .before .before .before .before .before .before .before .before .before .before .before .before .before .before .before .before .before .pre .1 .1 .1) _ _ _ (c .before .before .before .before .before .before .before .before .before .before .before .step-at .ensures) (c .before .before .before .before .before .before .stepped .given .1) (d .at) (d .left - 1) (λ p i l. c .before .before .before .before .before .before .before .before .before .before .before .before .before .before .before .before .before .before .pre .1 .0 .no-shorter p i (omega (arith, l, c .before .before .before .before .before .before .before .before .before .before .before .before .before .before .before .before .before .before .pre .1 .1 .0))) (c .before .before .same .ensures (c .before .if1 .taken)) (c .none .ensures), c .before .before .before .before .before .before .before .before .before .before .before .before .before .before .before .before .before .before .pre .1 .0 .remembers)
 
-try-move-add-t28 : (t : ℕ) → try-move-lts.Need-add-t28 (try-move-claims t) (try-move-at t) try-move.Post
-try-move-add-t28 t c = omega (arith, c .before .before .before .before .before .before .before .before .before .before .before .before .before .before .before .before .before .before .pre .1 .0 .most, c .before .before .before .before .before .before .before .before .before .before .before .before .before .before .before .before .before .before .pre .1 .1 .0)
+try-move-add-t27 : (t : ℕ) → try-move-lts.Need-add-t27 (try-move-claims t) (try-move-at t) try-move.Post
+try-move-add-t27 t c = omega (arith, c .before .before .before .before .before .before .before .before .before .before .before .before .before .before .before .before .before .pre .1 .0 .most, c .before .before .before .before .before .before .before .before .before .before .before .before .before .before .before .before .before .pre .1 .1 .0)
 
 try-move-slice-aggregate-try-plans : (t : ℕ) → try-move-lts.Need-slice-aggregate-try-plans (try-move-claims t) (try-move-at t) try-move.Post
 try-move-slice-aggregate-try-plans t c = search needs
@@ -138,16 +133,15 @@ try-move-slice-aggregate-try-plans-2 t c = search needs
 
 try-move-try-plans-requires : (t : ℕ) → try-move-lts.Need-try-plans-requires (try-move-claims t) (try-move-at t) try-move.Post
 try-move-try-plans-requires t c κs =
-    let z = c .before .before .before .before .before .before .before .before .before .before .before .before .before .before .before .before .before .before .before .before .before in
-    let d = z .args .depth in
-    let h = z .pre .1 .0 .can in
-    let l = z .pre .1 .1 .1 in (
-      omega (arith, z .pre .1 .1 .0),
+    let d = c .before .before .before .before .before .before .before .before .before .before .before .before .before .before .before .before .before .before .before .before .args .depth in
+    let h = c .before .before .before .before .before .before .before .before .before .before .before .before .before .before .before .before .before .before .before .before .pre .1 .0 .can in
+    let l = c .before .before .before .before .before .before .before .before .before .before .before .before .before .before .before .before .before .before .before .before .pre .1 .1 .1 in (
+      omega (arith, c .before .before .before .before .before .before .before .before .before .before .before .before .before .before .before .before .before .before .before .before .pre .1 .1 .0),
       record {
         can = ready-after h l _ _ _ (c .before .before .before .before .before .before .before .before .before .before .before .before .before .step-at .ensures) (c .before .before .before .before .before .before .before .before .stepped .given .1);
-        most = omega (arith, z .pre .1 .0 .most, z .pre .1 .1 .0);
-        no-shorter = quiet-next h l _ _ _ (c .before .before .before .before .before .before .before .before .before .before .before .before .before .step-at .ensures) (c .before .before .before .before .before .before .before .before .stepped .given .1) (d .at) (d .left - 1) (λ p i l. z .pre .1 .0 .no-shorter p i (omega (arith, l, z .pre .1 .1 .0)));
-        remembers = z .pre .1 .0 .remembers;
+        most = omega (arith, c .before .before .before .before .before .before .before .before .before .before .before .before .before .before .before .before .before .before .before .before .pre .1 .0 .most, c .before .before .before .before .before .before .before .before .before .before .before .before .before .before .before .before .before .before .before .before .pre .1 .1 .0);
+        no-shorter = quiet-next h l _ _ _ (c .before .before .before .before .before .before .before .before .before .before .before .before .before .step-at .ensures) (c .before .before .before .before .before .before .before .before .stepped .given .1) (d .at) (d .left - 1) (λ p i l. c .before .before .before .before .before .before .before .before .before .before .before .before .before .before .before .before .before .before .before .before .pre .1 .0 .no-shorter p i (omega (arith, l, c .before .before .before .before .before .before .before .before .before .before .before .before .before .before .before .before .before .before .before .before .pre .1 .1 .0)));
+        remembers = c .before .before .before .before .before .before .before .before .before .before .before .before .before .before .before .before .before .before .before .before .pre .1 .0 .remembers;
       },
     )
 
@@ -155,22 +149,21 @@ try-move-is-end-requires : (t : ℕ) → try-move-lts.Need-is-end-requires (try-
 try-move-is-end-requires t c κs = search needs
 
 try-move-cast-r : (t : ℕ) → try-move-lts.Need-cast-r (try-move-claims t) (try-move-at t) try-move.Post
-try-move-cast-r t c = omega (arith, c .before .before .before .before .before .before .before .before .before .before .before .before .before .before .before .before .before .before .before .before .before .before .before .before .before .before .pre .1 .1 .1, c .before .before .before .before .before .before .before .before .before .before .before .before .before .before .before .before .before .before .before .before .before .before .before .before .before .before .pre .1 .0 .can .most)
+try-move-cast-r t c = omega (arith, c .before .before .before .before .before .before .before .before .before .before .before .before .before .before .before .before .before .before .before .before .before .before .before .before .before .pre .1 .1 .1, c .before .before .before .before .before .before .before .before .before .before .before .before .before .before .before .before .before .before .before .before .before .before .before .before .before .pre .1 .0 .can .most)
 
 try-move-element-write-r : (t : ℕ) → try-move-lts.Need-element-write-r (try-move-claims t) (try-move-at t) try-move.Post
-try-move-element-write-r t c = omega (arith, c .before .before .before .before .before .before .before .before .before .before .before .before .before .before .before .before .before .before .before .before .before .before .before .before .before .before .pre .1 .0 .most, c .before .before .before .before .before .before .before .before .before .before .before .before .before .before .before .before .before .before .before .before .before .before .before .before .before .before .pre .1 .1 .0)
+try-move-element-write-r t c = omega (arith, c .before .before .before .before .before .before .before .before .before .before .before .before .before .before .before .before .before .before .before .before .before .before .before .before .before .pre .1 .0 .most, c .before .before .before .before .before .before .before .before .before .before .before .before .before .before .before .before .before .before .before .before .before .before .before .before .before .pre .1 .1 .0)
 
 try-move-enum-known-stepped-2 : (t : ℕ) → try-move-lts.Need-enum-known-stepped-2 (try-move-claims t) (try-move-at t) try-move.Post
 try-move-enum-known-stepped-2 t c = search needs
 
 try-move-full-requires : (t : ℕ) → try-move-lts.Need-full-requires (try-move-claims t) (try-move-at t) try-move.Post
-try-move-full-requires t c κs = let z = c .before .before .before .before .before .before .before .before .before .before .before .before .before .before .before in (omega (arith, z .pre .1 .0 .most, z .pre .1 .1 .0), omega (arith, z .pre .1 .1 .1, z .pre .1 .0 .can .most))
+try-move-full-requires t c κs = (omega (arith, c .before .before .before .before .before .before .before .before .before .before .before .before .before .before .pre .1 .0 .most, c .before .before .before .before .before .before .before .before .before .before .before .before .before .before .pre .1 .1 .0), omega (arith, c .before .before .before .before .before .before .before .before .before .before .before .before .before .before .pre .1 .1 .1, c .before .before .before .before .before .before .before .before .before .before .before .before .before .before .pre .1 .0 .can .most))
 
 try-move-returns-2 : (t : ℕ) → try-move-lts.Need-returns-2 (try-move-claims t) (try-move-at t) try-move.Post
 try-move-returns-2 t c =
-    let z = c .before .before .before .before .before .before .before .before .before .before .before .before .before .before .before .before in
-    let d = z .args .depth in
-    (begun-full (z .pre .1 .0 .can) (z .pre .1 .1 .1) _ _ _ (c .before .before .before .before .before .before .before .before .step-at .ensures) (c .before .before .before .stepped2 .given .1) (d .at) (d .left - 1) (c .before .if3 .taken) (c .full .ensures), z .pre .1 .0 .remembers)
+    let d = c .before .before .before .before .before .before .before .before .before .before .before .before .before .before .before .args .depth in
+    (begun-full (c .before .before .before .before .before .before .before .before .before .before .before .before .before .before .before .pre .1 .0 .can) (c .before .before .before .before .before .before .before .before .before .before .before .before .before .before .before .pre .1 .1 .1) _ _ _ (c .before .before .before .before .before .before .before .before .step-at .ensures) (c .before .before .before .stepped2 .given .1) (d .at) (d .left - 1) (c .before .if3 .taken) (c .full .ensures), c .before .before .before .before .before .before .before .before .before .before .before .before .before .before .before .pre .1 .0 .remembers)
 
 try-move-none-requires-2 : (t : ℕ) → try-move-lts.Need-none-requires-2 (try-move-claims t) (try-move-at t) try-move.Post
 try-move-none-requires-2 t c κs = search needs
@@ -180,32 +173,38 @@ try-move-same-length t c = search needs
 
 try-move-returns-3 : (t : ℕ) → try-move-lts.Need-returns-3 (try-move-claims t) (try-move-at t) try-move.Post
 try-move-returns-3 t c =
-    let z = c .before .before .before .before .before .before .before .before .before .before .before .before .before .before .before .before .before .before .before .before .before .before .before .before .before .before in
-    let d = z .args .depth in
-    (begun-ended (z .pre .1 .0 .can) (z .pre .1 .1 .1) _ _ _ (c .before .before .before .before .before .before .before .before .before .before .before .before .before .before .before .before .before .before .step-at .ensures) (c .before .before .before .before .before .before .before .before .before .before .before .before .before .stepped .given .1) (d .at) (d .left - 1) (c .before .before .before .before .try-plans .ensures .0) (sym (c .before .is-end .ensures) ∙ c .if2 .taken), c .before .before .before .before .try-plans .ensures .1)
+    let d = c .before .before .before .before .before .before .before .before .before .before .before .before .before .before .before .before .before .before .before .before .before .before .before .before .before .args .depth in
+    (begun-ended (c .before .before .before .before .before .before .before .before .before .before .before .before .before .before .before .before .before .before .before .before .before .before .before .before .before .pre .1 .0 .can) (c .before .before .before .before .before .before .before .before .before .before .before .before .before .before .before .before .before .before .before .before .before .before .before .before .before .pre .1 .1 .1) _ _ _ (c .before .before .before .before .before .before .before .before .before .before .before .before .before .before .before .before .before .before .step-at .ensures) (c .before .before .before .before .before .before .before .before .before .before .before .before .before .stepped .given .1) (d .at) (d .left - 1) (c .before .before .before .before .try-plans .ensures .0) (sym (c .before .is-end .ensures) ∙ c .if2 .taken), c .before .before .before .before .try-plans .ensures .1)
 
 try-move-same-length-2 : (t : ℕ) → try-move-lts.Need-same-length-2 (try-move-claims t) (try-move-at t) try-move.Post
 try-move-same-length-2 t c = search needs
 
 try-move-returns-4 : (t : ℕ) → try-move-lts.Need-returns-4 (try-move-claims t) (try-move-at t) try-move.Post
 try-move-returns-4 t c =
-    let z = c .before .before .before .before .before .before .before .before .before .before .before .before .before .before .before .before .before .before .before .before .before .before .before .before .before .before in
-    let d = z .args .depth in
-    (begun-not (z .pre .1 .0 .can) (z .pre .1 .1 .1) _ _ _ (c .before .before .before .before .before .before .before .before .before .before .before .before .before .before .before .before .before .before .step-at .ensures) (c .before .before .before .before .before .before .before .before .before .before .before .before .before .stepped .given .1) (d .at) (d .left - 1) (c .before .before .before .before .try-plans .ensures .0) (sym (c .before .is-end .ensures) ∙ c .if2 .left), c .before .before .before .before .try-plans .ensures .1)
+    let d = c .before .before .before .before .before .before .before .before .before .before .before .before .before .before .before .before .before .before .before .before .before .before .before .before .before .args .depth in
+    (begun-not (c .before .before .before .before .before .before .before .before .before .before .before .before .before .before .before .before .before .before .before .before .before .before .before .before .before .pre .1 .0 .can) (c .before .before .before .before .before .before .before .before .before .before .before .before .before .before .before .before .before .before .before .before .before .before .before .before .before .pre .1 .1 .1) _ _ _ (c .before .before .before .before .before .before .before .before .before .before .before .before .before .before .before .before .before .before .step-at .ensures) (c .before .before .before .before .before .before .before .before .before .before .before .before .before .stepped .given .1) (d .at) (d .left - 1) (c .before .before .before .before .try-plans .ensures .0) (sym (c .before .is-end .ensures) ∙ c .if2 .left), c .before .before .before .before .try-plans .ensures .1)
 
 try-move-returns-5 : (t : ℕ) → try-move-lts.Need-returns-5 (try-move-claims t) (try-move-at t) try-move.Post
 try-move-returns-5 t c =
-    let z = c .before .before .before .before .before .before .before .before .before .before .before .before .before .before .before .before in
-    let d = z .args .depth in
-    (begun-stopped (z .pre .1 .0 .can) (z .pre .1 .1 .1) _ _ _ (c .before .before .before .before .before .before .before .before .step-at .ensures) (c .before .before .before .stepped2 .given .1) (d .at) (d .left - 1) (c .before .if3 .left) (c .none2 .ensures), z .pre .1 .0 .remembers)
+    let d = c .before .before .before .before .before .before .before .before .before .before .before .before .before .before .before .args .depth in
+    (begun-stopped (c .before .before .before .before .before .before .before .before .before .before .before .before .before .before .before .pre .1 .0 .can) (c .before .before .before .before .before .before .before .before .before .before .before .before .before .before .before .pre .1 .1 .1) _ _ _ (c .before .before .before .before .before .before .before .before .step-at .ensures) (c .before .before .before .stepped2 .given .1) (d .at) (d .left - 1) (c .before .if3 .left) (c .none2 .ensures), c .before .before .before .before .before .before .before .before .before .before .before .before .before .before .before .pre .1 .0 .remembers)
 
 abbrev try-plans-Inv-loop : try-plans-lts.InvT-loop
-try-plans-Inv-loop moves goal depth trues falses count memory₀ left move-count index₀ memory index =
-    (firstBelow (firstBy (setsIn goal) (actionOf moves) move-count (depth .at) (entriesOf count trues falses) (depth .left - 1)) index ≡ nothing)
-    × (index ≤ move-count) × (length memory ≡ length memory₀) × Remembers moves move-count goal memory
+try-plans-Inv-loop packed depth trues falses count memory₀ left move-count index₀ memory index =
+    (firstBelow (firstBy (setsIn (goalIn packed)) (actionOf (movesIn packed)) move-count (depth .at) (entriesOf count trues falses) (depth .left - 1)) index ≡ nothing)
+    × (index ≤ move-count) × (length memory ≡ length memory₀) × Remembers packed move-count memory
 
 abbrev try-plans-μ-loop : try-plans-lts.MeasureT-loop
-try-plans-μ-loop moves goal depth trues falses count memory₀ left move-count index₀ memory index = move-count - index
+try-plans-μ-loop packed depth trues falses count memory₀ left move-count index₀ memory index = move-count - index
+
+try-plans-sub-goal : (t : ℕ) → try-plans-lts.Need-sub-goal (try-plans-claims t) (try-plans-at t) try-plans.Post try-plans-Inv-loop try-plans-μ-loop
+try-plans-sub-goal t c = search needs
+
+try-plans-part-goal-start : (t : ℕ) → try-plans-lts.Need-part-goal-start (try-plans-claims t) (try-plans-at t) try-plans.Post try-plans-Inv-loop try-plans-μ-loop
+try-plans-part-goal-start t c = search needs
+
+try-plans-part-goal-end : (t : ℕ) → try-plans-lts.Need-part-goal-end (try-plans-claims t) (try-plans-at t) try-plans.Post try-plans-Inv-loop try-plans-μ-loop
+try-plans-part-goal-end t c = omega (arith, c .before .before .before .before .before .pre .1 .can .long)
 
 try-plans-all-in-goal-requires : (t : ℕ) → try-plans-lts.Need-all-in-goal-requires (try-plans-claims t) (try-plans-at t) try-plans.Post try-plans-Inv-loop try-plans-μ-loop
 try-plans-all-in-goal-requires t c κs = let h = c .before .before .before .before .before .before .pre .1 .can in (h .goal-fits, slots-room h)
@@ -213,9 +212,8 @@ try-plans-all-in-goal-requires t c κs = let h = c .before .before .before .befo
 try-plans-returns : (t : ℕ) → try-plans-lts.Need-returns (try-plans-claims t) (try-plans-at t) try-plans.Post try-plans-Inv-loop try-plans-μ-loop
 unfolding entries
 try-plans-returns t c =
-    let z = c .before .before .before .before .before .before .before .before in
-    let s = z .args in
-    (at-goal (setsIn (now (s .goal))) (actionOf (now (s .moves))) (s .depth .moves) (s .depth .at) (entriesOf (s .count) (now (s .trues)) (now (s .falses))) (s .depth .left) (c .before .before .if1 .taken) (sym (c .before .all-in-goal .ensures) ∙ c .if2 .taken), z .pre .1 .remembers)
+    let s = c .before .before .before .before .before .before .before .before .args in
+    (at-goal (setsIn (goalIn (now (s .packed)))) (actionOf (movesIn (now (s .packed)))) (s .depth .moves) (s .depth .at) (entriesOf (s .count) (now (s .trues)) (now (s .falses))) (s .depth .left) (c .before .before .before .if1 .taken) (sym (c .before .all-in-goal .ensures) ∙ c .if2 .taken), c .before .before .before .before .before .before .before .before .pre .1 .remembers)
 
 try-plans-none-requires : (t : ℕ) → try-plans-lts.Need-none-requires (try-plans-claims t) (try-plans-at t) try-plans.Post try-plans-Inv-loop try-plans-μ-loop
 try-plans-none-requires t c κs = search needs
@@ -223,12 +221,11 @@ try-plans-none-requires t c κs = search needs
 try-plans-returns-2 : (t : ℕ) → try-plans-lts.Need-returns-2 (try-plans-claims t) (try-plans-at t) try-plans.Post try-plans-Inv-loop try-plans-μ-loop
 unfolding entries
 try-plans-returns-2 t c =
-    let z = c .before .before .before .before .before .before .before .before .before in
-    let s = z .args in
-    (at-short (setsIn (now (s .goal))) (actionOf (now (s .moves))) (s .depth .moves) (s .depth .at) (entriesOf (s .count) (now (s .trues)) (now (s .falses))) (s .depth .left) (c .before .before .before .if1 .taken) _ (sym (c .before .before .all-in-goal .ensures) ∙ c .before .if2 .left) (c .none .ensures), z .pre .1 .remembers)
+    let s = c .before .before .before .before .before .before .before .before .before .args in
+    (at-short (setsIn (goalIn (now (s .packed)))) (actionOf (movesIn (now (s .packed)))) (s .depth .moves) (s .depth .at) (entriesOf (s .count) (now (s .trues)) (now (s .falses))) (s .depth .left) (c .before .before .before .before .if1 .taken) _ (sym (c .before .before .all-in-goal .ensures) ∙ c .before .if2 .left) (c .none .ensures), c .before .before .before .before .before .before .before .before .before .pre .1 .remembers)
 
 try-plans-remembered-requires : (t : ℕ) → try-plans-lts.Need-remembered-requires (try-plans-claims t) (try-plans-at t) try-plans.Post try-plans-Inv-loop try-plans-μ-loop
-try-plans-remembered-requires t c κs = storable (c .before .before .before .before .before .before .before .pre .1 .can)
+try-plans-remembered-requires t c κs = storable (c .before .before .before .before .before .before .pre .1 .can)
 
 try-plans-none-requires-2 : (t : ℕ) → try-plans-lts.Need-none-requires-2 (try-plans-claims t) (try-plans-at t) try-plans.Post try-plans-Inv-loop try-plans-μ-loop
 try-plans-none-requires-2 t c κs = search needs
@@ -239,31 +236,29 @@ try-plans-same-length t c = search needs
 try-plans-returns-3 : (t : ℕ) → try-plans-lts.Need-returns-3 (try-plans-claims t) (try-plans-at t) try-plans.Post try-plans-Inv-loop try-plans-μ-loop
 unfolding entries
 try-plans-returns-3 t c =
-    let z = c .before .before .before .before .before .before .before .before .before .before in
-    let s = z .args in (
-      no-answer (setsIn (now (s .goal))) (actionOf (now (s .moves))) (s .depth .moves) (s .depth .at) (entriesOf (s .count) (now (s .trues)) (now (s .falses))) (s .depth .left)
-          (skip (now (s .moves)) (s .depth .moves) (now (s .goal)) (s .depth .at) (z .pre .1 .remembers) (c .before .before .remembered .ensures (c .before .if3 .taken)))
+    let s = c .before .before .before .before .before .before .before .before .before .args in (
+      no-answer (setsIn (goalIn (now (s .packed)))) (actionOf (movesIn (now (s .packed)))) (s .depth .moves) (s .depth .at) (entriesOf (s .count) (now (s .trues)) (now (s .falses))) (s .depth .left)
+          (skip (now (s .packed)) (s .depth .moves) (s .depth .at) (c .before .before .before .before .before .before .before .before .before .pre .1 .remembers) (c .before .before .remembered .ensures (c .before .if3 .taken)))
           (c .none2 .ensures),
-      z .pre .1 .remembers,
+      c .before .before .before .before .before .before .before .before .before .pre .1 .remembers,
     )
 
 try-plans-remember-requires : (t : ℕ) → try-plans-lts.Need-remember-requires (try-plans-claims t) (try-plans-at t) try-plans.Post try-plans-Inv-loop try-plans-μ-loop
-try-plans-remember-requires t c κs = let h = c .before .before .before .before .before .before .before .before .before .before .pre .1 in (omega (arith, h .most), storable (h .can))
+try-plans-remember-requires t c κs = let h = c .before .before .before .before .before .before .before .before .before .pre .1 in (omega (arith, h .most), storable (h .can))
 
 try-plans-loop-holds : (t : ℕ) → try-plans-lts.Need-loop-holds (try-plans-claims t) (try-plans-at t) try-plans.Post try-plans-Inv-loop try-plans-μ-loop
 unfolding entries
 try-plans-loop-holds t c =
-    let z = c .before .before .before .before .before .before .before .before .before .before .before .before .before in
-    let s = z .args in (
+    let s = c .before .before .before .before .before .before .before .before .before .before .before .before .args in (
       refl,
       omega arith,
       refl,
-      c .before .before .remember .ensures (now (s .moves)) (s .depth .moves) (now (s .goal)) (z .pre .1 .remembers) (entered (now (s .moves)) (s .depth .moves) (now (s .goal)) (entriesOf (s .count) (now (s .trues)) (now (s .falses))) (s .depth .at) (s .depth .left) (z .pre .1 .no-shorter)),
+      c .before .before .remember .ensures (now (s .packed)) (s .depth .moves) (c .before .before .before .before .before .before .before .before .before .before .before .before .pre .1 .remembers) (entered (now (s .packed)) (s .depth .moves) (entriesOf (s .count) (now (s .trues)) (now (s .falses))) (s .depth .at) (s .depth .left) (c .before .before .before .before .before .before .before .before .before .before .before .before .pre .1 .no-shorter)),
     )
 
 try-plans-try-move-requires : (t : ℕ) → try-plans-lts.Need-try-move-requires (try-plans-claims t) (try-plans-at t) try-plans.Post try-plans-Inv-loop try-plans-μ-loop
 try-plans-try-move-requires t c κs =
-    let h = c .before .before .before .before .before .before .before .before .before .before .before .before .before .before .before .before .pre .1 in
+    let h = c .before .before .before .before .before .before .before .before .before .before .before .before .before .before .before .pre .1 in
     let n = c .before .before .before .before .before .before .before .before .before .before .if1 .left in
     (omega (arith, n), (record { can = h .can; most = h .most; no-shorter = h .no-shorter; remembers = c .before .before .loop .inv .3 }, (omega (arith, n), omega arith)))
 
@@ -276,14 +271,14 @@ try-plans-same-length-2 t c = search needs
 try-plans-returns-4 : (t : ℕ) → try-plans-lts.Need-returns-4 (try-plans-claims t) (try-plans-at t) try-plans.Post try-plans-Inv-loop try-plans-μ-loop
 unfolding entries
 try-plans-returns-4 t c =
-    let s = c .before .before .before .before .before .before .before .before .before .before .before .before .before .before .before .before .before .before .before .before .before .args in
+    let s = c .before .before .before .before .before .before .before .before .before .before .before .before .before .before .before .before .before .before .before .before .args in
     let g = c .before .before .before .before .before .before .before .loop in (
-      found-now (setsIn (now (s .goal))) (actionOf (now (s .moves))) (s .depth .moves) (s .depth .at) (entriesOf (s .count) (now (s .trues)) (now (s .falses))) (s .depth .left - 1) (g .index) _ (g .inv .0) (s .depth .left) (omega (arith, c .before .before .before .before .before .before .before .before .before .before .before .before .before .before .before .if1 .left)) (c .before .before .before .before .before .before .loop-test .taken) (c .before .before .before .before .try-move .ensures .0) (sym (c .before .is-end .ensures) ∙ c .if4 .taken),
+      found-now (setsIn (goalIn (now (s .packed)))) (actionOf (movesIn (now (s .packed)))) (s .depth .moves) (s .depth .at) (entriesOf (s .count) (now (s .trues)) (now (s .falses))) (s .depth .left - 1) (g .index) _ (g .inv .0) (s .depth .left) (omega (arith, c .before .before .before .before .before .before .before .before .before .before .before .before .before .before .before .if1 .left)) (c .before .before .before .before .before .before .loop-test .taken) (c .before .before .before .before .try-move .ensures .0) (sym (c .before .is-end .ensures) ∙ c .if4 .taken),
       c .before .before .before .before .try-move .ensures .1,
     )
 
 try-plans-add-index : (t : ℕ) → try-plans-lts.Need-add-index (try-plans-claims t) (try-plans-at t) try-plans.Post try-plans-Inv-loop try-plans-μ-loop
-try-plans-add-index t c = omega (arith, c .before .before .before .before .before .before .before .before .before .before .before .before .before .before .before .before .before .before .before .before .before .pre .1 .can .most)
+try-plans-add-index t c = omega (arith, c .before .before .before .before .before .before .before .before .before .before .before .before .before .before .before .before .before .before .before .before .pre .1 .can .most)
 
 try-plans-loop-less : (t : ℕ) → try-plans-lts.Need-loop-less (try-plans-claims t) (try-plans-at t) try-plans.Post try-plans-Inv-loop try-plans-μ-loop
 try-plans-loop-less t c = search needs
@@ -291,19 +286,19 @@ try-plans-loop-less t c = search needs
 try-plans-loop-again : (t : ℕ) → try-plans-lts.Need-loop-again (try-plans-claims t) (try-plans-at t) try-plans.Post try-plans-Inv-loop try-plans-μ-loop
 unfolding entries
 try-plans-loop-again t c =
-    let s = c .before .before .before .before .before .before .before .before .before .before .before .before .before .before .before .before .before .before .before .before .before .args in
+    let s = c .before .before .before .before .before .before .before .before .before .before .before .before .before .before .before .before .before .before .before .before .args in
     let g = c .before .before .before .before .before .before .before .loop in (
-      not-yet (setsIn (now (s .goal))) (actionOf (now (s .moves))) (s .depth .moves) (s .depth .at) (entriesOf (s .count) (now (s .trues)) (now (s .falses))) (s .depth .left - 1) (g .index) _ (g .inv .0) (c .before .before .before .before .try-move .ensures .0) (sym (c .before .is-end .ensures) ∙ c .if4 .left),
+      not-yet (setsIn (goalIn (now (s .packed)))) (actionOf (movesIn (now (s .packed)))) (s .depth .moves) (s .depth .at) (entriesOf (s .count) (now (s .trues)) (now (s .falses))) (s .depth .left - 1) (g .index) _ (g .inv .0) (c .before .before .before .before .try-move .ensures .0) (sym (c .before .is-end .ensures) ∙ c .if4 .left),
       omega arith,
       search needs,
       c .before .before .before .before .try-move .ensures .1,
     )
 
 try-plans-add-remember : (t : ℕ) → try-plans-lts.Need-add-remember (try-plans-claims t) (try-plans-at t) try-plans.Post try-plans-Inv-loop try-plans-μ-loop
-try-plans-add-remember t c = omega (arith, c .before .before .before .before .before .before .before .before .before .before .before .before .before .before .before .before .pre .1 .most)
+try-plans-add-remember t c = omega (arith, c .before .before .before .before .before .before .before .before .before .before .before .before .before .before .before .pre .1 .most)
 
 try-plans-remember-requires-2 : (t : ℕ) → try-plans-lts.Need-remember-requires-2 (try-plans-claims t) (try-plans-at t) try-plans.Post try-plans-Inv-loop try-plans-μ-loop
-try-plans-remember-requires-2 t c κs = let h = c .before .before .before .before .before .before .before .before .before .before .before .before .before .before .before .before .pre .1 in (omega (arith, h .most), storable (h .can))
+try-plans-remember-requires-2 t c κs = let h = c .before .before .before .before .before .before .before .before .before .before .before .before .before .before .before .pre .1 in (omega (arith, h .most), storable (h .can))
 
 try-plans-none-requires-3 : (t : ℕ) → try-plans-lts.Need-none-requires-3 (try-plans-claims t) (try-plans-at t) try-plans.Post try-plans-Inv-loop try-plans-μ-loop
 try-plans-none-requires-3 t c κs = search needs
@@ -314,12 +309,11 @@ try-plans-same-length-3 t c = search needs
 try-plans-returns-5 : (t : ℕ) → try-plans-lts.Need-returns-5 (try-plans-claims t) (try-plans-at t) try-plans.Post try-plans-Inv-loop try-plans-μ-loop
 unfolding entries
 try-plans-returns-5 t c =
-    let z = c .before .before .before .before .before .before .before .before .before .before .before .before .before .before .before .before .before .before .before .before in
-    let s = z .args in
+    let s = c .before .before .before .before .before .before .before .before .before .before .before .before .before .before .before .before .before .before .before .args in
     let g = c .before .before .before .before .before .before .loop in
-    let q = none-at-all (setsIn (now (s .goal))) (actionOf (now (s .moves))) (s .depth .moves) (s .depth .at) (entriesOf (s .count) (now (s .trues)) (now (s .falses))) (s .depth .left - 1) (g .index) (c .none3 .result) (g .inv .0) (s .depth .left) (omega (arith, c .before .before .before .before .before .before .before .before .before .before .before .before .before .before .if1 .left)) (omega (arith, c .before .before .before .before .before .loop-test .left, g .inv .1)) in (
-      no-answer (setsIn (now (s .goal))) (actionOf (now (s .moves))) (s .depth .moves) (s .depth .at) (entriesOf (s .count) (now (s .trues)) (now (s .falses))) (s .depth .left) q (c .none3 .ensures),
-      c .before .before .before .remember2 .ensures (now (s .moves)) (s .depth .moves) (now (s .goal)) (g .inv .3) (tried (now (s .moves)) (s .depth .moves) (now (s .goal)) (entriesOf (s .count) (now (s .trues)) (now (s .falses))) (s .depth .at) (s .depth .left) (z .pre .1 .no-shorter) q),
+    let q = none-at-all (setsIn (goalIn (now (s .packed)))) (actionOf (movesIn (now (s .packed)))) (s .depth .moves) (s .depth .at) (entriesOf (s .count) (now (s .trues)) (now (s .falses))) (s .depth .left - 1) (g .index) (c .none3 .result) (g .inv .0) (s .depth .left) (omega (arith, c .before .before .before .before .before .before .before .before .before .before .before .before .before .before .if1 .left)) (omega (arith, c .before .before .before .before .before .loop-test .left, g .inv .1)) in (
+      no-answer (setsIn (goalIn (now (s .packed)))) (actionOf (movesIn (now (s .packed)))) (s .depth .moves) (s .depth .at) (entriesOf (s .count) (now (s .trues)) (now (s .falses))) (s .depth .left) q (c .none3 .ensures),
+      c .before .before .before .remember2 .ensures (now (s .packed)) (s .depth .moves) (g .inv .3) (tried (now (s .packed)) (s .depth .moves) (entriesOf (s .count) (now (s .trues)) (now (s .falses))) (s .depth .at) (s .depth .left) (c .before .before .before .before .before .before .before .before .before .before .before .before .before .before .before .before .before .before .before .pre .1 .no-shorter) q),
     )
 
 pub +try-move+try-plans-spec : {M : Type 1} → statement M
@@ -336,7 +330,7 @@ pub +try-move+try-plans-spec : {M : Type 1} → statement M
     (try-move-same-requires t)
     (try-move-none-requires t)
     (try-move-returns t)
-    (try-move-add-t28 t)
+    (try-move-add-t27 t)
     (try-move-slice-aggregate-try-plans t)
     (try-move-slice-aggregate-try-plans-2 t)
     (try-move-try-plans-requires t)
@@ -357,6 +351,9 @@ pub +try-move+try-plans-spec : {M : Type 1} → statement M
     try-plans.Post
     try-plans-Inv-loop
     try-plans-μ-loop
+    (try-plans-sub-goal t)
+    (try-plans-part-goal-start t)
+    (try-plans-part-goal-end t)
     (try-plans-all-in-goal-requires t)
     (try-plans-returns t)
     (try-plans-none-requires t)

@@ -4,7 +4,7 @@ use Prim.Native.Nat.{_+_, _-_, _≤_}
 use native.Mathlib.Omega.{arith}
 use borrow.Author.Needs.{needs}
 use denote.Ref.{now}
-use Rattle.sheet.specs.Packed.{setsIn}
+use Rattle.sheet.specs.Packed.{goalIn, movesIn, setsIn}
 use Rattle.table.specs.Slots.{entriesOf, entries}
 use Rattle.plan.specs.Search.{nothing}
 use Rattle.sheet.specs.Packed.{actionOf}
@@ -18,30 +18,29 @@ use Rattle.plan.proofs.searches.lengths.Statement.{statement}
 use Rattle.plan.proofs.searches.lengths.Tie as tie
 
 abbrev Inv-loop : tie.InvT-loop
-Inv-loop moves goal move-count trues falses count limit memory₀ length₀ memory length =
-    (firstBelow (firstFrom (setsIn goal) (actionOf moves) move-count 0 (entriesOf count trues falses)) length ≡ nothing) × (length ≤ limit + 1) × (N.length memory ≡ N.length memory₀) × Remembers moves move-count goal memory
+Inv-loop packed move-count trues falses count limit memory₀ length₀ memory length =
+    (firstBelow (firstFrom (setsIn (goalIn packed)) (actionOf (movesIn packed)) move-count 0 (entriesOf count trues falses)) length ≡ nothing) × (length ≤ limit + 1) × (N.length memory ≡ N.length memory₀) × Remembers packed move-count memory
 
 abbrev μ-loop : tie.MeasureT-loop
-μ-loop moves goal move-count trues falses count limit memory₀ length₀ memory length = limit + 1 - length
+μ-loop packed move-count trues falses count limit memory₀ length₀ memory length = limit + 1 - length
 
 forget-requires : tie.Need-forget-requires Inv-loop μ-loop
 forget-requires c κs = search needs
 
 loop-holds : tie.Need-loop-holds Inv-loop μ-loop
 loop-holds c =
-    let s = c .before .before .before .before .before .before .before .before .before .args in
-    (refl, omega arith, refl, c .before .before .forget .ensures (now (s .moves)) (s .move-count) (now (s .goal)))
+    let s = c .before .before .before .before .before .before .before .before .args in
+    (refl, omega arith, refl, c .before .before .forget .ensures (now (s .packed)) (s .move-count))
 
 try-plans-requires : tie.Need-try-plans-requires Inv-loop μ-loop
 unfolding entries
 try-plans-requires c κs =
-    let z = c .before .before .before .before .before .before .before .before .before .before .before .before in
-    let s = z .args in
+    let s = c .before .before .before .before .before .before .before .before .before .before .before .args in
     let g = c .before .before .loop in
     record {
-      can = z .pre .0;
+      can = c .before .before .before .before .before .before .before .before .before .before .before .pre .0;
       most = omega arith;
-      no-shorter = quiet-lengths (setsIn (now (s .goal))) (actionOf (now (s .moves))) (s .move-count) (entriesOf (s .count) (now (s .trues)) (now (s .falses))) (g .length) (g .inv .0);
+      no-shorter = quiet-lengths (setsIn (goalIn (now (s .packed)))) (actionOf (movesIn (now (s .packed)))) (s .move-count) (entriesOf (s .count) (now (s .trues)) (now (s .falses))) (g .length) (g .inv .0);
       remembers = g .inv .3;
     }
 
@@ -54,9 +53,9 @@ same-length c = search needs
 returns : tie.Need-returns Inv-loop μ-loop
 unfolding entries
 returns c =
-    let s = c .before .before .before .before .before .before .before .before .before .before .before .before .before .before .before .before .before .args in
+    let s = c .before .before .before .before .before .before .before .before .before .before .before .before .before .before .before .before .args in
     let g = c .before .before .before .before .before .before .before .loop in
-    length-found (setsIn (now (s .goal))) (actionOf (now (s .moves))) (s .move-count) (entriesOf (s .count) (now (s .trues)) (now (s .falses))) (s .limit) (g .length) _ (g .inv .0) (c .before .before .before .before .before .before .loop-test .taken) (c .before .before .before .before .try-plans .ensures .0) (sym (c .before .is-end .ensures) ∙ c .if1 .taken)
+    length-found (setsIn (goalIn (now (s .packed)))) (actionOf (movesIn (now (s .packed)))) (s .move-count) (entriesOf (s .count) (now (s .trues)) (now (s .falses))) (s .limit) (g .length) _ (g .inv .0) (c .before .before .before .before .before .before .loop-test .taken) (c .before .before .before .before .try-plans .ensures .0) (sym (c .before .is-end .ensures) ∙ c .if1 .taken)
 
 add-length : tie.Need-add-length Inv-loop μ-loop
 add-length c = search needs
@@ -67,9 +66,9 @@ loop-less c = search needs
 loop-again : tie.Need-loop-again Inv-loop μ-loop
 unfolding entries
 loop-again c =
-    let s = c .before .before .before .before .before .before .before .before .before .before .before .before .before .before .before .before .before .args in
+    let s = c .before .before .before .before .before .before .before .before .before .before .before .before .before .before .before .before .args in
     let g = c .before .before .before .before .before .before .before .loop in
-    (length-next (setsIn (now (s .goal))) (actionOf (now (s .moves))) (s .move-count) (entriesOf (s .count) (now (s .trues)) (now (s .falses))) (s .limit) (g .length) _ (g .inv .0) (c .before .before .before .before .try-plans .ensures .0) (sym (c .before .is-end .ensures) ∙ c .if1 .left), omega arith, search needs, c .before .before .before .before .try-plans .ensures .1)
+    (length-next (setsIn (goalIn (now (s .packed)))) (actionOf (movesIn (now (s .packed)))) (s .move-count) (entriesOf (s .count) (now (s .trues)) (now (s .falses))) (s .limit) (g .length) _ (g .inv .0) (c .before .before .before .before .try-plans .ensures .0) (sym (c .before .is-end .ensures) ∙ c .if1 .left), omega arith, search needs, c .before .before .before .before .try-plans .ensures .1)
 
 none-requires : tie.Need-none-requires Inv-loop μ-loop
 none-requires c κs = search needs
@@ -80,9 +79,9 @@ same-length-2 c = search needs
 returns-2 : tie.Need-returns-2 Inv-loop μ-loop
 unfolding entries
 returns-2 c =
-    let s = c .before .before .before .before .before .before .before .before .before .before .before .before .args in
+    let s = c .before .before .before .before .before .before .before .before .before .before .before .args in
     let g = c .before .before .loop in
-    length-none (setsIn (now (s .goal))) (actionOf (now (s .moves))) (s .move-count) (entriesOf (s .count) (now (s .trues)) (now (s .falses))) (s .limit) (g .length) _ (g .inv .0) (omega arith) (c .none .ensures)
+    length-none (setsIn (goalIn (now (s .packed)))) (actionOf (movesIn (now (s .packed)))) (s .move-count) (entriesOf (s .count) (now (s .trues)) (now (s .falses))) (s .limit) (g .length) _ (g .inv .0) (omega arith) (c .none .ensures)
 
 pub lengths-spec : {M : Type 1} → statement M
 lengths-spec =

@@ -1,7 +1,7 @@
 -- `plan::searches::search_sheet` meets its contract. Assumes nothing.
 use mathlib.Core.Path.{_∙_, refl}
 use borrow.Author.Needs.{needs}
-use Rattle.plan.proofs.SheetStarts.{ors-fit, oneofs-fit, can-search, search-is, search-stops}
+use Rattle.plan.proofs.SheetStarts.{can-search, search-is, search-stops}
 use Rattle.plan.proofs.searches.search_sheet.Statement.{statement}
 use Rattle.plan.proofs.searches.search_sheet.Tie as tie
 
@@ -12,9 +12,7 @@ slice-aggregate-first-into-2 : tie.Need-slice-aggregate-first-into-2
 slice-aggregate-first-into-2 c = search needs
 
 first-into-requires : tie.Need-first-into-requires
-first-into-requires c κs =
-    let z = c .before .before .before .before .before .before .before .before in
-    (ors-fit (z .args .sheet) (z .args .ors .now) (z .args .oneofs .now) (z .args .goal .now) (z .args .moves .now) (z .pre .0), (oneofs-fit (z .args .sheet) (z .args .ors .now) (z .args .oneofs .now) (z .args .goal .now) (z .args .moves .now) (z .pre .0), (refl, refl)))
+first-into-requires c κs = (c .before .before .before .before .pre .0, record { trues = refl; falses = refl })
 
 enum-known-count : tie.Need-enum-known-count
 enum-known-count c = search needs
@@ -27,8 +25,7 @@ slice-aggregate-lengths-2 c = search needs
 
 lengths-requires : tie.Need-lengths-requires
 lengths-requires c κs =
-    let z = c .before .before .before .before .before .before .before .before .before .before .before .before .before .before .before .before .before in
-    (can-search (z .args .sheet) (z .args .ors .now) (z .args .oneofs .now) (z .args .goal .now) (z .args .moves .now) (z .pre .0) _ _ _ (c .before .before .before .before .before .before .before .before .first-into .ensures) _ (c .before .before .before .before .count .given .1), z .pre .1)
+    (can-search (c .before .before .before .before .before .before .before .before .before .before .before .before .before .args .sheet) (c .before .before .before .before .before .before .before .before .before .before .before .before .before .args .packed .now) (c .before .before .before .before .before .before .before .before .before .before .before .before .before .pre .0) _ _ _ (c .before .before .before .before .before .before .before .before .first-into .ensures) _ (c .before .before .before .before .count .given .1), c .before .before .before .before .before .before .before .before .before .before .before .before .before .pre .1)
 
 enum-known-number : tie.Need-enum-known-number
 enum-known-number c = search needs
@@ -41,13 +38,11 @@ same-length c = search needs
 
 returns : tie.Need-returns
 returns c =
-    let z = c .before .before .before .before .before .before .before .before .before .before .before .before .before .before .before .before .before .before .before .before in
-    c .before .before .lengths .ensures ∙ search-is (z .args .sheet) (z .args .ors .now) (z .args .oneofs .now) (z .args .goal .now) (z .args .moves .now) (z .pre .0) _ _ _ (c .before .before .before .before .before .before .before .before .before .before .before .first-into .ensures) _ (c .before .before .before .before .before .before .before .count .given .1) (z .args .limit)
+    c .before .before .lengths .ensures ∙ search-is (c .before .before .before .before .before .before .before .before .before .before .before .before .before .before .before .before .args .sheet) (c .before .before .before .before .before .before .before .before .before .before .before .before .before .before .before .before .args .packed .now) (c .before .before .before .before .before .before .before .before .before .before .before .before .before .before .before .before .pre .0) _ _ _ (c .before .before .before .before .before .before .before .before .before .before .before .first-into .ensures) _ (c .before .before .before .before .before .before .before .count .given .1) (c .before .before .before .before .before .before .before .before .before .before .before .before .before .before .before .before .args .limit)
 
 returns-2 : tie.Need-returns-2
 returns-2 c =
-    let z = c .before .before .before .before .before .before .before .before .before .before .before .before .before .before .before in
-    c .refuse-search .ensures ∙ search-stops (z .args .sheet) (z .args .ors .now) (z .args .oneofs .now) (z .args .goal .now) (z .args .moves .now) (z .pre .0) _ _ _ (c .before .before .before .before .before .before .first-into .ensures) _ (c .before .before .number .given .1) (z .args .limit)
+    c .refuse-search .ensures ∙ search-stops (c .before .before .before .before .before .before .before .before .before .before .before .args .sheet) (c .before .before .before .before .before .before .before .before .before .before .before .args .packed .now) (c .before .before .before .before .before .before .before .before .before .before .before .pre .0) _ _ _ (c .before .before .before .before .before .before .first-into .ensures) _ (c .before .before .number .given .1) (c .before .before .before .before .before .before .before .before .before .before .before .args .limit)
 
 pub search-sheet-spec : {M : Type 1} → statement M
 search-sheet-spec =
