@@ -1,5 +1,5 @@
 -- What the functions answer, by cases: a slice is too short, or the call's own answer in numbers. Assumes nothing.
-use mathlib.Core.Path.{_≡_, ap, _∙_}
+use mathlib.Core.Path.{_≡_, refl, ap, _∙_}
 use mathlib.Core.Bool.{Bool, true, false, cond, _||_}
 use mathlib.Core.List.{List, _++_}
 use Prim.Native.Nat.{ℕ, _/_, _≤_, _<_}
@@ -13,6 +13,9 @@ use Rattle.table.specs.declared.Table.{Table}
 use Rattle.table.specs.declared.TableAnswer.{TableAnswer}
 use Rattle.table.specs.declared.PictureAnswer.{PictureAnswer}
 use Rattle.sheet.proofs.base.Bools.{cond-false}
+use Rattle.table.specs.declared.steps.Stepped.{Stepped}
+use Rattle.table.specs.declared.steps.Stepped.the-variants as stepped
+use Rattle.table.specs.Moves.{stepAnswer}
 use Rattle.table.specs.Calls.{startOf, stepOf}
 use Rattle.table.specs.PictureCalls.{pictureOf}
 use Rattle.plan.specs.declared.SearchAnswer.{SearchAnswer}
@@ -20,7 +23,7 @@ use Rattle.plan.specs.declared.Course.{Course}
 use Rattle.plan.specs.Calls.{searchOf}
 use Rattle.plan.specs.Course.{courseOf}
 use Rattle.unit.specs.declared.Reply.{Reply}
-use Rattle.unit.specs.Numbers.{answerReply, verdictReply, kindReply, infoOf, tooShort, tableIn, tableOut}
+use Rattle.unit.specs.Numbers.{steppedAnswer, answerReply, verdictReply, kindReply, infoOf, tooShort, tableIn, tableOut}
 use Rattle.unit.specs.Calls.{judgeReply, startReply, stepReply, pictureReply, searchReply, runReply, runTable}
 
 -- ---- the second of two by a test that does not hold
@@ -58,9 +61,17 @@ pub start-told : (s : List ℕ) (r : TableAnswer) (t : Reply) → r ≡ startOf 
 unfolding startReply
 start-told s r t e q = q ∙ ap (λ (x : TableAnswer). answerReply (x .answer) 0) e
 
-pub step-told : (s xs : List ℕ) (m : ℕ) (r : TableAnswer) (t : Reply) → r ≡ stepOf (sheetOf s) (tableIn xs) m → t ≡ answerReply (r .answer) 0 → t ≡ stepReply s xs m
+-- a step over arrays answers as a call on tables
+stepped-answer : (t : Table) (r : Stepped) (us gs : List ℕ) → steppedAnswer r ≡ stepAnswer t r us gs .answer
+unfolding steppedAnswer
+stepped-answer t (stepped.To k) us gs = refl
+stepped-answer t (stepped.Refused k p) us gs = refl
+
+pub step-told : (s xs : List ℕ) (m : ℕ) (r : Stepped) (us gs : List ℕ) (t : Reply) → stepAnswer (tableIn xs) r us gs ≡ stepOf (sheetOf s) (tableIn xs) m
+    → {a : Answer} → a ≡ steppedAnswer r → t ≡ answerReply a 0 → t ≡ stepReply s xs m
 unfolding stepReply
-step-told s xs m r t q h = h ∙ ap (λ (x : TableAnswer). answerReply (x .answer) 0) q
+step-told s xs m r us gs t q e h =
+    h ∙ ap (λ (x : Answer). answerReply x 0) (e ∙ stepped-answer (tableIn xs) r us gs) ∙ ap (λ (x : TableAnswer). answerReply (x .answer) 0) q
 
 pub picture-told : (s xs : List ℕ) (n : ℕ) (g : Table) (r : PictureAnswer) (t : Reply) → g ≡ tableIn xs → r ≡ pictureOf (sheetOf s) g n → t ≡ answerReply (r .answer) (r .clauses)
     → t ≡ pictureReply s xs n

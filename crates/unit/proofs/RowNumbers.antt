@@ -40,9 +40,9 @@ pub record Rowed (c : Counts) (b : List ℕ) (i : ℕ) (rows : List ℕ) : Type 
 pub rowed-start : (c : Counts) (b : List ℕ) → 3 * c .count ≤ length b → Rowed c b 0 b
 rowed-start c b h = record { upto = omega arith; fits = h; long = refl; is = refl }
 
-pub rowed-step : (c : Counts) (b : List ℕ) (i : ℕ) (rows : List ℕ) → Rowed c b i rows → i < c .count
+rowed-next : (c : Counts) (b : List ℕ) (i : ℕ) (rows : List ℕ) → Rowed c b i rows → i < c .count
     → Rowed c b (i + 1) (set (set (set rows (3 * i) i) (3 * i + 1) (getD (c .entries) i 0)) (3 * i + 2) (getD (c .clauses) i 0))
-rowed-step c b i rows h lt =
+rowed-next c b i rows h lt =
     let p = numbers c i in
     let vs = rowNumbers (rowAt c i) in
     let l : length p ≡ 3 * i = long c i in
@@ -61,6 +61,12 @@ rowed-step c b i rows h lt =
           (ap (λ (k : ℕ). drop (k + 3) (p ++ drop (3 * i) b)) (sym l) ∙ drop-append-add p (drop (3 * i) b) 3 ∙ drop-drop 3 (3 * i) b ∙ ap (λ (k : ℕ). drop k b) at)
           ∙ ap (λ (x : List ℕ). x ++ drop (3 * (i + 1)) b) (sym (ap (numbers c) (add-one i) ∙ more c i));
     }
+
+-- by the row of the place
+pub rowed-step : (c : Counts) (b : List ℕ) (i : ℕ) (rows : List ℕ) → Rowed c b i rows → i < c .count → {row : Row} → row ≡ rowAt c i
+    → Rowed c b (i + 1) (set (set (set rows (3 * i) (row .place)) (3 * i + 1) (row .entries)) (3 * i + 2) (row .clauses))
+rowed-step c b i rows h lt e =
+    subst (λ (x : Row). Rowed c b (i + 1) (set (set (set rows (3 * i) (x .place)) (3 * i + 1) (x .entries)) (3 * i + 2) (x .clauses))) (sym e) (rowed-next c b i rows h lt)
 
 pub rowed-end : (c : Counts) (b : List ℕ) (i : ℕ) (rows : List ℕ) → Rowed c b i rows → c .count ≤ i → rows ≡ collect rowNumbers (rowsIn c) ++ drop (3 * c .count) b
 rowed-end c b i rows h past = let same : i ≡ c .count = omega (arith, h .upto) in h .is ∙ ap (λ (k : ℕ). numbers c k ++ drop (3 * k) b) same

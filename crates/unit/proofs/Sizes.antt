@@ -17,8 +17,8 @@ use Rattle.sheet.specs.Format.{Judgement, accepted, refused as faulty, sheetOf}
 use Rattle.sheet.specs.declared.Answer.{Answer}
 use Rattle.sheet.specs.declared.Answer.the-variants.{Accepted}
 use Rattle.table.specs.declared.Table.{Table}
-use Rattle.table.specs.declared.Counted.{Counted}
-use Rattle.table.specs.Moves.{lent, kept, counted}
+use Rattle.table.specs.declared.steps.Stepped.{Stepped}
+use Rattle.table.specs.Moves.{stepAnswer}
 use Rattle.table.specs.declared.TableAnswer.{TableAnswer}
 use Rattle.table.specs.Worlds.{results}
 use Rattle.table.specs.Minimal.{Outcome, refused, table, putAll, described}
@@ -99,13 +99,11 @@ unfolding stepOf
 fits-step (faulty k p) t m h = h
 fits-step (accepted x) t m h = fits-move (ltb m (length (x .problem .actions))) (x .problem .n) (actionAt (x .problem) m) t h
 
--- the entries that a step put in arrays
-pub step-fits : (s xs : List ℕ) (m : ℕ) (c : Counted) (us gs : List ℕ) → getD xs 0 0 < 2 ^ 32 → counted (tableIn xs) c us gs ≡ stepOf (sheetOf s) (tableIn xs) m
-    → c .answer ≡ Accepted → c .count < 2 ^ 32
+-- the table that a step gave, in arrays
+pub step-fits : (s xs : List ℕ) (m : ℕ) (r : Stepped) (us gs : List ℕ) → getD xs 0 0 < 2 ^ 32 → stepAnswer (tableIn xs) r us gs ≡ stepOf (sheetOf s) (tableIn xs) m
+    → stepAnswer (tableIn xs) r us gs .table .count < 2 ^ 32
 unfolding tableIn
-step-fits s xs m c us gs h q a =
-    subst (λ (x : Answer). kept x (tableIn xs) (lent (c .count) us gs) .count < 2 ^ 32) a
-    (subst (λ (x : TableAnswer). x .table .count < 2 ^ 32) (sym q) (fits-step (sheetOf s) (tableIn xs) m h))
+step-fits s xs m r us gs h q = subst (λ (x : TableAnswer). x .table .count < 2 ^ 32) (sym q) (fits-step (sheetOf s) (tableIn xs) m h)
 
 fits-planned : (p : Problem) (plan : List ℕ) (o : Outcome) → Small o → planned p plan o .table .count < 2 ^ 32
 unfolding planned refusedRun tableOf

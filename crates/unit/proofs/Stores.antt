@@ -8,8 +8,8 @@ use lib.ListN.{length, set, getD, take, drop, length-set, take-append-drop}
 use lib.Seq.{sets-eq, paste, take-paste, drop-paste, take-length, drop-drop, drop-set-lt}
 use Rattle.sheet.specs.Format.{sheetOf}
 use Rattle.table.specs.declared.Table.{Table}
-use Rattle.table.specs.declared.Counted.{Counted}
-use Rattle.table.specs.Moves.{lent, counted}
+use Rattle.table.specs.declared.steps.Stepped.{Stepped}
+use Rattle.table.specs.Moves.{lent, stepAnswer}
 use Rattle.table.specs.Calls.{stepOf}
 use Rattle.table.proofs.Copying.{Copied, copied-step, copied-end, front}
 use Rattle.unit.specs.declared.Reply.{Reply}
@@ -78,8 +78,8 @@ table-back (x ∷ ys) h =
     (sym (take-append-drop 128 (drop 128 ys)) ∙ ap (λ (r : List ℕ). take 128 (drop 128 ys) ++ r) (drop-drop 128 128 ys)))
 
 -- the step of the table in some numbers
-pub numbers-step : (s xs : List ℕ) (m k : ℕ) (c : Counted) (us gs : List ℕ) → k ≡ getD xs 0 0 → let t = lent k (take 128 (drop 1 xs)) (take 128 (drop 129 xs)) in
-    counted t c us gs ≡ stepOf (sheetOf s) t m → counted (tableIn xs) c us gs ≡ stepOf (sheetOf s) (tableIn xs) m
+pub numbers-step : (s xs : List ℕ) (m k : ℕ) (r : Stepped) (us gs : List ℕ) → k ≡ getD xs 0 0 → let t = lent k (take 128 (drop 1 xs)) (take 128 (drop 129 xs)) in
+    stepAnswer t r us gs ≡ stepOf (sheetOf s) t m → stepAnswer (tableIn xs) r us gs ≡ stepOf (sheetOf s) (tableIn xs) m
 unfolding tableIn
-numbers-step s xs m k c us gs e q =
-    subst (λ (j : ℕ). counted (lent j (take 128 (drop 1 xs)) (take 128 (drop 129 xs))) c us gs ≡ stepOf (sheetOf s) (lent j (take 128 (drop 1 xs)) (take 128 (drop 129 xs))) m) e q
+numbers-step s xs m k r us gs e q =
+    subst (λ (j : ℕ). stepAnswer (lent j (take 128 (drop 1 xs)) (take 128 (drop 129 xs))) r us gs ≡ stepOf (sheetOf s) (lent j (take 128 (drop 1 xs)) (take 128 (drop 129 xs))) m) e q

@@ -8,6 +8,8 @@ use Rattle.sheet.specs.declared.Answer.{Answer}
 use Rattle.sheet.specs.declared.Answer.the-variants as answer
 use Rattle.sheet.specs.Calls.{numberOf, positionOf}
 use Rattle.table.specs.declared.Table.{Table}
+use Rattle.table.specs.declared.steps.Stepped.{Stepped}
+use Rattle.table.specs.declared.steps.Stepped.the-variants as stepped
 use Rattle.plan.specs.declared.Row.{Row}
 use Rattle.plan.specs.declared.Verdict.{Verdict}
 use Rattle.plan.specs.declared.Verdict.the-variants as verdict
@@ -17,6 +19,11 @@ use Rattle.plan.specs.Cases.{verdictAnswer, verdictPlace, verdictNumber, kindAn
 use Rattle.unit.specs.declared.Reply.{Reply}
 
 -- ---- answers
+-- the answer of a step over arrays
+unfoldable pub steppedAnswer : Stepped → Answer
+steppedAnswer (stepped.To k) = answer.Accepted
+steppedAnswer (stepped.Refused number position) = answer.Refused number position
+
 -- a number that an accepted call has, 0 for a refused one
 unfoldable pub ifAccepted : Answer → ℕ → ℕ
 ifAccepted answer.Accepted n = n

@@ -89,12 +89,12 @@ pub extern "C" fn krepuskilo_picture(
 pub extern "C" fn krepuskilo_step(
     sheet: &[u8],
     table: &mut [u32],
-    number: u64,
+    index: u64,
     info: &mut [u64],
 ) -> u8
-    ensures { λ r. ⌜ r ≡ cond (tooShort 257 (now (table .entry)) (now (info .entry))) 255 (U.stepReply (now (sheet .entry)) (now (table .entry)) number .answer) ⌝ }
-    ensures { λ r. ⌜ now (table .exit) ≡ cond (tooShort 257 (now (table .entry)) (now (info .entry))) (now (table .entry)) (tableOut (stepOf (sheetOf (now (sheet .entry))) (tableIn (now (table .entry))) number .table) (now (table .entry))) ⌝ }
-    ensures { λ r. ⌜ now (info .exit) ≡ cond (tooShort 257 (now (table .entry)) (now (info .entry))) (now (info .entry)) (infoOf (U.stepReply (now (sheet .entry)) (now (table .entry)) number) (now (info .entry))) ⌝ }
+    ensures { λ r. ⌜ r ≡ cond (tooShort 257 (now (table .entry)) (now (info .entry))) 255 (U.stepReply (now (sheet .entry)) (now (table .entry)) index .answer) ⌝ }
+    ensures { λ r. ⌜ now (table .exit) ≡ cond (tooShort 257 (now (table .entry)) (now (info .entry))) (now (table .entry)) (tableOut (stepOf (sheetOf (now (sheet .entry))) (tableIn (now (table .entry))) index .table) (now (table .entry))) ⌝ }
+    ensures { λ r. ⌜ now (info .exit) ≡ cond (tooShort 257 (now (table .entry)) (now (info .entry))) (now (info .entry)) (infoOf (U.stepReply (now (sheet .entry)) (now (table .entry)) index) (now (info .entry))) ⌝ }
 {
     if table.len() < 257 {
         return 255;
@@ -104,9 +104,8 @@ pub extern "C" fn krepuskilo_step(
     }
     let mut trues = [0u32; 128];
     let mut falses = [0u32; 128];
-    let stepped = numbers::step_numbers(sheet, table, number as usize, &mut trues, &mut falses);
-    let answer = stepped.answer;
-    let reply = numbers::answer_reply(answer, 0);
+    let stepped = numbers::step_numbers(sheet, table, index as usize, &mut trues, &mut falses);
+    let reply = numbers::answer_reply(numbers::step_answer(stepped), 0);
     numbers::write_step(table, stepped, &trues, &falses);
     numbers::write_info(info, reply);
     reply.answer
@@ -182,7 +181,7 @@ pub extern "C" fn krepuskilo_run(
     let mut falses = [0u32; 128];
     let mut entries = [0usize; 65];
     let mut clauses = [0usize; 65];
-    let went = plan::runs::course_into(
+    let ran = plan::runs::course_into(
         sheet,
         rows.len() / 3,
         &mut trues,
@@ -190,10 +189,10 @@ pub extern "C" fn krepuskilo_run(
         &mut entries,
         &mut clauses,
     );
-    let verdict = went.verdict;
+    let verdict = ran.verdict;
     let reply = numbers::verdict_reply(verdict);
-    numbers::write_row_numbers(rows, went.rows, &entries, &clauses);
-    numbers::write_entries(table, went.size, &trues, &falses);
+    numbers::write_row_numbers(rows, ran.rows, &entries, &clauses);
+    numbers::write_entries(table, ran.count, &trues, &falses);
     numbers::write_info(info, reply);
     reply.answer
 }

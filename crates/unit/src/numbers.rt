@@ -3,24 +3,25 @@ use crate::Reply;
 use plan::Kind;
 use plan::SearchAnswer;
 use plan::Verdict;
+use plan::rows::row_at;
 use sheet::Answer;
 use sheet::packed::wide;
-use table::Counted;
 use table::Table;
 use table::slots::copy_masks;
 use table::step_lent;
+use table::steps::Stepped;
 ghost use mathlib.Core.Path.{_≡_};
 ghost use mathlib.Core.List.{_++_};
 ghost use Prim.Native.Nat.{_+_, _*_, _^_, _≤_, _<_};
-ghost use lib.ListN.{length, drop, replicate};
-ghost use Rattle.sheet.specs.declared.Answer.the-variants.{Accepted};
+ghost use lib.ListN.{length, drop};
 ghost use Rattle.sheet.specs.Lists.{collect};
 ghost use Rattle.sheet.specs.Format.{sheetOf};
 ghost use Rattle.table.specs.Calls.{stepOf};
-ghost use Rattle.table.specs.Moves.{lent, kept, counted};
+ghost use Rattle.table.specs.Moves.{lent, stepAnswer};
+ghost use Rattle.table.specs.Slots.{Fresh};
 ghost use Rattle.plan.specs.Course.{countsIn};
 ghost use Rattle.plan.specs.Rows.{rowsIn};
-ghost use Rattle.unit.specs.Numbers.{answerReply, verdictReply, kindReply, infoOf, tableIn, tableOut, rowNumbers};
+ghost use Rattle.unit.specs.Numbers.{steppedAnswer, answerReply, verdictReply, kindReply, infoOf, tableIn, tableOut, rowNumbers};
 
 // An answer in numbers; `extra` is the second number of info if it is accepted.
 pub(crate) fn answer_reply(answer: Answer, extra: u64) -> Reply
@@ -41,6 +42,16 @@ pub(crate) fn answer_reply(answer: Answer, extra: u64) -> Reply
             place: 0,
             detail: 0,
         },
+    }
+}
+
+// The answer of a step over arrays.
+pub(crate) fn step_answer(stepped: Stepped) -> Answer
+    ensures { λ r. ⌜ r ≡ steppedAnswer stepped ⌝ }
+{
+    match stepped {
+        Stepped::To(_) => Answer::Accepted,
+        Stepped::Refused(number, position) => Answer::Refused(number, position),
     }
 }
 
@@ -191,61 +202,58 @@ pub(crate) fn write_table(numbers: &mut [u32], table: Table)
 pub(crate) fn step_numbers<'a, 'b, 'c>(
     sheet: &'a [u8],
     numbers: &'b [u32],
-    number: usize,
-    trues: &'c mut [u32],
-    falses: &'c mut [u32],
-) -> Counted
+    index: usize,
+    to_trues: &'c mut [u32],
+    to_falses: &'c mut [u32],
+) -> Stepped
     requires { ⌜ 257 ≤ length (now numbers) ⌝ }
-    requires { ⌜ (now trues ≡ replicate 128 0) × (now falses ≡ replicate 128 0) ⌝ }
-    ensures { λ r. ⌜ counted (tableIn (now (numbers .entry))) r (now (trues .exit)) (now (falses .exit)) ≡ stepOf (sheetOf (now (sheet .entry))) (tableIn (now (numbers .entry))) number ⌝ }
+    requires { ⌜ Fresh (now «to_trues») (now «to_falses») ⌝ }
+    ensures { λ r. ⌜ stepAnswer (tableIn (now (numbers .entry))) r (now («to_trues» .exit)) (now («to_falses» .exit)) ≡ stepOf (sheetOf (now (sheet .entry))) (tableIn (now (numbers .entry))) index ⌝ }
 {
     step_lent(
         sheet,
-        number,
+        index,
         &numbers[1..129],
         &numbers[129..257],
         wide(numbers[0]),
-        trues,
-        falses,
+        to_trues,
+        to_falses,
     )
 }
 
 // What a step gave, written over the 257 numbers of its table; a refusal leaves them.
 pub(crate) fn write_step<'a, 'b>(
     numbers: &'a mut [u32],
-    stepped: Counted,
+    stepped: Stepped,
     trues: &'b [u32; 128],
     falses: &'b [u32; 128],
 )
-    requires { ⌜ (257 ≤ length (now numbers)) × (stepped .answer ≡ Accepted → stepped .count < 2 ^ 32) ⌝ }
-    ensures { λ r. ⌜ now (numbers .exit) ≡ tableOut (kept (stepped .answer) (tableIn (now (numbers .entry))) (lent (stepped .count) (now (trues .entry)) (now (falses .entry)))) (now (numbers .entry)) ⌝ }
+    requires { ⌜ (257 ≤ length (now numbers)) × (stepAnswer (tableIn (now numbers)) stepped (now trues) (now falses) .table .count < 2 ^ 32) ⌝ }
+    ensures { λ r. ⌜ now (numbers .exit) ≡ tableOut (stepAnswer (tableIn (now (numbers .entry))) stepped (now (trues .entry)) (now (falses .entry)) .table) (now (numbers .entry)) ⌝ }
 {
-    let answer = stepped.answer;
-    match answer {
-        Answer::Accepted => {
-            let count = stepped.count;
-            write_entries(numbers, count, trues, falses);
-        }
-        Answer::Refused(_, _) => {}
+    match stepped {
+        Stepped::To(count) => write_entries(numbers, count, trues, falses),
+        Stepped::Refused(_, _) => {}
     }
 }
 
-// The rows of the first n places, three numbers each: the place, its entries and its clauses. The others are kept.
+// The rows of the first places, three numbers each: the place, its entries and its clauses. The others are kept.
 pub(crate) fn write_row_numbers<'a, 'b>(
     rows: &'a mut [u64],
-    n: usize,
+    count: usize,
     entries: &'b [usize; 65],
     clauses: &'b [usize; 65],
 )
-    requires { ⌜ (n ≤ 65) × (3 * n ≤ length (now rows)) ⌝ }
-    ensures { λ r. ⌜ now (rows .exit) ≡ collect rowNumbers (rowsIn (countsIn n (now (entries .entry)) (now (clauses .entry)))) ++ drop (3 * n) (now (rows .entry)) ⌝ }
+    requires { ⌜ (count ≤ 65) × (3 * count ≤ length (now rows)) ⌝ }
+    ensures { λ r. ⌜ now (rows .exit) ≡ collect rowNumbers (rowsIn (countsIn count (now (entries .entry)) (now (clauses .entry)))) ++ drop (3 * count) (now (rows .entry)) ⌝ }
 {
     let mut i: usize = 0;
-    while i < n {
+    while i < count {
         let at = 3 * i;
-        rows[at] = i as u64;
-        rows[at + 1] = entries[i] as u64;
-        rows[at + 2] = clauses[i] as u64;
+        let row = row_at(entries, clauses, i);
+        rows[at] = row.place as u64;
+        rows[at + 1] = row.entries as u64;
+        rows[at + 2] = row.clauses as u64;
         i += 1;
     }
 }

@@ -29,13 +29,16 @@ slice-aggregate-step-numbers-2 c = search needs
 step-numbers-requires : tie.Need-step-numbers-requires
 step-numbers-requires c κs = search needs
 
+step-answer-requires : tie.Need-step-answer-requires
+step-answer-requires c κs = search needs
+
 answer-reply-requires : tie.Need-answer-reply-requires
 answer-reply-requires c κs = search needs
 
 write-step-requires : tie.Need-write-step-requires
 write-step-requires c κs =
-    let d = c .before .before .before .before .before .before .step-numbers in
-    (c .before .before .before .before .before .before .before .before .before .before .before .if1 .left, step-fits _ _ _ _ _ _ (c .before .before .before .before .before .before .before .before .before .before .before .before .before .slice-known .given 0 .fits) (d .ensures))
+    let d = c .before .before .before .before .before .before .before .step-numbers in
+    (c .before .before .before .before .before .before .before .before .before .before .before .before .if1 .left, step-fits _ _ _ (d .result) _ _ (c .before .before .before .before .before .before .before .before .before .before .before .before .before .before .slice-known .given 0 .fits) (d .ensures))
 
 write-info-requires : tie.Need-write-info-requires
 write-info-requires c κs = search needs
@@ -48,10 +51,10 @@ same-length-2 c = search needs
 
 returns-3 : tie.Need-returns-3
 returns-3 c =
-    let a = c .before .before .before .before .before .before .before .before .before .before .before .before .before .before .before .before .before .before .before .before .before .before .args in
-    let e = lacks-none 257 (a .table .now) (a .info .now) (c .before .before .before .before .before .before .before .before .before .before .before .before .before .before .before .before .before .before .if1 .left) (c .before .before .before .before .before .before .before .before .before .before .before .before .before .before .before .before .before .if2 .left) in
-    let d = c .before .before .before .before .before .before .before .before .before .before .before .before .before .step-numbers in
-    let same = step-told (a .sheet .now) (a .table .now) (a .number) _ _ (d .ensures) (c .before .before .before .before .before .before .before .before .before .before .answer-reply .ensures) in
+    let a = c .before .before .before .before .before .before .before .before .before .before .before .before .before .before .before .before .before .before .before .before .before .before .before .args in
+    let e = lacks-none 257 (a .table .now) (a .info .now) (c .before .before .before .before .before .before .before .before .before .before .before .before .before .before .before .before .before .before .before .if1 .left) (c .before .before .before .before .before .before .before .before .before .before .before .before .before .before .before .before .before .before .if2 .left) in
+    let d = c .before .before .before .before .before .before .before .before .before .before .before .before .before .before .step-numbers in
+    let same = step-told (a .sheet .now) (a .table .now) (a .index) _ _ _ _ (d .ensures) (c .before .before .before .before .before .before .before .before .before .before .before .step-answer .ensures) (c .before .before .before .before .before .before .before .before .before .before .answer-reply .ensures) in
     let next = ap (λ (x : TableAnswer). x .table) (d .ensures) in
     (byte e _ _ same, (tables e _ _ _ _ next (c .before .before .before .before .before .before .write-step .ensures), numbers e _ _ same _ _ (c .before .before .write-info .ensures)))
 
@@ -64,6 +67,7 @@ krepuskilo-step-spec =
     slice-aggregate-step-numbers
     slice-aggregate-step-numbers-2
     step-numbers-requires
+    step-answer-requires
     answer-reply-requires
     write-step-requires
     write-info-requires

@@ -38,9 +38,7 @@ same-length-2 : tie.Need-same-length-2
 same-length-2 c = search needs
 
 returns : tie.Need-returns
-returns c =
-    let z = c .before .before .before .before .before .before .before .before .before .before .before .before .before .before .before in
-    numbers-step (z .args .sheet .now) (z .args .numbers .now) (z .args .number) _ _ _ _ (c .before .before .before .before .before .before .before .wide .ensures) (c .before .before .before .before .step-lent .ensures)
+returns c = numbers-step (c .before .before .before .before .before .before .before .before .before .before .before .before .before .before .before .args .sheet .now) (c .before .before .before .before .before .before .before .before .before .before .before .before .before .before .before .args .numbers .now) (c .before .before .before .before .before .before .before .before .before .before .before .before .before .before .before .args .index) _ (c .before .before .before .before .step-lent .result) _ _ (c .before .before .before .before .before .before .before .wide .ensures) (c .before .before .before .before .step-lent .ensures)
 
 pub step-numbers-spec : {M : Type 1} → statement M
 step-numbers-spec =

@@ -1,4 +1,4 @@
--- `numbers::write_rows` meets its contract. The invariant: the rows below i are written. Assumes nothing.
+-- `unit::numbers::write_row_numbers` meets its contract. The invariant: the rows below i are written. Assumes nothing.
 use Prim.Native.Nat.{_-_}
 use native.Mathlib.Omega.{arith}
 use lib.ListN.{length-set}
@@ -8,16 +8,19 @@ use Rattle.unit.proofs.numbers.write_row_numbers.Statement.{statement}
 use Rattle.unit.proofs.numbers.write_row_numbers.Tie as tie
 
 abbrev Inv-loop : tie.InvT-loop
-Inv-loop rows₀ n entries clauses i₀ rows i = Rowed (countsIn n entries clauses) rows₀ i rows
+Inv-loop rows₀ count entries clauses i₀ rows i = Rowed (countsIn count entries clauses) rows₀ i rows
 
 abbrev μ-loop : tie.MeasureT-loop
-μ-loop rows₀ n entries clauses i₀ rows i = n - i
+μ-loop rows₀ count entries clauses i₀ rows i = count - i
 
 loop-holds : tie.Need-loop-holds Inv-loop μ-loop
-loop-holds c = rowed-start _ _ (c .pre .1)
+loop-holds c = rowed-start _ _ (c .before .pre .1)
 
 mul-at : tie.Need-mul-at Inv-loop μ-loop
 mul-at c = omega arith
+
+row-at-requires : tie.Need-row-at-requires Inv-loop μ-loop
+row-at-requires c κs = omega (arith, c .before .before .before .pre .0, c .loop-test .taken)
 
 mul-rows : tie.Need-mul-rows Inv-loop μ-loop
 mul-rows c = omega arith
@@ -25,32 +28,20 @@ mul-rows c = omega arith
 slice-write-rows : tie.Need-slice-write-rows Inv-loop μ-loop
 slice-write-rows c = omega arith
 
-mul-rows-2 : tie.Need-mul-rows-2 Inv-loop μ-loop
-mul-rows-2 c = omega arith
-
-element-copy-out-rows : tie.Need-element-copy-out-rows Inv-loop μ-loop
-element-copy-out-rows c = omega arith
-
 add-rows : tie.Need-add-rows Inv-loop μ-loop
 add-rows c = omega arith
 
-mul-rows-3 : tie.Need-mul-rows-3 Inv-loop μ-loop
-mul-rows-3 c = omega arith
+mul-rows-2 : tie.Need-mul-rows-2 Inv-loop μ-loop
+mul-rows-2 c = omega arith
 
 slice-write-rows-2 : tie.Need-slice-write-rows-2 Inv-loop μ-loop
 slice-write-rows-2 c = simp length-set (omega arith)
 
-mul-rows-4 : tie.Need-mul-rows-4 Inv-loop μ-loop
-mul-rows-4 c = omega arith
-
-element-copy-out-rows-2 : tie.Need-element-copy-out-rows-2 Inv-loop μ-loop
-element-copy-out-rows-2 c = omega arith
-
 add-rows-2 : tie.Need-add-rows-2 Inv-loop μ-loop
 add-rows-2 c = omega arith
 
-mul-rows-5 : tie.Need-mul-rows-5 Inv-loop μ-loop
-mul-rows-5 c = omega arith
+mul-rows-3 : tie.Need-mul-rows-3 Inv-loop μ-loop
+mul-rows-3 c = omega arith
 
 slice-write-rows-3 : tie.Need-slice-write-rows-3 Inv-loop μ-loop
 slice-write-rows-3 c = simp length-set (omega arith)
@@ -62,7 +53,7 @@ loop-less : tie.Need-loop-less Inv-loop μ-loop
 loop-less c = omega arith
 
 loop-again : tie.Need-loop-again Inv-loop μ-loop
-loop-again c = rowed-step _ _ _ _ (c .before .before .before .loop .inv) (c .before .before .loop-test .taken)
+loop-again c = rowed-step _ _ _ _ (c .before .before .loop .inv) (c .before .loop-test .taken) (c .row-at .ensures)
 
 same-length : tie.Need-same-length Inv-loop μ-loop
 same-length c = c .before .loop .inv .long
@@ -78,17 +69,14 @@ write-row-numbers-spec =
     μ-loop
     loop-holds
     mul-at
+    row-at-requires
     mul-rows
     slice-write-rows
-    mul-rows-2
-    element-copy-out-rows
     add-rows
-    mul-rows-3
+    mul-rows-2
     slice-write-rows-2
-    mul-rows-4
-    element-copy-out-rows-2
     add-rows-2
-    mul-rows-5
+    mul-rows-3
     slice-write-rows-3
     add-i
     loop-less

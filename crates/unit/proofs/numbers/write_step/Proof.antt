@@ -1,37 +1,37 @@
 -- `unit::numbers::write_step` meets its contract. Assumes nothing.
-use mathlib.Core.Path.{sym, ap, _∙_}
-use Rattle.sheet.specs.declared.Answer.{Answer}
-use Rattle.table.specs.Moves.{lent, kept}
+use mathlib.Core.Path.{ap, sym, subst, _∙_}
+use Prim.Native.Nat.{_<_, _^_}
+use Rattle.table.specs.declared.steps.Stepped.{Stepped}
+use Rattle.table.specs.Moves.{stepAnswer}
 use Rattle.unit.specs.Numbers.{tableIn, tableOut}
 use Rattle.unit.proofs.Stores.{table-back}
 use borrow.Author.Needs.{needs}
 use Rattle.unit.proofs.numbers.write_step.Statement.{statement}
 use Rattle.unit.proofs.numbers.write_step.Tie as tie
 
-enum-told : tie.Need-enum-told
-enum-told c = search needs
+enum-known-stepped : tie.Need-enum-known-stepped
+enum-known-stepped c = search needs
 
 write-entries-requires : tie.Need-write-entries-requires
-write-entries-requires c κs =
-    let z = c .before .before .before .before in
-    (z .pre .0, z .pre .1 (c .before .enum-told .given .1))
+write-entries-requires c κs = (c .before .before .before .before .before .pre .0, subst (λ (x : Stepped). stepAnswer (tableIn (c .before .before .before .before .before .args .numbers .now)) x (c .before .before .before .before .before .args .trues .now) (c .before .before .before .before .before .args .falses .now) .table .count < 2 ^ 32) (c .before .before .stepped .given .1) (c .before .before .before .before .before .pre .1))
 
-enum-told-2 : tie.Need-enum-told-2
-enum-told-2 c = search needs
+enum-told : tie.Need-enum-told
+enum-told c = search needs
 
 same-length : tie.Need-same-length
 same-length c = search needs
 
 returns : tie.Need-returns
 returns c =
-    let z = c .before .before .before .before .before .before .before in
-    c .before .before .write-entries .ensures ∙ ap (λ (x : Answer). tableOut (kept x (tableIn (z .args .numbers .now)) (lent (z .args .stepped .count) (z .args .trues .now) (z .args .falses .now))) (z .args .numbers .now)) (sym (c .before .before .before .before .enum-told .given .1))
+    c .before .before .write-entries .ensures
+    ∙ ap (λ (x : Stepped). tableOut (stepAnswer (tableIn (c .before .before .before .before .before .before .before .before .args .numbers .now)) x (c .before .before .before .before .before .before .before .before .args .trues .now) (c .before .before .before .before .before .before .before .before .args .falses .now) .table) (c .before .before .before .before .before .before .before .before .args .numbers .now)) (sym (c .before .before .before .before .before .stepped .given .1))
 
 returns-2 : tie.Need-returns-2
 returns-2 c =
-    let z = c .before .before .before in
-    table-back (z .args .numbers .now) (z .pre .0) ∙ ap (λ (x : Answer). tableOut (kept x (tableIn (z .args .numbers .now)) (lent (z .args .stepped .count) (z .args .trues .now) (z .args .falses .now))) (z .args .numbers .now)) (sym (c .enum-told2 .given .1))
+    table-back (c .before .before .before .args .numbers .now) (c .before .before .before .pre .0)
+    ∙ ap (λ (x : Stepped). tableOut (stepAnswer (tableIn (c .before .before .before .args .numbers .now)) x (c .before .before .before .args .trues .now) (c .before .before .before .args .falses .now) .table) (c .before .before .before .args .numbers .now)) (sym (c .enum-told .given .1))
 
 pub write-step-spec : {M : Type 1} → statement M
 write-step-spec =
-    tie.close (tie.spec enum-told write-entries-requires enum-told-2 same-length returns returns-2)
+    tie.close
+    (tie.spec enum-known-stepped write-entries-requires enum-told same-length returns returns-2)
