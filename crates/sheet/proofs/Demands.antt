@@ -41,7 +41,7 @@ encoding-unique = E.encode-unique
 pub judge-longest : (s : List ℕ) → judgeOf s ≡ Accepted → length s ≤ 3711
 judge-longest s e = let r = F.judge-says s .0 e in J.longest s (r .0) (r .1)
 
--- ---- TH1 (b): the first fault by the roles of bytes: `judge-refused`, and `judge-1` to `judge-7`
+-- TH1 (b), the first fault by the roles of bytes, has its own file: `judge-refused`, `judge-1` to `judge-7` in Faults
 
 -- ---- TH1 (c): the first fault is local
 pub local : (s : List ℕ) (k p : ℕ) → sheetOf s ≡ refused k p → (k ≡ 1 → ⊥) → (t : List ℕ) → take (p + 1) t ≡ take (p + 1) s

@@ -5,7 +5,7 @@ use mathlib.Core.Path.{_≡_, refl, sym, ap, ap₂, _∙_, subst}
 use mathlib.Core.Logic.{_⊎_, inl, inr, ⊎-elim}
 use mathlib.Core.Bool.{Bool, true, false, not, _&&_, _||_, Bool·beq, and-eq-true-iff, or-comm, or-assoc, true≢false, false≢true}
 use Prim.Native.Nat.{ℕ, _-_, _^_, _<_}
-use lib.Dec.{eqb, ltb}
+use lib.Dec.{T, eqb, ltb}
 use lib.Bits.{bitAnd, and-comm}
 use borrow.Author.Tests.{eq-eqb, eqb-true, eqb-false, lt-ltb, ltb-true, not-true, not-false}
 use Rattle.sheet.specs.declared.Literals.{Literals}
@@ -148,34 +148,36 @@ not-not false = refl
 
 -- ---- the order
 
-pub within-refl : (a : Literals) → within a a ≡ true
-within-refl a = of-within a a (λ s p e. e)
+pub within-refl : (a : Literals) → T (within a a)
+within-refl a = true-T (within a a) (of-within a a (λ s p e. e))
 
-pub within-trans : (a b c : Literals) → within a b ≡ true → within b c ≡ true → within a c ≡ true
-within-trans a b c f g = of-within a c (λ s p e. within-of b c g s p (within-of a b f s p e))
+pub within-trans : (a b c : Literals) → T (within a b) → T (within b c) → T (within a c)
+within-trans a b c f g =
+    true-T (within a c) (of-within a c (λ s p e. within-of b c (T-true (within b c) g) s p (within-of a b (T-true (within a b) f) s p e)))
 
 pub within-antisym : (a b : Literals) → within a b ≡ true → within b a ≡ true → a ≡ b
 within-antisym a b f g = set-ext a b (λ s p. iff-eq _ _ (within-of a b f s p) (within-of b a g s p))
 
-pub within-join-l : (a b : Literals) → within a (join a b) ≡ true
-within-join-l a b = of-within _ _ (λ s p e. mem-join a b s p ∙ or-left _ _ e)
+pub within-join-l : (a b : Literals) → T (within a (join a b))
+within-join-l a b = true-T (within a (join a b)) (of-within _ _ (λ s p e. mem-join a b s p ∙ or-left _ _ e))
 
-pub within-join-r : (a b : Literals) → within b (join a b) ≡ true
-within-join-r a b = of-within _ _ (λ s p e. mem-join a b s p ∙ or-right (mem a s p) _ e)
+pub within-join-r : (a b : Literals) → T (within b (join a b))
+within-join-r a b = true-T (within b (join a b)) (of-within _ _ (λ s p e. mem-join a b s p ∙ or-right (mem a s p) _ e))
 
 -- the join is the least set that holds both
 pub within-join : (a b c : Literals) → within (join a b) c ≡ (within a c && within b c)
 within-join a b c =
     iff-eq _ _
-    (λ e. both _ _ (within-trans _ _ _ (within-join-l a b) e) (within-trans _ _ _ (within-join-r a b) e))
+    (λ e. let w = true-T (within (join a b) c) e in
+    both _ _ (T-true (within a c) (within-trans a (join a b) c (within-join-l a b) w)) (T-true (within b c) (within-trans b (join a b) c (within-join-r a b) w)))
     (λ e.
     of-within _ _ (λ s p m.
     ⊎-elim (within-of a c (and-eq-true-iff _ _ .0 e .0) s p) (within-of b c (and-eq-true-iff (within a c) _ .0 e .1) s p)
     (or-cases _ _ (sym (mem-join a b s p) ∙ m))))
 
-pub join-within : (a b : Literals) → within b a ≡ true → join a b ≡ a
-join-within a b e =
-    within-antisym _ _ (within-join a b a ∙ both _ _ (within-refl a) e) (within-join-l a b)
+pub join-same : (a b : Literals) → within b a ≡ true → join a b ≡ a
+join-same a b e =
+    within-antisym _ _ (within-join a b a ∙ both _ _ (T-true (within a a) (within-refl a)) e) (T-true (within a (join a b)) (within-join-l a b))
 
 pub join-comm : (a b : Literals) → join a b ≡ join b a
 join-comm a b = set-ext _ _ (λ s p. simp mem-join (or-comm (mem a s p) (mem b s p)))
@@ -204,7 +206,7 @@ clash-join a b c =
     ⊎-elim (λ m. or-left _ _ (clash-here a c (r .0) (r .1) m (r .3))) (λ m. or-right (clash a c) _ (clash-here b c (r .0) (r .1) m (r .3)))
     (or-cases (mem a (r .0) (r .1)) (mem b (r .0) (r .1)) (sym (mem-join a b (r .0) (r .1)) ∙ r .2)))
     (λ e.
-    ⊎-elim (clash-within a (join a b) c (within-join-l a b)) (clash-within b (join a b) c (within-join-r a b)) (or-cases (clash a c) (clash b c) e))
+    ⊎-elim (clash-within a (join a b) c (T-true (within a (join a b)) (within-join-l a b))) (clash-within b (join a b) c (T-true (within b (join a b)) (within-join-r a b))) (or-cases (clash a c) (clash b c) e))
 
 pub consistent-clash : (a : Literals) → consistent a ≡ not (clash a a)
 unfolding consistent clash
@@ -330,7 +332,7 @@ below-within n a b w e = of-below n a (λ s p m. below-of n b e s p (within-of a
 pub below-join : (n : ℕ) (a b : Literals) → below n (join a b) ≡ (below n a && below n b)
 below-join n a b =
     iff-eq _ _
-    (λ e. both _ _ (below-within n a _ (within-join-l a b) e) (below-within n b _ (within-join-r a b) e))
+    (λ e. both _ _ (below-within n a _ (T-true (within a (join a b)) (within-join-l a b)) e) (below-within n b _ (T-true (within b (join a b)) (within-join-r a b)) e))
     (λ e.
     of-below n _ (λ s p m.
     ⊎-elim (below-of n a (and-eq-true-iff _ _ .0 e .0) s p) (below-of n b (and-eq-true-iff (below n a) _ .0 e .1) s p)

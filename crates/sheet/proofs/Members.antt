@@ -38,18 +38,6 @@ any-passed f P (x ∷ xs) h = go (f x) refl h (any-passed f P xs)
     go false e (inr r) k = k r
 
 -- ---- within
-pub within-refl : (a : Literals) → T (within a a)
-within-refl a = true-T (within a a) (sets.within-refl a)
-
-pub within-trans : (a b c : Literals) → T (within a b) → T (within b c) → T (within a c)
-within-trans a b c h k = true-T (within a c) (sets.within-trans a b c (T-true (within a b) h) (T-true (within b c) k))
-
-pub within-join-l : (a b : Literals) → T (within a (join a b))
-within-join-l a b = true-T (within a (join a b)) (sets.within-join-l a b)
-
-pub within-join-r : (a b : Literals) → T (within b (join a b))
-within-join-r a b = true-T (within b (join a b)) (sets.within-join-r a b)
-
 pub join-within : (a b c : Literals) → T (within a c) → T (within b c) → T (within (join a b) c)
 join-within a b c h k =
     true-T (within (join a b) c) (sets.within-join a b c ∙ sets.both (within a c) (within b c) (T-true (within a c) h) (T-true (within b c) k))

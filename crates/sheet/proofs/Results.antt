@@ -88,12 +88,6 @@ module _ (a c r : Literals) (h : bitAnd (names c) (names r) ≡ 0) where
 
 -- ---- two sets of results, one after the other
 
-swap : (x r r′ q q′ : Bool) → (r ≡ true → q ≡ false) → (r ≡ true → q′ ≡ false) → (r′ ≡ true → q ≡ false) → (r′ ≡ true → q′ ≡ false)
-    → ((((x && not r′) || r) && not q′) || q) ≡ ((((x && not q′) || q) && not r′) || r)
-swap x true r′ q q′ h₁ h₂ h₃ h₄ = rw (h₁ refl, h₂ refl) (simp or-true)
-swap x false true q q′ h₁ h₂ h₃ h₄ = rw (h₃ refl, h₄ refl) (simp and-false)
-swap x false false q q′ h₁ h₂ h₃ h₄ = simp (and-true, or-false)
-
 merge : (x r r′ q q′ : Bool) → (r ≡ true → q′ ≡ false) → ((x && not (r′ || q′)) || (r || q)) ≡ ((((x && not r′) || r) && not q′) || q)
 merge x true r′ q q′ h = rw (h refl) (simp or-true)
 merge x false true q q′ h = simp and-false

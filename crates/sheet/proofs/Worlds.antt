@@ -4,7 +4,8 @@ use mathlib.Core.Path.{_≡_, refl, sym, ap, ap₂, _∙_, subst}
 use mathlib.Core.Logic.{_⊎_, ⊎-elim}
 use mathlib.Core.Bool.{Bool, true, false, not, _&&_, Bool·beq, and-eq-true-iff, true≢false}
 use Prim.Native.Nat.{ℕ, _-_, _^_, _<_}
-use lib.Dec.{ltb}
+use lib.Dec.{T, ltb}
+use Rattle.sheet.proofs.base.Bools.{T-true, true-T}
 use borrow.Author.Tests.{lt-ltb, ltb-true, not-true, not-false}
 use Rattle.sheet.specs.declared.Literals.{Literals}
 use Rattle.sheet.specs.Literals.{has, mem, within, clash, consistent, join, flip, replace, single, state, overridden, below}
@@ -70,13 +71,18 @@ completion n c e b = of-within c _ (λ s p m. mem-state n (c .trues) (below-true
 pub common-world : (n : ℕ) (a b : Literals) → consistent a ≡ true → consistent b ≡ true → clash a b ≡ false → below n a ≡ true → below n b ≡ true
     → (w : ℕ) × (w < 2 ^ n) × (within a (state n w) ≡ true) × (within b (state n w) ≡ true)
 common-world n a b e f k ba bb =
-    ((join a b) .trues, below-trues n _ bj, within-trans _ _ _ (within-join-l a b) done, within-trans _ _ _ (within-join-r a b) done)
+    ((join a b) .trues, below-trues n _ bj, over a (within-join-l a b), over b (within-join-r a b))
   where
     bj : below n (join a b) ≡ true
     bj = below-join n a b ∙ ap₂ _&&_ ba bb
 
     done : within (join a b) (state n ((join a b) .trues)) ≡ true
     done = completion n _ (consistent-join a b ∙ ap₂ _&&_ (ap₂ _&&_ e f) (ap not k)) bj
+
+    over : (c : Literals) → T (within c (join a b)) → within c (state n ((join a b) .trues)) ≡ true
+    over c w =
+        T-true (within c (state n ((join a b) .trues)))
+        (within-trans c (join a b) (state n ((join a b) .trues)) w (true-T (within (join a b) (state n ((join a b) .trues))) done))
 
 -- a world of c that has a literal whose complement is not in c
 pub completion-with : (n : ℕ) (c : Literals) (s : Bool) (p : ℕ) → consistent c ≡ true → below n c ≡ true → p < n → mem c (not s) p ≡ false
@@ -199,7 +205,9 @@ before-world n d r e b v h i = (
     is = replace-state n v h d e b
 
     ir : within r (state n v) ≡ true
-    ir = within-trans _ _ _ (within-replace d r) i
+    ir =
+        T-true (within r (state n v))
+        (within-trans r (replace d r) (state n v) (true-T (within r (replace d r)) (within-replace d r)) (true-T (within (replace d r) (state n v)) i))
 
     er : consistent r ≡ true
     er = consistent-within r _ ir (state-consistent n v h)

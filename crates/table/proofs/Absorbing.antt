@@ -15,7 +15,8 @@ use Rattle.sheet.specs.Lists.{Any, All, anyOf, addIf, keep}
 use Rattle.sheet.proofs.base.Bools.{test, both, T-true, true-T, not-in}
 use Rattle.sheet.proofs.base.ListFacts.{all-map, all-by, any-map, any-append-r, all-append, all-imaged, any-imaged, any-test, any-tested, any-none, none-any, all-keep}
 use Rattle.sheet.proofs.LiteralSets as sets
-use Rattle.sheet.proofs.Members.{any-passed, within-refl, within-trans, within-join-l}
+use Rattle.sheet.proofs.Members.{any-passed}
+use Rattle.sheet.proofs.LiteralSets.{within-refl, within-trans, within-join-l}
 use Rattle.table.specs.declared.slots.Grown.{Grown}
 use Rattle.table.specs.Worlds.{andThen}
 use Rattle.table.specs.Minimal.{putLast, putNew, put, putAll}
@@ -145,7 +146,7 @@ module _ (c : Literals) (us : List Literals) (h : Any (λ u. T (within u c)) us)
       any-passed consistent (λ d. d ≡ c) (map (join c) us)
       (any-imaged (join c) (λ d. (d ≡ c) × T (consistent d)) us
       (any-map (λ u. T (within u c)) (λ u. (join c u ≡ c) × T (consistent (join c u)))
-      (λ u i. let e = sets.join-within c u (T-true (within u c) i) in (e, true-T (consistent (join c u)) (ap consistent e ∙ q))) us h))
+      (λ u i. let e = sets.join-same c u (T-true (within u c) i) in (e, true-T (consistent (join c u)) (ap consistent e ∙ q))) us h))
 
   joined-few : length joined ≤ length us
   joined-few = omega (arith, keep-length consistent (map (join c) us), length-map us (join c))

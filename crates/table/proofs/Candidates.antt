@@ -13,7 +13,8 @@ use Rattle.sheet.proofs.base.Bools.{T-true, T-false, true-T, false-T}
 use Rattle.sheet.proofs.base.ListFacts.{any-map, all-map, any-with, any-out, all-append, all-parts, any-image, any-imaged, all-imaged, any-collect, any-collected, all-collected}
 use Rattle.sheet.proofs.LiteralSets.{both, within-single, below-of, below-join, below-single, proper-below}
 use Rattle.sheet.proofs.Worlds.{fails-at, fails-here}
-use Rattle.sheet.proofs.Members.{within-trans, within-join-l, within-join-r, join-within, members-all, members-any, flip-literal, flip-byte}
+use Rattle.sheet.proofs.Members.{join-within, members-all, members-any, flip-literal, flip-byte}
+use Rattle.sheet.proofs.LiteralSets.{within-trans, within-join-l, within-join-r}
 use Rattle.table.specs.Worlds.{addOne, howMany}
 use Rattle.table.specs.Minimal.{In}
 use Rattle.table.specs.Start.{Clause, orOf, oneOf, falsify, Pick, picks, candidates}

@@ -13,6 +13,8 @@ use Rattle.sheet.specs.declared.Effect.{Effect}
 use Rattle.sheet.specs.Literals.{noLiteral, mem, within, clash, consistent, join, flip, replace, single, sign, literal, contains}
 use Rattle.sheet.specs.Lists.{All}
 use Rattle.sheet.proofs.base.ListFacts.{all-parts}
+use lib.Dec.{T}
+use Rattle.sheet.proofs.base.Bools.{T-true, true-T}
 use Rattle.sheet.proofs.LiteralSets.{or-right, not-not, within-of, within-refl, within-trans, within-join-l, within-join-r, join-comm, join-assoc, clash-here, clash-sym, clash-within, clash-single, consistent-clash, consistent-join, consistent-single, mem-self}
 use Rattle.sheet.proofs.Bytes.{next-found}
 use Rattle.sheet.proofs.Members.{flip-literal}
@@ -66,7 +68,7 @@ carried-start es d h s = record { piece-steady = s; steady = h; sum-is = λ q t 
 
 -- ---- past the effect at i, to a piece p that contains the piece d
 module _ (es hs : List Effect) (i : ℕ) (e : Effect) (at : drop i es ≡ e ∷ hs) (d sum : Literals) (c : Carried es i d sum) where
-  past : (b : Bool) (p : Literals) → consistent p ≡ true → within d p ≡ true → ((q : Literals) → consistent q ≡ true → within p q ≡ true → within (e .condition) q ≡ b)
+  past : (b : Bool) (p : Literals) → consistent p ≡ true → T (within d p) → ((q : Literals) → consistent q ≡ true → within p q ≡ true → within (e .condition) q ≡ b)
       → Carried es (i + 1) p (addResult b (e .result) sum)
   past b p s w f =
       record {
@@ -76,12 +78,12 @@ module _ (es hs : List Effect) (i : ℕ) (e : Effect) (at : drop i es ≡ e ∷ 
             ap (λ (j : ℕ). results (take j es) q) (add-one i)
             ∙ ap (λ (x : List Effect). results x q) (take-more es hs i e at)
             ∙ results-more (take i es) e q
-            ∙ ap₂ (λ (x : Bool) (r : Literals). addResult x (e .result) r) (f q t k) (c .sum-is q t (within-trans d p q w k));
+            ∙ ap₂ (λ (x : Bool) (r : Literals). addResult x (e .result) r) (f q t k) (c .sum-is q t (T-true (within d q) (within-trans d p q w (true-T (within p q) k))));
       }
 
   -- the condition lies in the piece
   past-within : within (e .condition) d ≡ true → Carried es (i + 1) d (join (e .result) sum)
-  past-within h = past true d (c .piece-steady) (within-refl d) (λ q t k. within-trans (e .condition) d q h k)
+  past-within h = past true d (c .piece-steady) (within-refl d) (λ q t k. T-true (within (e .condition) q) (within-trans (e .condition) d q (true-T (within (e .condition) d) h) (true-T (within d q) k)))
 
   -- it contradicts the piece
   past-clash : clash (e .condition) d ≡ true → Carried es (i + 1) d sum
@@ -97,7 +99,9 @@ module _ (es hs : List Effect) (i : ℕ) (e : Effect) (at : drop i es ≡ e ∷ 
       (past true (join d (e .condition))
       (consistent-join d (e .condition) ∙ rw (c .piece-steady, condition-steady, clash-sym d (e .condition), h))
       (within-join-l d (e .condition))
-      (λ q t k. within-trans (e .condition) (join d (e .condition)) q (within-join-r d (e .condition)) k))
+      (λ q t k.
+      T-true (within (e .condition) q)
+      (within-trans (e .condition) (join d (e .condition)) q (within-join-r d (e .condition)) (true-T (within (join d (e .condition)) q) k))))
 
   -- it is joined with the complement of a literal of the condition that it lacks
   past-denied : (s : Bool) (p : ℕ) → mem (e .condition) s p ≡ true → mem d s p ≡ false → Carried es (i + 1) (join d (single (not s) p)) sum
@@ -108,7 +112,7 @@ module _ (es hs : List Effect) (i : ℕ) (e : Effect) (at : drop i es ≡ e ∷ 
       (within-join-l d (single (not s) p))
       (λ q t k. outside (e .condition) (join d (single (not s) p)) q
       (clash-here (e .condition) (join d (single (not s) p)) s p h
-      (within-of _ _ (within-join-r d (single (not s) p)) (not s) p (mem-self (not s) p))) t k)
+      (within-of _ _ (T-true (within (single (not s) p) (join d (single (not s) p))) (within-join-r d (single (not s) p))) (not s) p (mem-self (not s) p))) t k)
 
   past-without : (l : ℕ) → contains (e .condition) l ≡ true → contains d l ≡ false → Carried es (i + 1) (join d (flip (literal l))) sum
   unfolding contains
@@ -146,7 +150,7 @@ module _ (es : List Effect) (at : ℕ) (d : Literals) (r : Undecided) (g : Skips
       all = sym (append-nil (take (r .at) es)) ∙ ap (λ (x : List Effect). take (r .at) es ++ x) (sym q) ∙ take-append-drop (r .at) es
 
       last : results es d ≡ r .results
-      last = ap (λ (x : List Effect). results x d) (sym all) ∙ g .carried .sum-is d (g .carried .piece-steady) (within-refl d)
+      last = ap (λ (x : List Effect). results x d) (sym all) ∙ g .carried .sum-is d (g .carried .piece-steady) (T-true (within d d) (within-refl d))
 
   module _ (e : Effect) (q : drop (r .at) es ≡ e ∷ drop (r .at + 1) es) where
     on : (more : Literals) → (within (e .condition) d || clash (e .condition) d) ≡ true → Carried es (r .at + 1) d more

@@ -240,14 +240,10 @@ or-step d a w xs ys e q =
 pub or-end : (d : Literals) (xs : List Literals) → xs ≡ [] → keep consistent (map (λ x. join d x) xs) ≡ []
 or-end d xs e = ap (λ (r : List Literals). keep consistent (map (λ x. join d x) r)) e
 
--- ---- the entries, from i on
+-- ---- what f makes of the members, one after the other
+module _ (f : Literals → List Literals) where
+  pub collect-step : (e : Literals) (xs ys : List Literals) → xs ≡ e ∷ ys → keep consistent (collect f xs) ≡ keep consistent (f e) ++ keep consistent (collect f ys)
+  collect-step e xs ys q = keep-split (collect f xs) (f e) (collect f ys) (ap (collect f) q)
 
-module _ (f : Literals → List Literals) (es : List Literals) where
-  pub entries-step : (e : Literals) (i : ℕ) → i < length es → getD es i noLiteral ≡ e
-      → keep consistent (collect f (drop i es)) ≡ keep consistent (f e) ++ keep consistent (collect f (drop (i + 1) es))
-  entries-step e i lt is =
-      keep-split (collect f (drop i es)) (f e) (collect f (drop (i + 1) es))
-      (ap (collect f) (drop-cons es i noLiteral lt ∙ ap (λ (x : Literals). x ∷ drop (suc i) es) is ∙ ap (λ (j : ℕ). e ∷ drop j es) (sym (add-one i))))
-
-  pub entries-end : (i : ℕ) → length es ≤ i → keep consistent (collect f (drop i es)) ≡ []
-  entries-end i le = ap (λ (r : List Literals). keep consistent (collect f r)) (drop-of-length-le es {i = i} le)
+  pub collect-end : (xs : List Literals) → xs ≡ [] → keep consistent (collect f xs) ≡ []
+  collect-end xs q = ap (λ (r : List Literals). keep consistent (collect f r)) q

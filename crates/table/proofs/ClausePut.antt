@@ -12,7 +12,8 @@ use Rattle.sheet.specs.Lists.{Any, All, keep, collect}
 use Rattle.sheet.proofs.base.Bools.{both, T-true, not-not}
 use Rattle.sheet.proofs.base.ListFacts.{any-map, any-append-l, any-append-r, any-test, any-kept, any-collect, any-collected, all-keep}
 use Rattle.sheet.proofs.LiteralSets.{within-antisym}
-use Rattle.sheet.proofs.Members.{any-member, all-members, any-passed, within-refl, within-trans}
+use Rattle.sheet.proofs.Members.{any-member, all-members, any-passed}
+use Rattle.sheet.proofs.LiteralSets.{within-refl, within-trans}
 use Rattle.table.specs.Worlds.{andThen}
 use Rattle.table.specs.Minimal.{Antichain, put, putAll, Least}
 use Rattle.table.specs.Picture.{unions}

@@ -5,13 +5,13 @@ use mathlib.Core.List.{List, _∷_}
 use Prim.Native.Nat.{ℕ, zero, suc, _+_, _/_, _<_}
 use native.Mathlib.Omega.{arith}
 use Rattle.sheet.specs.declared.Literals.{Literals}
-use Rattle.sheet.specs.Literals.{mem, sign, byte, literal, contains, next, members, membersFrom}
+use Rattle.sheet.specs.Literals.{mem, within, sign, byte, literal, contains, next, members, membersFrom, minus}
 use Rattle.sheet.specs.Lists.{addIf, keep}
 use Rattle.sheet.proofs.Bits.{has-minus}
+use Rattle.sheet.proofs.base.Bools.{T-true}
 use Rattle.sheet.proofs.LiteralSets.{single-is, within-refl}
 use Rattle.sheet.proofs.Bytes.{byte-of, within-literal, down, members-end, members-here, members-step, members-cons}
 use Rattle.table.specs.Step.{missing}
-use Rattle.sheet.specs.Literals.{minus}
 
 module _ (c d : Literals) where
   mem-lacks : (s : Bool) (p : ℕ) → mem (minus c d) s p ≡ (mem c s p && not (mem d s p))
@@ -77,7 +77,7 @@ module _ (a : Literals) (l : ℕ) where
   unfolding missing
   members-first e h =
       let all : members a 0 ≡ l ∷ members a (l + 1) = members-cons a 0 (omega (arith, e, h)) ∙ ap (λ (x : ℕ). x ∷ members a (x + 1)) (sym e) in
-      let one : not (contains (literal l) l) ≡ false = ap not (sym (within-literal l (literal l)) ∙ within-refl (literal l)) in
+      let one : not (contains (literal l) l) ≡ false = ap not (sym (within-literal l (literal l)) ∙ T-true (within (literal l) (literal l)) (within-refl (literal l))) in
       all
       ∙ ap (λ (x : List ℕ). l ∷ x)
       (sym

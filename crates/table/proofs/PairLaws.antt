@@ -14,7 +14,8 @@ use Rattle.sheet.proofs.base.Bools.{test, both, T-true, T-false, true-T, false-
 use Rattle.sheet.proofs.base.ListFacts.{all-map, any-with, all-with, any-out, any-choose, any-test, all-test, all-fails, any-tested}
 use Rattle.sheet.proofs.LiteralSets.{of-apart, clash-sym, clash-join, of-consistent, consistent-join, consistent-within, below-join, proper-of, proper-below}
 use Rattle.sheet.proofs.Ascending.{mem-none}
-use Rattle.sheet.proofs.Members.{within-trans, within-join-l, within-join-r, join-within, some-world}
+use Rattle.sheet.proofs.Members.{join-within, some-world}
+use Rattle.sheet.proofs.LiteralSets.{within-trans, within-join-l, within-join-r}
 use Rattle.table.specs.Worlds.{addResult, results}
 use Rattle.table.specs.Step.{pieces}
 use Rattle.table.specs.Pairs.{contradicts}

@@ -19,7 +19,8 @@ use Rattle.sheet.proofs.LiteralSets.{of-within, within-of, of-consistent, consi
 use Rattle.sheet.proofs.Bytes.{byte-of, contains-byte, contains-lt, within-literal, down, members-end, members-here, members-step, of-member, member-of}
 use Rattle.sheet.proofs.Worlds.{state-below, state-consistent, within-state, state-within, implied-clause}
 use Rattle.sheet.proofs.Ascending.{mem-none}
-use Rattle.sheet.proofs.Members.{below-none, within-refl, within-trans, all-members, within-join-l, within-join-r, join-within}
+use Rattle.sheet.proofs.Members.{below-none, all-members, join-within}
+use Rattle.sheet.proofs.LiteralSets.{within-refl, within-trans, within-join-l, within-join-r}
 use Rattle.table.specs.Minimal.{In, Antichain, putAll}
 use Rattle.table.specs.Picture.{units, unions, fold, primes}
 use Rattle.table.specs.Prime.{Implicate, Prime, Exactly}

@@ -14,7 +14,7 @@ use Rattle.sheet.specs.Literals.{within, state}
 use Rattle.sheet.specs.Lists.{Any, All, anyOf, addIf, keep}
 use Rattle.sheet.proofs.base.Bools.{true-T, false-T, not-not}
 use Rattle.sheet.proofs.base.ListFacts.{any-map, all-map, any-out, all-by, any-append-l, any-append-r, any-append, all-append, any-test, any-none, any-keep, any-kept, all-keep}
-use Rattle.sheet.proofs.Members.{within-trans}
+use Rattle.sheet.proofs.LiteralSets.{within-trans}
 use Rattle.table.specs.Worlds.{andThen}
 use Rattle.table.specs.Minimal.{In, Antichain, putLast, putNew, put, putAll}
 

@@ -16,7 +16,8 @@ use Rattle.sheet.proofs.LiteralSets.{within-of, mem-self, clash-at, clash-here,
 use Rattle.sheet.proofs.LiteralSets as sets
 use Rattle.sheet.proofs.Worlds.{fails-here, split-world}
 use Rattle.sheet.proofs.Bytes.{contains-byte}
-use Rattle.sheet.proofs.Members.{any-passed, within-refl, within-trans, within-join-l, within-join-r, join-within, join-proper, deny-proper, members-all, members-any, flip-literal, flip-byte}
+use Rattle.sheet.proofs.Members.{any-passed, join-within, join-proper, deny-proper, members-all, members-any, flip-literal, flip-byte}
+use Rattle.sheet.proofs.LiteralSets.{within-refl, within-trans, within-join-l, within-join-r}
 use Rattle.table.specs.Worlds.{addResult, results}
 use Rattle.table.specs.Minimal.{In}
 use Rattle.table.specs.Step.{missing, splitBy, split, pieces}
@@ -48,7 +49,7 @@ module _ (n : ℕ) (c d : Literals) (hc : Proper n c) (hd : Proper n d) where
         over = within-join-l d (single (not (sign l)) (l / 2));
         decided = inr (true-T (clash c (join d (single (not (sign l)) (l / 2))))
             (clash-here c (join d (single (not (sign l)) (l / 2))) (sign l) (l / 2) h
-            (within-of _ _ (sets.within-join-r d (single (not (sign l)) (l / 2))) (not (sign l)) (l / 2) (mem-self (not (sign l)) (l / 2)))));
+            (within-of _ _ (T-true (within (single (not (sign l)) (l / 2)) (join d (single (not (sign l)) (l / 2)))) (within-join-r d (single (not (sign l)) (l / 2)))) (not (sign l)) (l / 2) (mem-self (not (sign l)) (l / 2)))));
       })
 
   pub split-pieces : All (Piece n c d) (split c d)

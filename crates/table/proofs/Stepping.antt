@@ -20,7 +20,8 @@ use Rattle.sheet.proofs.base.ListFacts.{all-map, any-with, all-with, any-out, a
 use Rattle.sheet.proofs.LiteralSets.{below-join, proper-consistent, proper-below}
 use Rattle.sheet.proofs.Results.{replace-mono}
 use Rattle.sheet.proofs.Worlds.{after-lt, replace-state, before-world}
-use Rattle.sheet.proofs.Members.{within-trans, below-none, replace-proper, some-world, lacking-world}
+use Rattle.sheet.proofs.Members.{below-none, replace-proper, some-world, lacking-world}
+use Rattle.sheet.proofs.LiteralSets.{within-trans}
 use Rattle.table.specs.Worlds.{addResult, results, takes, worldAfter, when, stepWorld}
 use Rattle.table.specs.Minimal.{In, Described, putAll, Outcome, refused, table}
 use Rattle.table.specs.Step.{pieces, image, orFull, stepClear, stepSure, stepTable}

@@ -143,9 +143,6 @@ module _ {M : Type 1} (𝓤 : URA M) (H : Heap 𝓤) (A : Atoms 𝓤) (W : Given
 
   -- ---- what `course` returned
   module _ (r : Course) (r-is : Is O.the-row r (LL.vals O.the-type O′.the-laws r)) (r-out : r ≡ courseOf (sheetOf (bytes .now)) m) where
-    abbrev rval : Val
-    rval = LL.val O.the-type O′.the-laws r
-
     abbrev cval : Val
     cval = LL.val N.the-type N′.the-laws (r .counts)
 

@@ -185,12 +185,6 @@ module _ {A B : Type 0} where
   all-collected f P [] h = tt
   all-collected f P (x ∷ xs) h = all-append P (f x) (collect f xs) (h .0) (all-collected f P xs (h .1))
 
-  pub all-collect : (f : A → List B) (P : B → Type 0) (xs : List A) → All P (collect f xs) → All (λ x. All P (f x)) xs
-  all-collect f P [] h = tt
-  all-collect f P (x ∷ xs) h =
-      let r = all-parts P (f x) (collect f xs) h in
-      (r .0, all-collect f P xs (r .1))
-
   -- the same w at whichever member
   pub any-choose : (P : A → B → Type 0) (R : B → Type 0) (xs : List A) → Any (λ x. (w : B) × (P x w × R w)) xs → (w : B) × (Any (λ x. P x w) xs × R w)
   any-choose P R [] h = absurd h

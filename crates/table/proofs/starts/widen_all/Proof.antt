@@ -2,7 +2,7 @@
 use mathlib.Core.Path.{refl, sym, _∙_}
 use Prim.Native.Nat.{_+_, _<_, _≤_, _-_}
 use native.Mathlib.Omega.{arith}
-use lib.ListN.{length, drop}
+use lib.ListN.{length, drop, getD}
 use borrow.Author.Needs.{needs}
 use Rattle.sheet.specs.Lists.{collect, keep}
 use Rattle.sheet.specs.Literals as L
@@ -10,8 +10,10 @@ use Rattle.sheet.specs.Packed.{setsIn}
 use Rattle.table.specs.Slots.{entriesOf}
 use Rattle.table.specs.Start.{candidates}
 use Rattle.table.specs.Reads.{clauseOf}
-use Rattle.table.proofs.Pads.{length-entriesOf, getD-entriesOf, holds-trues-long, holds-falses-long, held-own}
-use Rattle.table.proofs.Choosing.{entries-step, entries-end}
+use Rattle.table.specs.Moves.{slot}
+use Rattle.table.proofs.Pads.{length-entriesOf, holds-trues-long, holds-falses-long, held-own}
+use Rattle.table.proofs.Choosing.{collect-step, collect-end}
+use Rattle.table.proofs.Turns.{entries-next, entries-done}
 use Rattle.table.proofs.Growing.{Going, going-start, going-on, going-full, going-end}
 use Rattle.table.proofs.starts.widen_all.Statement.{statement}
 use Rattle.table.proofs.starts.widen_all.Tie as tie
@@ -56,12 +58,11 @@ same-length-2 : tie.Need-same-length-2 Inv-loop μ-loop
 same-length-2 c = c .before .before .before .before .before .before .widen .kept .1 .1 .1 .1 .0 ∙ holds-falses-long _ _ _ _ _ (c .before .before .before .before .before .before .before .before .before .before .before .before .loop .inv .1 .held) ∙ sym (holds-falses-long _ _ _ _ _ (c .before .before .before .before .before .before .before .before .before .before .before .before .before .before .before .before .before .before .pre .1 .1))
 
 returns : tie.Need-returns Inv-loop μ-loop
+unfolding slot
 returns c =
     let s = c .before .before .before .before .before .before .before .before .before .before .before .before .before .before .before .before .before .before in
-    let es = entriesOf (s .args .count) (s .args .trues .now) (s .args .falses .now) in
     let i = c .before .before .before .before .before .before .before .before .before .before .before .before .loop .i in
-    let lt : i < length es = omega (arith, c .before .before .before .before .before .before .before .before .before .before .before .loop-test .taken, length-entriesOf (s .args .count) (s .args .trues .now) (s .args .falses .now)) in
-    let q = entries-step (candidates (clauseOf (s .args .exclusive) (setsIn (s .args .alts .now)))) es _ i lt (getD-entriesOf (s .args .count) (s .args .trues .now) (s .args .falses .now) i (c .before .before .before .before .before .before .before .before .before .before .before .loop-test .taken)) in
+    let q = collect-step (candidates (clauseOf (s .args .exclusive) (setsIn (s .args .alts .now)))) _ _ _ (entries-next (s .args .count) (s .args .trues .now) (s .args .falses .now) i (record { trues = getD (s .args .trues .now) i 0; falses = getD (s .args .falses .now) i 0 }) (c .before .before .before .before .before .before .before .before .before .before .before .loop-test .taken) refl) in
     going-full _ _ _ _ _ _ _ _ _ _ _ _ _ (c .before .before .before .before .before .before .before .before .before .before .before .before .loop .inv .1) q (c .before .before .before .before .before .before .widen .ensures) (c .enum-told .given .1)
 
 add-i : tie.Need-add-i Inv-loop μ-loop
@@ -71,12 +72,11 @@ loop-less : tie.Need-loop-less Inv-loop μ-loop
 loop-less c = search needs
 
 loop-again : tie.Need-loop-again Inv-loop μ-loop
+unfolding slot
 loop-again c =
     let s = c .before .before .before .before .before .before .before .before .before .before .before .before .before .before .before .before .before .before .before in
-    let es = entriesOf (s .args .count) (s .args .trues .now) (s .args .falses .now) in
     let i = c .before .before .before .before .before .before .before .before .before .before .before .before .before .loop .i in
-    let lt : i < length es = omega (arith, c .before .before .before .before .before .before .before .before .before .before .before .before .loop-test .taken, length-entriesOf (s .args .count) (s .args .trues .now) (s .args .falses .now)) in
-    let q = entries-step (candidates (clauseOf (s .args .exclusive) (setsIn (s .args .alts .now)))) es _ i lt (getD-entriesOf (s .args .count) (s .args .trues .now) (s .args .falses .now) i (c .before .before .before .before .before .before .before .before .before .before .before .before .loop-test .taken)) in
+    let q = collect-step (candidates (clauseOf (s .args .exclusive) (setsIn (s .args .alts .now)))) _ _ _ (entries-next (s .args .count) (s .args .trues .now) (s .args .falses .now) i (record { trues = getD (s .args .trues .now) i 0; falses = getD (s .args .falses .now) i 0 }) (c .before .before .before .before .before .before .before .before .before .before .before .before .loop-test .taken) refl) in
     let le : i + 1 ≤ s .args .count = omega arith in
     (le, going-on _ _ _ _ _ _ _ _ _ _ _ _ _ (c .before .before .before .before .before .before .before .before .before .before .before .before .before .loop .inv .1) q (c .before .before .before .before .before .before .before .widen .ensures) _ (c .before .grown .given .1))
 
@@ -89,8 +89,7 @@ same-length-4 c = holds-falses-long _ _ _ _ _ (c .before .loop .inv .1 .held) �
 returns-2 : tie.Need-returns-2 Inv-loop μ-loop
 returns-2 c =
     let s = c .before .before .before .before .before .before .before in
-    let es = entriesOf (s .args .count) (s .args .trues .now) (s .args .falses .now) in
-    going-end _ _ _ _ _ _ _ _ (c .before .loop .inv .1) (entries-end _ es (c .before .loop .i) (omega (arith, c .loop-test .left, length-entriesOf (s .args .count) (s .args .trues .now) (s .args .falses .now))))
+    going-end _ _ _ _ _ _ _ _ (c .before .loop .inv .1) (collect-end _ _ (entries-done (s .args .count) (s .args .trues .now) (s .args .falses .now) (c .before .loop .i) (c .loop-test .left)))
 
 pub widen-all-spec : {M : Type 1} → statement M
 widen-all-spec =
