@@ -4,6 +4,7 @@ use mathlib.Core.List.{List, [], _++_}
 use Prim.Native.Nat.{ℕ}
 use lib.Dec.{ltb}
 use lib.ListN.{length, drop}
+use Rattle.sheet.specs.Limits.{mostEntries, mostPlaces}
 use Rattle.sheet.specs.declared.Literals.{Literals}
 use Rattle.sheet.specs.Lists.{pad}
 use Rattle.sheet.specs.Problem.{Problem}
@@ -33,22 +34,22 @@ unfoldable pub planned : Problem → List ℕ → Outcome → RunAnswer
 planned p plan (Outcome.refused number) = refusedRun number 0
 planned p plan (Outcome.table t) =
     record {
-      verdict = verdictOf (runFrom 128 (p .goal) 0 (actionsOf p plan) t);
-      table = tableOf (lastTable 128 (actionsOf p plan) t);
+      verdict = verdictOf (runFrom mostEntries (p .goal) 0 (actionsOf p plan) t);
+      table = tableOf (lastTable mostEntries (actionsOf p plan) t);
     }
 
 unfoldable pub runOf : Judgement → ℕ → RunAnswer
 runOf (refused k p) rows = refusedRun k p
-runOf (accepted x) rows = cond (ltb rows 65) (refusedRun 23 0) (planned (x .problem) (x .plan) (startTable 128 (x .problem)))
+runOf (accepted x) rows = cond (ltb rows mostPlaces) (refusedRun 23 0) (planned (x .problem) (x .plan) (startTable mostEntries (x .problem)))
 
 -- the rows to write, from the first on; the others are kept
 unfoldable pub plannedRows : Problem → List ℕ → Outcome → List Row
 plannedRows p plan (Outcome.refused number) = []
-plannedRows p plan (Outcome.table t) = rowsFrom 128 0 (actionsOf p plan) t
+plannedRows p plan (Outcome.table t) = rowsFrom mostEntries 0 (actionsOf p plan) t
 
 unfoldable pub rowsOf : Judgement → ℕ → List Row
 rowsOf (refused k p) rows = []
-rowsOf (accepted x) rows = cond (ltb rows 65) [] (plannedRows (x .problem) (x .plan) (startTable 128 (x .problem)))
+rowsOf (accepted x) rows = cond (ltb rows mostPlaces) [] (plannedRows (x .problem) (x .plan) (startTable mostEntries (x .problem)))
 
 -- the lent rows once they are written: those of the run, and the others as they were
 unfoldable pub rowsAfter : Judgement → List Row → List Row
@@ -70,7 +71,7 @@ answered a = record { kind = kindCase (SearchEnd.answered a); plan = pad 8 0 (pl
 
 -- the first plan of at most `limit` moves that is reached or full
 unfoldable pub searchedFrom : Problem → ℕ → List Literals → Answer
-searchedFrom p limit t = firstOf (λ plan. runFrom 128 (p .goal) 0 (actionsOf p plan) t) (plansUpTo (length (p .actions)) limit)
+searchedFrom p limit t = firstOf (λ plan. runFrom mostEntries (p .goal) 0 (actionsOf p plan) t) (plansUpTo (length (p .actions)) limit)
 
 unfoldable pub searched : Problem → ℕ → Outcome → SearchAnswer
 searched p limit (Outcome.refused number) = refusedSearch number 0
@@ -78,4 +79,4 @@ searched p limit (Outcome.table t) = answered (searchedFrom p limit t)
 
 unfoldable pub searchOf : Judgement → ℕ → SearchAnswer
 searchOf (refused k p) limit = refusedSearch k p
-searchOf (accepted x) limit = cond (ltb 8 limit) (refusedSearch 8 0) (searched (x .problem) limit (startTable 128 (x .problem)))
+searchOf (accepted x) limit = cond (ltb 8 limit) (refusedSearch 8 0) (searched (x .problem) limit (startTable mostEntries (x .problem)))

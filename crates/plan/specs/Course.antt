@@ -3,6 +3,7 @@ use mathlib.Core.Path.{_≡_}
 use mathlib.Core.List.{List, [], _++_, map}
 use Prim.Native.Nat.{ℕ, _+_}
 use lib.ListN.{length, set, replicate}
+use Rattle.sheet.specs.Limits.{mostEntries, mostPlaces}
 use Rattle.sheet.specs.declared.Literals.{Literals}
 use Rattle.sheet.specs.Lists.{pad}
 use Rattle.sheet.specs.Format.{Judgement}
@@ -22,7 +23,7 @@ use Rattle.plan.specs.Calls.{verdictOf, refusedRun, planned, plannedRows
 
 -- the numbers of some rows, in slots with zeros after them
 unfoldable pub countsOf : List Row → Counts
-countsOf rows = record { count = length rows; entries = pad 65 0 (map (λ r. r .entries) rows); clauses = pad 65 0 (map (λ r. r .clauses) rows) }
+countsOf rows = record { count = length rows; entries = pad mostPlaces 0 (map (λ r. r .entries) rows); clauses = pad mostPlaces 0 (map (λ r. r .clauses) rows) }
 
 -- the run on a sheet with so many rows lent
 unfoldable pub courseOf : Judgement → ℕ → Course
@@ -35,8 +36,8 @@ countsIn k es cs = record { count = k; entries = es; clauses = cs }
 
 -- the slots of 65 rows, all zero
 pub record FreshRows (es cs : List ℕ) : Type 0 where
-  pub entries : es ≡ replicate 65 0
-  pub clauses : cs ≡ replicate 65 0
+  pub entries : es ≡ replicate mostPlaces 0
+  pub clauses : cs ≡ replicate mostPlaces 0
 
 -- a run, with the masks of its last table and the numbers of its rows
 abbrev pub courseIn : RunRecord → List ℕ → List ℕ → List ℕ → List ℕ → Course
@@ -60,8 +61,8 @@ refusedCourse number position = record { ran = refusedRun number position; count
 unfoldable pub courseFrom : List Literals → List Row → ℕ → List Action → List Literals → Course
 courseFrom goal rows place plan t =
     record {
-      ran = record { verdict = verdictOf (runFrom 128 goal place plan t); table = tableOf (lastTable 128 plan t) };
-      counts = countsOf (rows ++ rowsFrom 128 place plan t);
+      ran = record { verdict = verdictOf (runFrom mostEntries goal place plan t); table = tableOf (lastTable mostEntries plan t) };
+      counts = countsOf (rows ++ rowsFrom mostEntries place plan t);
     }
 
 -- any plan of a problem, from what its start gave
@@ -70,5 +71,5 @@ plannedCourse p plan start = record { ran = planned p plan start; counts = count
 
 -- a table that a run can take: as document 01 describes it, with zeros after its entries
 pub record Ready (n : ℕ) (t : Table) : Type 0 where
-  pub described : Described 128 n (entries t)
+  pub described : Described mostEntries n (entries t)
   pub zeros : t ≡ tableOf (entries t)

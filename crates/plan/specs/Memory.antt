@@ -4,6 +4,7 @@ use mathlib.Core.Path.{_≡_}
 use mathlib.Core.List.{List}
 use Prim.Native.Nat.{ℕ, _+_, _*_, _≤_, _<_}
 use lib.ListN.{length, getD, take, drop}
+use Rattle.sheet.specs.Limits.{memorySlot, mostEntries}
 use Rattle.sheet.specs.declared.Literals.{Literals}
 use Rattle.sheet.specs.Packed.{itemAt}
 use Rattle.table.specs.Slots.{entriesOf, entries, Room}
@@ -16,17 +17,17 @@ abbrev pub markIn : List ℕ → ℕ
 markIn slot = getD slot 0 0
 
 unfoldable pub tableIn : List ℕ → List Literals
-tableIn slot = entriesOf (getD slot 1 0) (take 128 (drop 2 slot)) (take 128 (drop 130 slot))
+tableIn slot = entriesOf (getD slot 1 0) (take mostEntries (drop 2 slot)) (take mostEntries (drop 130 slot))
 
 -- two arrays with a table that a slot has room for
 pub record Storable (count : ℕ) (ts fs : List ℕ) : Type 0 where
-  pub most : count ≤ 128
+  pub most : count ≤ mostEntries
   pub room : Room count ts fs
 
 -- of every slot it is so: no plan of fewer moves than its mark is reached or full from its table
 abbrev pub Remembers : List ℕ → ℕ → List ℕ → Type 0
 Remembers packed count memory =
-    (j : ℕ) → j * 258 + 258 ≤ length memory → NoShorterFrom packed count 0 (tableIn (itemAt 258 memory j)) (markIn (itemAt 258 memory j))
+    (j : ℕ) → j * memorySlot + memorySlot ≤ length memory → NoShorterFrom packed count 0 (tableIn (itemAt memorySlot memory j)) (markIn (itemAt memorySlot memory j))
 
 -- what a search that is under way asks: moves, goal and table; at most eight moves; no answer by fewer; a memory of what is so
 pub record Underway (packed : List ℕ) (depth : Depth) (t : Table) (memory : List ℕ) : Type 0 where
@@ -38,6 +39,6 @@ pub record Underway (packed : List ℕ) (depth : Depth) (t : Table) (memory : Li
 -- some slot has the table es, with a mark above `left`
 pub record Recalls (memory : List ℕ) (es : List Literals) (left : ℕ) : Type 0 where
   pub slot : ℕ
-  pub room : slot * 258 + 258 ≤ length memory
-  pub above : left < markIn (itemAt 258 memory slot)
-  pub alike : tableIn (itemAt 258 memory slot) ≡ es
+  pub room : slot * memorySlot + memorySlot ≤ length memory
+  pub above : left < markIn (itemAt memorySlot memory slot)
+  pub alike : tableIn (itemAt memorySlot memory slot) ≡ es

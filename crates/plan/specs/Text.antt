@@ -7,6 +7,7 @@ use Prim.Native.Char.{code}
 use Prim.Native.String.{String, [] as none, _∷_ as _then_}
 use lib.Dec.{ltb, eqb}
 use lib.ListN.{length, take, drop}
+use Rattle.sheet.specs.Limits.{fullPicture, mostPlaces, reportLength}
 use Rattle.sheet.specs.Format.{Judgement}
 use Rattle.plan.specs.declared.Row.{Row}
 use Rattle.plan.specs.declared.Verdict.{Verdict}
@@ -30,7 +31,7 @@ decimal n = digitsOf (suc n) n
 
 -- "A full picture prints `-` as clauses"
 unfoldable pub clausesText : ℕ → List ℕ
-clausesText n = cond (eqb n 257) (ascii "-") (decimal n)
+clausesText n = cond (eqb n fullPicture) (ascii "-") (decimal n)
 
 -- "place, entries, clauses"
 unfoldable pub rowText : Row → List ℕ
@@ -59,16 +60,16 @@ textOf verdict rows = cond (refusedVerdict verdict) [] (ascii "place entries cla
 
 -- the whole output for a sheet, by a run with 65 rows
 unfoldable pub outputOf : Judgement → List ℕ
-outputOf sheet = textOf (runOf sheet 65 .verdict) (rowsOf sheet 65)
+outputOf sheet = textOf (runOf sheet mostPlaces .verdict) (rowsOf sheet mostPlaces)
 
 -- ---- the call `report`: the output in a lent buffer of at least 8,192 bytes; a shorter one is left as it was
 -- the length of the output, 0 in a buffer that is too short
 unfoldable pub reportOf : Judgement → ℕ → ℕ
-reportOf sheet lent = cond (ltb lent 8192) 0 (length (outputOf sheet))
+reportOf sheet lent = cond (ltb lent reportLength) 0 (length (outputOf sheet))
 
 -- the buffer: the output, and later bytes as they were
 unfoldable pub reportIn : Judgement → List ℕ → List ℕ
-reportIn sheet buffer = cond (ltb (length buffer) 8192) buffer (outputOf sheet ++ drop (length (outputOf sheet)) buffer)
+reportIn sheet buffer = cond (ltb (length buffer) reportLength) buffer (outputOf sheet ++ drop (length (outputOf sheet)) buffer)
 
 -- ---- bytes in a lent buffer
 -- the bytes s stand from `at` on, the others are kept, and r is the place after s

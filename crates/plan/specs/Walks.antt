@@ -4,6 +4,7 @@ use mathlib.Core.Bool.{Bool, true, false}
 use mathlib.Core.List.{List, _∷_, _++_, map}
 use Prim.Native.Nat.{ℕ, _+_, _*_, _≤_, _<_}
 use lib.ListN.{length, replicate}
+use Rattle.sheet.specs.Limits.{mostEntries, packedLength}
 use Rattle.sheet.specs.declared.Literals.{Literals}
 use Rattle.sheet.specs.Lists.{All, pad}
 use Rattle.sheet.specs.Problem.{Action}
@@ -27,7 +28,7 @@ use Rattle.plan.specs.Course.{Ready, FreshRows}
 -- ---- the first answer from the table t, `place` moves already taken, by the numbers of the moves f
 -- the verdict of a plan
 abbrev pub ranFrom : List Literals → (ℕ → Action) → ℕ → List Literals → List ℕ → Verdict
-ranFrom goal f place t plan = runFrom 128 goal place (map f plan) t
+ranFrom goal f place t plan = runFrom mostEntries goal place (map f plan) t
 
 -- among the plans of n of the k moves
 abbrev pub firstFrom : List Literals → (ℕ → Action) → ℕ → ℕ → List Literals → ℕ → Answer
@@ -64,16 +65,16 @@ pub record Searchable (packed : List ℕ) (count : ℕ) (t : Table) : Type 0 whe
   pub n-most : n ≤ 32
   pub least : 1 ≤ count
   pub most : count ≤ 32
-  pub long : length packed ≡ 1409
+  pub long : length packed ≡ packedLength
   pub effects-most : (i : ℕ) → i < count → countOf (movesIn packed) i ≤ 8
   pub actions : (i : ℕ) → i < count → ProperAction n (actionOf (movesIn packed) i)
   pub goal-fits : SetsFit (goalIn packed)
-  pub entries-most : t .count ≤ 128
+  pub entries-most : t .count ≤ mostEntries
   pub ready : Ready n t
 
 -- what a step of a run asks: the packed array with the move of a number, and a table over the same propositions
 pub record StepHere (packed : List ℕ) (index : ℕ) (t : Table) : Type 0 where
-  pub long : length packed ≡ 1409
+  pub long : length packed ≡ packedLength
   pub most : index < 32
   pub effects-few : countOf (movesIn packed) index ≤ 8
   pub fits : Fits (actionOf (movesIn packed) index) t

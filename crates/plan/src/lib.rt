@@ -1,5 +1,7 @@
 // Plans: the run of a plan, the search for one, and the text of the program.
 use sheet::Answer;
+use sheet::limits::ENTRIES;
+use sheet::limits::PLACES;
 use sheet::packed::LENGTH;
 use table::Table;
 ghost use mathlib.Core.Path.{_≡_};
@@ -14,6 +16,12 @@ pub mod rows;
 pub mod runs;
 pub mod searches;
 pub mod text;
+
+// Bytes that the text of any run fits into.
+pub const REPORT_LENGTH: usize = 8192;
+
+// The numbers of eight slots: the memory of a search for which the caller lends none.
+const OWN_MEMORY: usize = 2064;
 
 // What a run says of a place: the place, the entries of its table and the clauses of its picture.
 pub struct Row {
@@ -55,8 +63,8 @@ pub struct SearchAnswer {
 // The rows of a run as plain numbers: for each of the first count places, its entries and its clauses; zeros after them.
 pub struct Counts {
     pub count: usize,
-    pub entries: [usize; 65],
-    pub clauses: [usize; 65],
+    pub entries: [usize; PLACES],
+    pub clauses: [usize; PLACES],
 }
 
 // What a run over lent arrays leaves beside them: its verdict, how many entries the last table has, and how many rows there are.
@@ -89,16 +97,16 @@ pub fn report(bytes: &[u8], out: &mut [u8]) -> usize
     ensures { λ r. ⌜ r ≡ reportOf (sheetOf (now (bytes .entry))) (length (now (out .entry))) ⌝ }
     ensures { λ r. ⌜ now (out .exit) ≡ reportIn (sheetOf (now (bytes .entry))) (now (out .entry)) ⌝ }
 {
-    if out.len() < 8192 {
+    if out.len() < REPORT_LENGTH {
         return 0;
     }
-    let mut trues = [0u32; 128];
-    let mut falses = [0u32; 128];
-    let mut entries = [0usize; 65];
-    let mut clauses = [0usize; 65];
+    let mut trues = [0u32; ENTRIES];
+    let mut falses = [0u32; ENTRIES];
+    let mut entries = [0usize; PLACES];
+    let mut clauses = [0usize; PLACES];
     let ran = runs::course_into(
         bytes,
-        65,
+        PLACES,
         &mut trues,
         &mut falses,
         &mut entries,
@@ -112,7 +120,7 @@ pub fn report(bytes: &[u8], out: &mut [u8]) -> usize
 pub fn search(bytes: &[u8], limit: usize) -> SearchAnswer
     ensures { λ r. ⌜ r ≡ searchOf (sheetOf (now (bytes .entry))) limit ⌝ }
 {
-    let mut memory = [0u32; 2064];
+    let mut memory = [0u32; OWN_MEMORY];
     search_with(bytes, limit, &mut memory)
 }
 

@@ -10,6 +10,14 @@ ghost use mathlib.Core.List.{List};
 ghost use Rattle.table.specs.Slots.{entriesOf, Room};
 ghost use Rattle.plan.specs.Walks.{NoShorterFrom};
 ghost use Rattle.plan.specs.Memory.{markIn, tableIn, Storable, Recalls, Remembers};
+ghost use Rattle.sheet.specs.Limits.{memorySlot};
+
+// The numbers of a slot, and where its masks begin.
+const SLOT: usize = 258;
+
+const TRUES: usize = 2;
+
+const FALSES: usize = 130;
 
 // One entry more in a digest.
 pub(crate) fn stir(digest: usize, trues: usize, falses: usize) -> usize {
@@ -51,7 +59,7 @@ pub(crate) fn holds<'a, 'b>(
     count: usize,
     left: usize,
 ) -> bool
-    requires { ⌜ length (now slot) ≡ 258 ⌝ }
+    requires { ⌜ length (now slot) ≡ memorySlot ⌝ }
     requires { ⌜ Storable count (now trues) (now falses) ⌝ }
     ensures { λ r. ⌜ (r ≡ true → (left < markIn (now (slot .entry))) × (tableIn (now (slot .entry)) ≡ entriesOf count (now (trues .entry)) (now (falses .entry)))) ⌝ }
 {
@@ -61,7 +69,9 @@ pub(crate) fn holds<'a, 'b>(
     if wide(slot[1]) != count {
         return false;
     }
-    same(&slot[2..130], &slot[130..258], count, trues, falses, count)
+    let stored_trues = &slot[TRUES..FALSES];
+    let stored_falses = &slot[FALSES..SLOT];
+    same(stored_trues, stored_falses, count, trues, falses, count)
 }
 
 // The table and the mark, written into the slot.
@@ -72,26 +82,26 @@ pub(crate) fn fill<'a, 'b>(
     count: usize,
     mark: usize,
 )
-    requires { ⌜ (length (now slot) ≡ 258) × (mark ≤ 9) ⌝ }
+    requires { ⌜ (length (now slot) ≡ memorySlot) × (mark ≤ 9) ⌝ }
     requires { ⌜ Storable count (now trues) (now falses) ⌝ }
-    ensures { λ r. ⌜ (length (now (slot .exit)) ≡ 258) × (markIn (now (slot .exit)) ≡ mark) × (tableIn (now (slot .exit)) ≡ entriesOf count (now (trues .entry)) (now (falses .entry))) ⌝ }
+    ensures { λ r. ⌜ (length (now (slot .exit)) ≡ memorySlot) × (markIn (now (slot .exit)) ≡ mark) × (tableIn (now (slot .exit)) ≡ entriesOf count (now (trues .entry)) (now (falses .entry))) ⌝ }
 {
     slot[0] = mark as u32;
     slot[1] = count as u32;
     let mut i: usize = 0;
     while i < count {
-        slot[2 + i] = trues[i];
-        slot[130 + i] = falses[i];
+        slot[TRUES + i] = trues[i];
+        slot[FALSES + i] = falses[i];
         i += 1;
     }
 }
 
 // One of two slots: that with the lesser mark.
 pub(crate) fn lesser(memory: &[u32], j: usize, k: usize) -> usize
-    requires { ⌜ (j * 258 + 258 ≤ length (now memory)) × (k * 258 + 258 ≤ length (now memory)) ⌝ }
-    ensures { λ r. ⌜ r * 258 + 258 ≤ length (now (memory .entry)) ⌝ }
+    requires { ⌜ (j * memorySlot + memorySlot ≤ length (now memory)) × (k * memorySlot + memorySlot ≤ length (now memory)) ⌝ }
+    ensures { λ r. ⌜ r * memorySlot + memorySlot ≤ length (now (memory .entry)) ⌝ }
 {
-    if memory[k * 258] < memory[j * 258] {
+    if memory[k * SLOT] < memory[j * SLOT] {
         return k;
     }
     j
@@ -108,18 +118,18 @@ pub(crate) fn remembered<'a, 'b>(
     requires { ⌜ Storable count (now trues) (now falses) ⌝ }
     ensures { λ r. ⌜ (r ≡ true → Recalls (now (memory .entry)) (entriesOf count (now (trues .entry)) (now (falses .entry))) left) ⌝ }
 {
-    let slots = memory.len() / 258;
+    let slots = memory.len() / SLOT;
     if slots == 0 {
         return false;
     }
     let j = place(trues, falses, count, slots);
-    let at = j * 258;
-    if holds(&memory[at..at + 258], trues, falses, count, left) {
+    let at = j * SLOT;
+    if holds(&memory[at..at + SLOT], trues, falses, count, left) {
         return true;
     }
     let k = following(j, slots);
-    let from = k * 258;
-    holds(&memory[from..from + 258], trues, falses, count, left)
+    let from = k * SLOT;
+    holds(&memory[from..from + SLOT], trues, falses, count, left)
 }
 
 // The table with this mark takes the place of another, if there is a slot at all and the mark is of use. Whatever was known of the slots is
@@ -138,24 +148,24 @@ pub(crate) fn remember<'a, 'b>(
     if mark < 2 {
         return;
     }
-    let slots = memory.len() / 258;
+    let slots = memory.len() / SLOT;
     if slots == 0 {
         return;
     }
     let j = place(trues, falses, count, slots);
     let k = following(j, slots);
-    let at = lesser(memory, j, k) * 258;
-    fill(&mut memory[at..at + 258], trues, falses, count, mark);
+    let at = lesser(memory, j, k) * SLOT;
+    fill(&mut memory[at..at + SLOT], trues, falses, count, mark);
 }
 
 // Nothing is remembered, whatever stood there.
 pub(crate) fn forget(memory: &mut [u32])
     ensures { λ r. ⌜ ((packed : List ℕ) → (k : ℕ) → Remembers packed k (now (memory .exit))) ⌝ }
 {
-    let slots = memory.len() / 258;
+    let slots = memory.len() / SLOT;
     let mut j: usize = 0;
     while j < slots {
-        memory[j * 258] = 0;
+        memory[j * SLOT] = 0;
         j += 1;
     }
 }

@@ -8,6 +8,8 @@ use crate::goals::all_in_goal;
 use sheet::Answer;
 use sheet::Plan;
 use sheet::Sheet;
+use sheet::limits::ENTRIES;
+use sheet::limits::PLACES;
 use sheet::packed::GOAL;
 use sheet::packed::LENGTH;
 use sheet::packed::MOVES;
@@ -35,17 +37,18 @@ ghost use Rattle.plan.specs.Run as R;
 ghost use Rattle.plan.specs.Calls.{verdictOf};
 ghost use Rattle.plan.specs.Course as C;
 ghost use Rattle.plan.specs.Walks as W;
+ghost use Rattle.sheet.specs.Limits.{mostEntries, mostPlaces};
 
 // One row more: the entries of a lent table and the clauses of its picture.
 pub(crate) fn note<'a, 'b, 'c>(
-    entries: &'a mut [usize; 65],
-    clauses: &'b mut [usize; 65],
+    entries: &'a mut [usize; PLACES],
+    clauses: &'b mut [usize; PLACES],
     at: usize,
     trues: &'c [u32],
     falses: &'c [u32],
     count: usize,
 )
-    requires { ⌜ (at < 65) × (1 ≤ count) ⌝ }
+    requires { ⌜ (at < mostPlaces) × (1 ≤ count) ⌝ }
     requires { ⌜ Room count (now trues) (now falses) ⌝ }
     ensures { λ _. ⌜ C.countsIn (at + 1) (now (entries .exit)) (now (clauses .exit)) ≡ C.noted (C.countsIn at (now (entries .entry)) (now (clauses .entry))) (entriesOf count (now (trues .entry)) (now (falses .entry))) ⌝ }
 {
@@ -84,15 +87,15 @@ pub(crate) fn end<'a, 'b>(
 pub(crate) fn step_here<'a, 'b, 'c>(
     packed: &'a [u32],
     index: usize,
-    trues: &'b mut [u32; 128],
-    falses: &'c mut [u32; 128],
+    trues: &'b mut [u32; ENTRIES],
+    falses: &'c mut [u32; ENTRIES],
     count: usize,
 ) -> Stepped
     requires { ⌜ W.StepHere (now packed) index (lent count (now trues) (now falses)) ⌝ }
-    ensures { λ r. ⌜ stepAnswer (lent count (now (trues .exit)) (now (falses .exit))) r (now (trues .exit)) (now (falses .exit)) ≡ orGiven (lent count (now (trues .entry)) (now (falses .entry))) (stepTable 128 (actionOf (movesIn (now (packed .entry))) index) (entriesOf count (now (trues .entry)) (now (falses .entry)))) ⌝ }
+    ensures { λ r. ⌜ stepAnswer (lent count (now (trues .exit)) (now (falses .exit))) r (now (trues .exit)) (now (falses .exit)) ≡ orGiven (lent count (now (trues .entry)) (now (falses .entry))) (stepTable mostEntries (actionOf (movesIn (now (packed .entry))) index) (entriesOf count (now (trues .entry)) (now (falses .entry)))) ⌝ }
 {
-    let mut to_trues = [0u32; 128];
-    let mut to_falses = [0u32; 128];
+    let mut to_trues = [0u32; ENTRIES];
+    let mut to_falses = [0u32; ENTRIES];
     match step_at(
         packed,
         index,
@@ -115,11 +118,11 @@ pub(crate) fn step_here<'a, 'b, 'c>(
 pub(crate) fn run_from<'a, 'b, 'c, 'd, 'e>(
     plan: Plan,
     packed: &'a [u32],
-    trues: &'b mut [u32; 128],
-    falses: &'c mut [u32; 128],
+    trues: &'b mut [u32; ENTRIES],
+    falses: &'c mut [u32; ENTRIES],
     count: usize,
-    entries: &'d mut [usize; 65],
-    clauses: &'e mut [usize; 65],
+    entries: &'d mut [usize; PLACES],
+    clauses: &'e mut [usize; PLACES],
 ) -> RunRecord
     requires { ⌜ W.Runnable plan (now packed) (lent count (now trues) (now falses)) ⌝ }
     requires { ⌜ C.FreshRows (now entries) (now clauses) ⌝ }
@@ -157,7 +160,7 @@ pub(crate) fn run_from<'a, 'b, 'c, 'd, 'e>(
 
 // A refusal: no table, and no row.
 pub(crate) fn refuse_run(number: u8, position: usize) -> RunRecord
-    ensures { λ r. ⌜ C.courseIn r (replicate 128 0) (replicate 128 0) (replicate 65 0) (replicate 65 0) ≡ C.refusedCourse number position ⌝ }
+    ensures { λ r. ⌜ C.courseIn r (replicate mostEntries 0) (replicate mostEntries 0) (replicate mostPlaces 0) (replicate mostPlaces 0) ≡ C.refusedCourse number position ⌝ }
 {
     RunRecord {
         verdict: Verdict::Refused(number, position),
@@ -170,20 +173,20 @@ pub(crate) fn refuse_run(number: u8, position: usize) -> RunRecord
 pub(crate) fn run_sheet<'a, 'b, 'c, 'd, 'e>(
     sheet: Sheet,
     packed: &'a [u32],
-    trues: &'b mut [u32; 128],
-    falses: &'c mut [u32; 128],
-    entries: &'d mut [usize; 65],
-    clauses: &'e mut [usize; 65],
+    trues: &'b mut [u32; ENTRIES],
+    falses: &'c mut [u32; ENTRIES],
+    entries: &'d mut [usize; PLACES],
+    clauses: &'e mut [usize; PLACES],
 ) -> RunRecord
     requires { ⌜ W.RunRoom sheet (now packed) (now trues) (now falses) (now entries) (now clauses) ⌝ }
-    ensures { λ r. ⌜ C.courseIn r (now (trues .exit)) (now (falses .exit)) (now (entries .exit)) (now (clauses .exit)) ≡ C.plannedCourse (problemIn sheet (now (packed .entry))) (planIn (sheet .plan)) (startTable 128 (problemIn sheet (now (packed .entry)))) ⌝ }
+    ensures { λ r. ⌜ C.courseIn r (now (trues .exit)) (now (falses .exit)) (now (entries .exit)) (now (clauses .exit)) ≡ C.plannedCourse (problemIn sheet (now (packed .entry))) (planIn (sheet .plan)) (startTable mostEntries (problemIn sheet (now (packed .entry)))) ⌝ }
 {
     let plan = sheet.plan;
     match first_into(sheet, packed, trues, falses) {
         Started::To(count) => run_from(plan, packed, trues, falses, count, entries, clauses),
         Started::Refused(number) => {
-            *trues = [0u32; 128];
-            *falses = [0u32; 128];
+            *trues = [0u32; ENTRIES];
+            *falses = [0u32; ENTRIES];
             refuse_run(number, 0)
         }
     }
@@ -193,10 +196,10 @@ pub(crate) fn run_sheet<'a, 'b, 'c, 'd, 'e>(
 pub fn course_into<'a, 'b, 'c, 'd, 'e>(
     bytes: &'a [u8],
     lent: usize,
-    trues: &'b mut [u32; 128],
-    falses: &'c mut [u32; 128],
-    entries: &'d mut [usize; 65],
-    clauses: &'e mut [usize; 65],
+    trues: &'b mut [u32; ENTRIES],
+    falses: &'c mut [u32; ENTRIES],
+    entries: &'d mut [usize; PLACES],
+    clauses: &'e mut [usize; PLACES],
 ) -> RunRecord
     requires { ⌜ Fresh (now trues) (now falses) ⌝ }
     requires { ⌜ C.FreshRows (now entries) (now clauses) ⌝ }
@@ -208,7 +211,7 @@ pub fn course_into<'a, 'b, 'c, 'd, 'e>(
     match answer {
         Answer::Refused(number, position) => refuse_run(number, position),
         Answer::Accepted => {
-            if lent < 65 {
+            if lent < PLACES {
                 return refuse_run(23, 0);
             }
             let sheet = decoded.sheet;
@@ -223,10 +226,10 @@ pub fn course_into<'a, 'b, 'c, 'd, 'e>(
 pub fn course(bytes: &[u8], lent: usize) -> Course
     ensures { λ r. ⌜ r ≡ C.courseOf (sheetOf (now (bytes .entry))) lent ⌝ }
 {
-    let mut trues = [0u32; 128];
-    let mut falses = [0u32; 128];
-    let mut entries = [0usize; 65];
-    let mut clauses = [0usize; 65];
+    let mut trues = [0u32; ENTRIES];
+    let mut falses = [0u32; ENTRIES];
+    let mut entries = [0usize; PLACES];
+    let mut clauses = [0usize; PLACES];
     let ran = course_into(
         bytes,
         lent,

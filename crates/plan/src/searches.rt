@@ -6,6 +6,7 @@ use crate::memory::forget;
 use crate::memory::remember;
 use crate::memory::remembered;
 use sheet::Sheet;
+use sheet::limits::ENTRIES;
 use sheet::packed::GOAL;
 use sheet::packed::MOVES;
 use table::starts::Started;
@@ -25,6 +26,7 @@ ghost use Rattle.plan.specs.Search.{fullAt, nothing};
 ghost use Rattle.plan.specs.Calls.{refusedSearch, answered, searched};
 ghost use Rattle.plan.specs.Walks as W;
 ghost use Rattle.plan.specs.Memory.{Remembers, Underway};
+ghost use Rattle.sheet.specs.Limits.{mostEntries};
 
 // Where the search stands: how many moves there are to choose from, how many are taken, how many are left.
 pub struct Depth {
@@ -128,8 +130,8 @@ fn try_move<'a, 'b, 'c>(
     ensures answers { λ r. ⌜ r ≡ W.moveTried (now (packed .entry)) (depth .moves) (M.lent count (now (trues .entry)) (now (falses .entry))) (depth .at) (depth .left - 1) index ⌝ }
     ensures keeps { λ r. ⌜ Remembers (now (packed .entry)) (depth .moves) (now (memory .exit)) ⌝ }
 {
-    let mut to_trues = [0u32; 128];
-    let mut to_falses = [0u32; 128];
+    let mut to_trues = [0u32; ENTRIES];
+    let mut to_falses = [0u32; ENTRIES];
     let stepped = step_at(
         packed,
         index,
@@ -248,10 +250,10 @@ pub(crate) fn search_sheet<'a, 'b>(
 ) -> SearchAnswer
     requires { ⌜ Filled sheet (now packed) ⌝ }
     requires { ⌜ limit ≤ 8 ⌝ }
-    ensures { λ r. ⌜ r ≡ searched (problemIn sheet (now (packed .entry))) limit (startTable 128 (problemIn sheet (now (packed .entry)))) ⌝ }
+    ensures { λ r. ⌜ r ≡ searched (problemIn sheet (now (packed .entry))) limit (startTable mostEntries (problemIn sheet (now (packed .entry)))) ⌝ }
 {
-    let mut trues = [0u32; 128];
-    let mut falses = [0u32; 128];
+    let mut trues = [0u32; ENTRIES];
+    let mut falses = [0u32; ENTRIES];
     match first_into(sheet, packed, &mut trues, &mut falses) {
         Started::To(count) => lengths(packed, sheet.moves, &trues, &falses, count, limit, memory),
         Started::Refused(number) => refuse_search(number, 0),

@@ -2,6 +2,8 @@
 use crate::Row;
 use crate::Verdict;
 use crate::rows::row_at;
+use sheet::limits::FULL_PICTURE;
+use sheet::limits::PLACES;
 ghost use mathlib.Core.Path.{_≡_};
 ghost use Prim.Native.Nat.{_+_, _*_, _≤_};
 ghost use lib.ListN.{length};
@@ -9,6 +11,7 @@ ghost use Rattle.plan.specs.Demand3.{refusedVerdict};
 ghost use Rattle.plan.specs.Course.{countsIn};
 ghost use Rattle.plan.specs.Rows.{rowsIn};
 ghost use Rattle.plan.specs.Text.{decimal, clausesText, rowText, rowsText, numberAt, lastLine, textOf, Wrote};
+ghost use Rattle.sheet.specs.Limits.{mostPlaces, reportLength};
 
 // The bytes s.
 pub(crate) fn write_bytes(out: &mut [u8], at: usize, s: &[u8]) -> usize
@@ -44,7 +47,7 @@ pub(crate) fn write_clauses(out: &mut [u8], at: usize, clauses: usize) -> usize
     ensures { λ r. ⌜ Wrote (now (out .entry)) at (clausesText clauses) r (now (out .exit)) ⌝ }
     ensures { λ r. ⌜ r ≤ at + 20 ⌝ }
 {
-    if clauses == 257 {
+    if clauses == FULL_PICTURE {
         return write_bytes(out, at, b"-");
     }
     write_number(out, at, clauses)
@@ -69,10 +72,10 @@ pub(crate) fn write_row_lines<'a, 'b>(
     out: &'a mut [u8],
     at: usize,
     rows: usize,
-    entries: &'b [usize; 65],
-    clauses: &'b [usize; 65],
+    entries: &'b [usize; PLACES],
+    clauses: &'b [usize; PLACES],
 ) -> usize
-    requires { ⌜ rows ≤ 65 ⌝ }
+    requires { ⌜ rows ≤ mostPlaces ⌝ }
     requires { ⌜ at + 63 * rows ≤ length (now out) ⌝ }
     ensures { λ r. ⌜ Wrote (now (out .entry)) at (rowsText (rowsIn (countsIn rows (now (entries .entry)) (now (clauses .entry))))) r (now (out .exit)) ⌝ }
     ensures { λ r. ⌜ r ≤ at + 63 * rows ⌝ }
@@ -135,11 +138,11 @@ pub(crate) fn write_text<'a, 'b>(
     out: &'a mut [u8],
     verdict: Verdict,
     rows: usize,
-    entries: &'b [usize; 65],
-    clauses: &'b [usize; 65],
+    entries: &'b [usize; PLACES],
+    clauses: &'b [usize; PLACES],
 ) -> usize
-    requires { ⌜ rows ≤ 65 ⌝ }
-    requires { ⌜ 8192 ≤ length (now out) ⌝ }
+    requires { ⌜ rows ≤ mostPlaces ⌝ }
+    requires { ⌜ reportLength ≤ length (now out) ⌝ }
     ensures { λ r. ⌜ Wrote (now (out .entry)) 0 (textOf verdict (rowsIn (countsIn rows (now (entries .entry)) (now (clauses .entry))))) r (now (out .exit)) ⌝ }
 {
     if is_refused(verdict) {

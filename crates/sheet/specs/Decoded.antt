@@ -3,6 +3,7 @@ use mathlib.Core.Path.{_≡_}
 use mathlib.Core.List.{List}
 use Prim.Native.Nat.{ℕ, _≤_}
 use lib.ListN.{length, take}
+use Rattle.sheet.specs.Limits.{packedLength}
 use Rattle.sheet.specs.declared.Answer.{Answer}
 use Rattle.sheet.specs.declared.Answer.the-variants.{Accepted, Refused}
 use Rattle.sheet.specs.declared.Plan.{Plan}
@@ -46,6 +47,6 @@ judgementIn d packed = judgedBy (d .answer) (statementIn (d .sheet) packed)
 
 -- a sheet that was read and accepted
 pub record Filled (x : Sheet) (packed : List ℕ) : Type 0 where
-  pub long : length packed ≡ 1409
+  pub long : length packed ≡ packedLength
   pub plan-most : x .plan .count ≤ 64
   pub proper : ProperStatement (statementIn x packed)

@@ -1,4 +1,5 @@
 -- The definitions that the contracts and theorems of this crate cite, one file for each notion.
+pub mod Limits
 pub mod Literals
 pub mod Lists
 pub mod Problem

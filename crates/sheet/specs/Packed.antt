@@ -3,6 +3,7 @@ use mathlib.Core.Path.{_≡_}
 use mathlib.Core.List.{List, [], _∷_}
 use Prim.Native.Nat.{ℕ, zero, suc, _+_, _*_, _≤_}
 use lib.ListN.{length, getD, take, drop}
+use Rattle.sheet.specs.Limits.{setsWidth, effectsWidth, moveWidth, clausesWidth, movesWidth, oneofsAt, goalAt, movesAt}
 use Rattle.sheet.specs.declared.Literals.{Literals}
 use Rattle.sheet.specs.declared.Effect.{Effect}
 use Rattle.sheet.specs.Problem.{Action}
@@ -13,16 +14,16 @@ abbrev pub part : ℕ → ℕ → List ℕ → List ℕ
 part at w xs = take w (drop at xs)
 
 abbrev pub orsIn : List ℕ → List ℕ
-orsIn = part 0 136
+orsIn = part 0 clausesWidth
 
 abbrev pub oneofsIn : List ℕ → List ℕ
-oneofsIn = part 136 136
+oneofsIn = part oneofsAt clausesWidth
 
 abbrev pub goalIn : List ℕ → List ℕ
-goalIn = part 272 17
+goalIn = part goalAt setsWidth
 
 abbrev pub movesIn : List ℕ → List ℕ
-movesIn = part 289 1120
+movesIn = part movesAt movesWidth
 
 -- ---- sets and effects as masks
 -- the set whose two masks stand from number i on
@@ -66,26 +67,26 @@ setsIn xs = setsAt (getD xs 0 0) (drop 1 xs)
 
 -- 17 numbers whose count is at most eight
 abbrev pub SetsFit : List ℕ → Type 0
-SetsFit xs = (length xs ≡ 17) × (getD xs 0 0 ≤ 8)
+SetsFit xs = (length xs ≡ setsWidth) × (getD xs 0 0 ≤ 8)
 
 -- the first k clauses
 abbrev pub clausesAt : ℕ → List ℕ → List (List Literals)
-clausesAt = itemsAt 17 setsIn
+clausesAt = itemsAt setsWidth setsIn
 
 -- ---- a move in 35 numbers: the two masks of its precondition, its count, and four masks to each of eight effects
 abbrev pub countIn : List ℕ → ℕ
 countIn xs = getD xs 2 0
 
 unfoldable pub actionFrom : List ℕ → Action
-actionFrom xs = actionBy (setFrom xs 0) (countIn xs) (take 32 (drop 3 xs))
+actionFrom xs = actionBy (setFrom xs 0) (countIn xs) (take effectsWidth (drop 3 xs))
 
 -- the count and the action of move m
 abbrev pub countOf : List ℕ → ℕ → ℕ
-countOf xs m = countIn (itemAt 35 xs m)
+countOf xs m = countIn (itemAt moveWidth xs m)
 
 abbrev pub actionOf : List ℕ → ℕ → Action
-actionOf xs m = actionFrom (itemAt 35 xs m)
+actionOf xs m = actionFrom (itemAt moveWidth xs m)
 
 -- the first k moves
 abbrev pub actionsAt : ℕ → List ℕ → List Action
-actionsAt = itemsAt 35 actionFrom
+actionsAt = itemsAt moveWidth actionFrom

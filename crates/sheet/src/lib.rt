@@ -5,6 +5,7 @@ ghost use Prim.Native.Nat.{_≤_};
 ghost use Rattle.sheet.specs.Decoded.{judgementIn};
 ghost use Rattle.sheet.specs.Calls.{judgeOf};
 
+pub mod limits;
 pub mod masks;
 pub mod packed;
 mod reader;

@@ -24,6 +24,7 @@ ghost use Rattle.sheet.specs.Decoded.{planOf, judgementIn};
 ghost use Rattle.sheet.specs.Marks.{ReadsAs, same, literalBefore, factsIn, refusedBy};
 ghost use Rattle.sheet.specs.Calls.{answerOf};
 ghost use Rattle.sheet.specs.declared.Answer.the-variants.{Refused};
+ghost use Rattle.sheet.specs.Limits.{packedLength};
 
 // Where reading stands: at the next position, or at a fault with its number and position.
 pub enum Mark {
@@ -480,7 +481,7 @@ fn no_facts(mark: Mark) -> FactsRead
 
 // Sections 1 to 4, the clauses laid in the packed array.
 fn facts_at(s: &[u8], packed: &mut [u32]) -> FactsRead
-    requires { ⌜ length (now packed) ≡ 1409 ⌝ }
+    requires { ⌜ length (now packed) ≡ packedLength ⌝ }
     ensures { λ r. ⌜ ReadsAs same (read (now (s .entry)) F.facts 0) (r .mark) (factsIn (r .value) (now (packed .exit))) × (r .value .n ≤ 32) ⌝ }
 {
     let first = count_at(s, 1, 32, 0);
@@ -545,7 +546,7 @@ fn refuse_at(mark: Mark) -> Decoded
 
 // The sheet, its clauses, goal and moves laid in the packed array, or its first fault.
 pub(crate) fn sheet_in(s: &[u8], packed: &mut [u32]) -> Decoded
-    requires { ⌜ length (now packed) ≡ 1409 ⌝ }
+    requires { ⌜ length (now packed) ≡ packedLength ⌝ }
     ensures { λ r. ⌜ (judgementIn r (now (packed .exit)) ≡ F.sheetOf (now (s .entry))) × (r .sheet .plan .count ≤ 64) ⌝ }
 {
     let facts = facts_at(s, packed);

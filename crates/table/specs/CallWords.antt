@@ -6,6 +6,7 @@ use mathlib.Core.Option.{Option, none}
 use Prim.Native.Nat.{ℕ, _^_, _<_}
 use lib.Dec.{T}
 use lib.ListN.{length}
+use Rattle.sheet.specs.Limits.{mostEntries}
 use Rattle.sheet.specs.declared.Literals.{Literals}
 use Rattle.sheet.specs.Literals.{within, consistent, state}
 use Rattle.sheet.specs.Lists.{collect}
@@ -24,7 +25,7 @@ OnSheet x m = m < length (x .problem .actions)
 
 -- the table is as document 01 describes it
 abbrev pub AsDescribed : Statement → Table → Type 0
-AsDescribed x t = Described 128 (x .problem .n) (entries t)
+AsDescribed x t = Described mostEntries (x .problem .n) (entries t)
 
 -- its unused slots are zero
 abbrev pub ZeroAfter : Table → Type 0
@@ -54,7 +55,7 @@ Untaken x t m = (w : ℕ) × WorldOf x t w × (stepWorld (x .problem .n) (action
 -- ---- working order
 -- the start comes to o at some clause, and to a table at every clause before it: empty, some [], is 20, full, none, is 21
 abbrev pub StartStops : Problem → Option (List Literals) → Type 0
-StartStops p o = Stops 128 o (startClauses p) (p .known ∷ [])
+StartStops p o = Stops mostEntries o (startClauses p) (p .known ∷ [])
 
 -- the images of the pieces of a table by move m, in working order
 abbrev pub images : Statement → Table → ℕ → List Literals
@@ -62,4 +63,4 @@ images x t m = map (image (actionAt (x .problem) m .effects)) (collect (pieces (
 
 -- and put in that order into a new table; none: it fills
 abbrev pub putImages : Statement → Table → ℕ → Option (List Literals)
-putImages x t m = putAll 128 (images x t m) []
+putImages x t m = putAll mostEntries (images x t m) []

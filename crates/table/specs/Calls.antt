@@ -4,6 +4,7 @@ use mathlib.Core.List.{[]}
 use Prim.Native.Nat.{ℕ}
 use lib.Dec.{ltb}
 use lib.ListN.{length, getD}
+use Rattle.sheet.specs.Limits.{mostEntries}
 use Rattle.sheet.specs.declared.Answer.the-variants.{Accepted, Refused}
 use Rattle.sheet.specs.Literals.{noLiteral}
 use Rattle.sheet.specs.Problem.{Action, Problem}
@@ -23,7 +24,7 @@ orGiven t (Outcome.table u) = record { answer = Accepted; table = tableOf u }
 -- ---- start: a fault of the sheet; then 20 or 21, whichever comes first. Refused: a table with count 0 and all slots zero
 unfoldable pub startOf : Judgement → TableAnswer
 startOf (refused k p) = record { answer = Refused k p; table = tableOf [] }
-startOf (accepted x) = orGiven (tableOf []) (startTable 128 (x .problem))
+startOf (accepted x) = orGiven (tableOf []) (startTable mostEntries (x .problem))
 
 -- ---- step: a fault of the sheet; 7; 22; 24; 25; 21. Refused: the given table
 -- the move of a number
@@ -32,11 +33,11 @@ actionAt p m = getD (p .actions) m (record { precondition = noLiteral; effects =
 
 abbrev pub stepKnown : Bool → Action → Table → TableAnswer
 stepKnown false a t = record { answer = Refused 22 0; table = t }
-stepKnown true a t = orGiven t (stepTable 128 a (entries t))
+stepKnown true a t = orGiven t (stepTable mostEntries a (entries t))
 
 abbrev pub stepMove : Bool → ℕ → Action → Table → TableAnswer
 stepMove false n a t = record { answer = Refused 7 0; table = t }
-stepMove true n a t = stepKnown (described 128 n (entries t)) a t
+stepMove true n a t = stepKnown (described mostEntries n (entries t)) a t
 
 unfoldable pub stepOf : Judgement → Table → ℕ → TableAnswer
 stepOf (refused k p) t m = record { answer = Refused k p; table = t }

@@ -4,6 +4,7 @@ use mathlib.Core.List.{List, []}
 use mathlib.Core.Option.{Option, none, some}
 use Prim.Native.Nat.{ℕ}
 use lib.ListN.{length}
+use Rattle.sheet.specs.Limits.{fullPicture, mostClauses}
 use Rattle.sheet.specs.declared.Literals.{Literals}
 use Rattle.sheet.specs.Lists.{pad}
 use Rattle.table.specs.declared.picture_clauses.Clauses.{Clauses}
@@ -17,10 +18,10 @@ pub record JoinFits (ts fs : List ℕ) (count : ℕ) (us vs : List ℕ) (others 
 
 -- clauses with zeros after them; all zero where they were too many
 unfoldable pub clauseSlots : Option (List Literals) → Clauses
-clauseSlots none = record { full = true; count = 0; trues = pad 256 0 []; falses = pad 256 0 [] }
-clauseSlots (some s) = record { full = false; count = length s; trues = pad 256 0 (trues-of s); falses = pad 256 0 (falses-of s) }
+clauseSlots none = record { full = true; count = 0; trues = pad mostClauses 0 []; falses = pad mostClauses 0 [] }
+clauseSlots (some s) = record { full = false; count = length s; trues = pad mostClauses 0 (trues-of s); falses = pad mostClauses 0 (falses-of s) }
 
 -- how many clauses; 257 where they were too many
 unfoldable pub sizeOf : Option (List Literals) → ℕ
-sizeOf none = 257
+sizeOf none = fullPicture
 sizeOf (some s) = length s

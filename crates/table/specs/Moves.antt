@@ -4,6 +4,7 @@ use mathlib.Core.Bool.{Bool, _||_}
 use mathlib.Core.List.{List}
 use Prim.Native.Nat.{ℕ, _+_, _<_, _≤_}
 use lib.ListN.{length, getD}
+use Rattle.sheet.specs.Limits.{mostEntries, packedLength}
 use Rattle.sheet.specs.declared.Literals.{Literals}
 use Rattle.sheet.specs.declared.Answer.the-variants.{Accepted, Refused}
 use Rattle.sheet.specs.Literals.{within, Proper}
@@ -38,14 +39,14 @@ stepAnswer t (stepped.Refused number position) us gs = record { answer = Refused
 pub record Fits (a : Action) (t : Table) : Type 0 where
   pub n : ℕ
   pub n-most : n ≤ 32
-  pub entries-most : t .count ≤ 128
+  pub entries-most : t .count ≤ mostEntries
   pub action : ProperAction n a
   pub proper : All (Proper n) (entries t)
 
 -- what a step asks: the packed array with the move of a number, of at most eight effects, and the table, over the same propositions; arrays of
 -- zeros
 pub record StepFits (packed : List ℕ) (index : ℕ) (ts fs : List ℕ) (count : ℕ) (us gs : List ℕ) : Type 0 where
-  pub long : length packed ≡ 1409
+  pub long : length packed ≡ packedLength
   pub move-most : index < 32
   pub effects-few : countOf (movesIn packed) index ≤ 8
   pub fits : Fits (actionOf (movesIn packed) index) (lent count ts fs)

@@ -6,6 +6,7 @@ use mathlib.Core.Option.{Option, none, some}
 use Prim.Native.Nat.{ℕ, _+_, _*_, _≤_}
 use lib.Dec.{ltb}
 use lib.ListN.{length, drop}
+use Rattle.sheet.specs.Limits.{mostClauses, mostEntries}
 use Rattle.sheet.specs.declared.Literals.{Literals}
 use Rattle.sheet.specs.declared.Answer.the-variants.{Accepted, Refused}
 use Rattle.sheet.specs.Format.{Judgement, accepted, refused}
@@ -20,7 +21,7 @@ refusal number position = record { answer = Refused number position; clauses = 0
 
 -- the bytes of count clauses fit into the buffer, and count into two bytes
 pub record PictureRoom (count : ℕ) (buffer : List ℕ) : Type 0 where
-  pub few : count ≤ 256
+  pub few : count ≤ mostClauses
   pub long : 2 + 8 * count ≤ length buffer
 
 -- the bytes of s do not fit into len
@@ -34,7 +35,7 @@ given (some s) len = cond (tooLong s len) (refusal 23 0) (record { answer = Acce
 
 unfoldable pub pictureOf : Judgement → Table → ℕ → PictureAnswer
 pictureOf (refused k p) t len = refusal k p
-pictureOf (accepted x) t len = cond (described 128 (x .problem .n) (entries t)) (given (picture (entries t)) len) (refusal 22 0)
+pictureOf (accepted x) t len = cond (described mostEntries (x .problem .n) (entries t)) (given (picture (entries t)) len) (refusal 22 0)
 
 -- ---- the buffer after the call: the picture's bytes, later bytes kept
 unfoldable pub written : Option (List Literals) → List ℕ → List ℕ
@@ -43,4 +44,4 @@ written (some s) buffer = cond (tooLong s (length buffer)) buffer (pictureBytes 
 
 unfoldable pub bufferOf : Judgement → Table → List ℕ → List ℕ
 bufferOf (refused k p) t buffer = buffer
-bufferOf (accepted x) t buffer = cond (described 128 (x .problem .n) (entries t)) (written (picture (entries t)) buffer) buffer
+bufferOf (accepted x) t buffer = cond (described mostEntries (x .problem .n) (entries t)) (written (picture (entries t)) buffer) buffer

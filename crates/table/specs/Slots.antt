@@ -6,6 +6,7 @@ use mathlib.Core.Option.{Option, none, some}
 use Prim.Native.Nat.{ℕ, suc, _+_, _-_, _≤_}
 use lib.Dec.{eqb}
 use lib.ListN.{length, replicate}
+use Rattle.sheet.specs.Limits.{mostEntries}
 use Rattle.sheet.specs.declared.Literals.{Literals}
 use Rattle.sheet.specs.Literals.{within}
 use Rattle.sheet.specs.Lists.{anyOf, keep, pad}
@@ -42,13 +43,13 @@ pub record Room (n : ℕ) (ts fs : List ℕ) : Type 0 where
 
 -- the slots of a table, any numbers in them
 pub record TableRoom (ts fs : List ℕ) : Type 0 where
-  pub trues : length ts ≡ 128
-  pub falses : length fs ≡ 128
+  pub trues : length ts ≡ mostEntries
+  pub falses : length fs ≡ mostEntries
 
 -- the slots of a table, all zero
 pub record Fresh (ts fs : List ℕ) : Type 0 where
-  pub trues : ts ≡ replicate 128 0
-  pub falses : fs ≡ replicate 128 0
+  pub trues : ts ≡ replicate mostEntries 0
+  pub falses : fs ≡ replicate mostEntries 0
 
 -- ---- a list of sets in them
 -- the count n and the arrays ts, fs of capacity cap hold es, with zeros after it
@@ -69,7 +70,7 @@ entries t = entriesOf (t .count) (t .trues) (t .falses)
 
 -- the table of a list: unused slots are zero
 unfoldable pub tableOf : List Literals → Table
-tableOf es = record { count = length es; trues = pad 128 0 (trues-of es); falses = pad 128 0 (falses-of es) }
+tableOf es = record { count = length es; trues = pad mostEntries 0 (trues-of es); falses = pad mostEntries 0 (falses-of es) }
 
 -- ---- what became of a candidate
 -- one place further, or at place 0 if b

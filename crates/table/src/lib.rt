@@ -1,6 +1,7 @@
 // Belief states as tables of entries: the first table of a sheet, the step of a move, and pictures.
 use crate::steps::Stepped;
 use sheet::Answer;
+use sheet::limits::ENTRIES;
 use sheet::packed::LENGTH;
 ghost use mathlib.Core.Path.{_≡_};
 ghost use lib.ListN.{length};
@@ -21,8 +22,8 @@ pub mod tables;
 // A belief state: the entries in the first count slots, bit p of both masks for proposition p (document 01: a table).
 pub struct Table {
     pub count: usize,
-    pub trues: [u32; 128],
-    pub falses: [u32; 128],
+    pub trues: [u32; ENTRIES],
+    pub falses: [u32; ENTRIES],
 }
 
 // What a call on tables gives.
@@ -94,8 +95,8 @@ pub fn step(bytes: &[u8], table: Table, index: usize) -> TableAnswer
     ensures { λ r. ⌜ r ≡ stepOf (sheetOf (now (bytes .entry))) table index ⌝ }
 {
     let count = table.count;
-    let mut trues = [0u32; 128];
-    let mut falses = [0u32; 128];
+    let mut trues = [0u32; ENTRIES];
+    let mut falses = [0u32; ENTRIES];
     match step_lent(
         bytes,
         index,

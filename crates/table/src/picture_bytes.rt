@@ -12,6 +12,7 @@ ghost use Rattle.table.specs.Minimal as M;
 ghost use Rattle.table.specs.Picture as P;
 ghost use Rattle.table.specs.Slots.{entriesOf, Room, TableRoom};
 ghost use Rattle.table.specs.PictureCalls.{PictureRoom, refusal, given, written};
+ghost use Rattle.sheet.specs.Limits.{mostEntries};
 
 // A mask in four bytes, high byte first.
 pub(crate) fn write_mask(buffer: &mut [u8], at: usize, mask: u32)
@@ -65,8 +66,8 @@ pub(crate) fn draw<'a, 'b>(
     buffer: &'b mut [u8],
 ) -> PictureAnswer
     requires { ⌜ TableRoom (now trues) (now falses) ⌝ }
-    ensures { λ r. ⌜ r ≡ cond (M.described 128 n (entriesOf count (now (trues .entry)) (now (falses .entry)))) (given (P.picture (entriesOf count (now (trues .entry)) (now (falses .entry)))) (length (now (buffer .entry)))) (refusal 22 0) ⌝ }
-    ensures { λ r. ⌜ now (buffer .exit) ≡ cond (M.described 128 n (entriesOf count (now (trues .entry)) (now (falses .entry)))) (written (P.picture (entriesOf count (now (trues .entry)) (now (falses .entry)))) (now (buffer .entry))) (now (buffer .entry)) ⌝ }
+    ensures { λ r. ⌜ r ≡ cond (M.described mostEntries n (entriesOf count (now (trues .entry)) (now (falses .entry)))) (given (P.picture (entriesOf count (now (trues .entry)) (now (falses .entry)))) (length (now (buffer .entry)))) (refusal 22 0) ⌝ }
+    ensures { λ r. ⌜ now (buffer .exit) ≡ cond (M.described mostEntries n (entriesOf count (now (trues .entry)) (now (falses .entry)))) (written (P.picture (entriesOf count (now (trues .entry)) (now (falses .entry)))) (now (buffer .entry))) (now (buffer .entry)) ⌝ }
 {
     if !described(n, trues, falses, count) {
         return refuse_picture(22, 0);

@@ -3,6 +3,8 @@ use crate::slots::Grown;
 use crate::slots::admit;
 use crate::slots::some_within;
 use sheet::Literals;
+use sheet::limits::CLAUSES;
+use sheet::limits::FULL_PICTURE;
 use sheet::masks::join;
 use sheet::masks::literal;
 use sheet::masks::next;
@@ -17,13 +19,14 @@ ghost use Rattle.sheet.specs.Lists.{Any, keep};
 ghost use Rattle.table.specs.Picture as P;
 ghost use Rattle.table.specs.Slots.{entriesOf, Room, Holds, Held, Puts};
 ghost use Rattle.table.specs.Counts.{JoinFits, clauseSlots, sizeOf};
+ghost use Rattle.sheet.specs.Limits.{mostClauses};
 
 // The clauses of a table, in the first count slots; none if they are too many.
 pub struct Clauses {
     pub full: bool,
     pub count: usize,
-    pub trues: [u32; 256],
-    pub falses: [u32; 256],
+    pub trues: [u32; CLAUSES],
+    pub falses: [u32; CLAUSES],
 }
 
 // The literals of an entry as one-literal clauses, ascending. The result is how many.
@@ -191,15 +194,15 @@ pub(crate) fn fold<'a, 'b>(
 pub(crate) fn clauses_of<'a>(trues: &'a [u32], falses: &'a [u32], count: usize) -> Clauses
     requires { ⌜ 1 ≤ count ⌝ }
     requires { ⌜ Room count (now trues) (now falses) ⌝ }
-    ensures { λ r. ⌜ r ≡ clauseSlots (P.primes 256 (entriesOf count (now (trues .entry)) (now (falses .entry)))) ⌝ }
-    ensures { λ r. ⌜ r .count ≤ 256 ⌝ }
+    ensures { λ r. ⌜ r ≡ clauseSlots (P.primes mostClauses (entriesOf count (now (trues .entry)) (now (falses .entry)))) ⌝ }
+    ensures { λ r. ⌜ r .count ≤ mostClauses ⌝ }
 {
     let first = Literals {
         trues: trues[0],
         falses: falses[0],
     };
-    let mut clause_trues = [0u32; 256];
-    let mut clause_falses = [0u32; 256];
+    let mut clause_trues = [0u32; CLAUSES];
+    let mut clause_falses = [0u32; CLAUSES];
     let mut filled = units(first, &mut clause_trues, &mut clause_falses);
     let mut at: usize = 1;
     while at < count {
@@ -207,8 +210,8 @@ pub(crate) fn clauses_of<'a>(trues: &'a [u32], falses: &'a [u32], count: usize) 
             trues: trues[at],
             falses: falses[at],
         };
-        let mut to_trues = [0u32; 256];
-        let mut to_falses = [0u32; 256];
+        let mut to_trues = [0u32; CLAUSES];
+        let mut to_falses = [0u32; CLAUSES];
         let Grown::To(grown) = fold(
             entry,
             &clause_trues,
@@ -220,8 +223,8 @@ pub(crate) fn clauses_of<'a>(trues: &'a [u32], falses: &'a [u32], count: usize) 
             return Clauses {
                 full: true,
                 count: 0,
-                trues: [0; 256],
-                falses: [0; 256],
+                trues: [0; CLAUSES],
+                falses: [0; CLAUSES],
             };
         };
         clause_trues = to_trues;
@@ -245,7 +248,7 @@ pub fn clause_count<'a>(trues: &'a [u32], falses: &'a [u32], count: usize) -> us
 {
     let clauses = clauses_of(trues, falses, count);
     if clauses.full {
-        return 257;
+        return FULL_PICTURE;
     }
     clauses.count
 }

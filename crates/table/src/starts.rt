@@ -8,6 +8,7 @@ use crate::slots::offer_by_newest;
 use sheet::Answer;
 use sheet::Literals;
 use sheet::Sheet;
+use sheet::limits::ENTRIES;
 use sheet::masks::consistent;
 use sheet::masks::flip;
 use sheet::masks::join;
@@ -34,6 +35,7 @@ ghost use Rattle.table.specs.Start as spec;
 ghost use Rattle.table.specs.Slots.{entriesOf, Room, Fresh, Held, Puts, tableOf};
 ghost use Rattle.table.specs.Calls.{orGiven};
 ghost use Rattle.table.specs.Reads.{clauseOf, others, ClausesFit, startAnswer};
+ghost use Rattle.sheet.specs.Limits.{mostEntries};
 
 // What a start gives: so many entries in the lent arrays, or the number of a refusal.
 pub enum Started {
@@ -237,16 +239,16 @@ pub(crate) fn refuse_start(number: u8, position: usize) -> TableAnswer
         answer: Answer::Refused(number, position),
         table: Table {
             count: 0,
-            trues: [0u32; 128],
-            falses: [0u32; 128],
+            trues: [0u32; ENTRIES],
+            falses: [0u32; ENTRIES],
         },
     }
 }
 
 // The greater of two counts.
 pub(crate) fn longer(a: usize, b: usize) -> usize
-    requires { ⌜ (a ≤ 128) × (b ≤ 128) ⌝ }
-    ensures { λ r. ⌜ (a ≤ r) × (b ≤ r) × (r ≤ 128) ⌝ }
+    requires { ⌜ (a ≤ mostEntries) × (b ≤ mostEntries) ⌝ }
+    ensures { λ r. ⌜ (a ≤ r) × (b ≤ r) × (r ≤ mostEntries) ⌝ }
 {
     if a < b {
         return b;
@@ -263,11 +265,11 @@ pub(crate) fn grow(
     count: usize,
 ) -> Started
     requires { ⌜ R.SetsFit (now alts) ⌝ }
-    requires { ⌜ Held 128 count (now trues) (now falses) ⌝ }
-    ensures { λ r. ⌜ startAnswer r (now (trues .exit)) (now (falses .exit)) ≡ orGiven (tableOf []) (spec.grow 128 (clauseOf exclusive (R.setsIn (now (alts .entry)))) (entriesOf count (now (trues .entry)) (now (falses .entry)))) ⌝ }
+    requires { ⌜ Held mostEntries count (now trues) (now falses) ⌝ }
+    ensures { λ r. ⌜ startAnswer r (now (trues .exit)) (now (falses .exit)) ≡ orGiven (tableOf []) (spec.grow mostEntries (clauseOf exclusive (R.setsIn (now (alts .entry)))) (entriesOf count (now (trues .entry)) (now (falses .entry)))) ⌝ }
 {
-    let mut to_trues = [0u32; 128];
-    let mut to_falses = [0u32; 128];
+    let mut to_trues = [0u32; ENTRIES];
+    let mut to_falses = [0u32; ENTRIES];
     match widen_all(
         exclusive,
         alts,
@@ -300,8 +302,8 @@ pub(crate) fn grow_all<'a, 'b>(
     count: usize,
 ) -> Started
     requires { ⌜ ClausesFit size (now clauses) ⌝ }
-    requires { ⌜ Held 128 count (now trues) (now falses) ⌝ }
-    ensures { λ r. ⌜ startAnswer r (now (trues .exit)) (now (falses .exit)) ≡ orGiven (tableOf []) (spec.growAll 128 (map (clauseOf exclusive) (R.clausesAt size (now (clauses .entry)))) (entriesOf count (now (trues .entry)) (now (falses .entry)))) ⌝ }
+    requires { ⌜ Held mostEntries count (now trues) (now falses) ⌝ }
+    ensures { λ r. ⌜ startAnswer r (now (trues .exit)) (now (falses .exit)) ≡ orGiven (tableOf []) (spec.growAll mostEntries (map (clauseOf exclusive) (R.clausesAt size (now (clauses .entry)))) (entriesOf count (now (trues .entry)) (now (falses .entry)))) ⌝ }
 {
     let mut filled = count;
     let mut i: usize = 0;
@@ -329,7 +331,7 @@ pub fn first_into<'a, 'b>(
 ) -> Started
     requires { ⌜ Filled sheet (now packed) ⌝ }
     requires { ⌜ Fresh (now «to_trues») (now «to_falses») ⌝ }
-    ensures { λ r. ⌜ startAnswer r (now («to_trues» .exit)) (now («to_falses» .exit)) ≡ orGiven (tableOf []) (spec.startTable 128 (problemIn sheet (now (packed .entry)))) ⌝ }
+    ensures { λ r. ⌜ startAnswer r (now («to_trues» .exit)) (now («to_falses» .exit)) ≡ orGiven (tableOf []) (spec.startTable mostEntries (problemIn sheet (now (packed .entry)))) ⌝ }
 {
     let known = sheet.known;
     to_trues[0] = known.trues;
@@ -347,10 +349,10 @@ pub fn first_into<'a, 'b>(
 // The first table of a sheet that was read.
 pub(crate) fn first_table(sheet: Sheet, packed: &[u32]) -> TableAnswer
     requires { ⌜ Filled sheet (now packed) ⌝ }
-    ensures { λ r. ⌜ r ≡ orGiven (tableOf []) (spec.startTable 128 (problemIn sheet (now (packed .entry)))) ⌝ }
+    ensures { λ r. ⌜ r ≡ orGiven (tableOf []) (spec.startTable mostEntries (problemIn sheet (now (packed .entry)))) ⌝ }
 {
-    let mut trues = [0u32; 128];
-    let mut falses = [0u32; 128];
+    let mut trues = [0u32; ENTRIES];
+    let mut falses = [0u32; ENTRIES];
     match first_into(sheet, packed, &mut trues, &mut falses) {
         Started::To(count) => TableAnswer {
             answer: Answer::Accepted,

@@ -23,6 +23,7 @@ ghost use Rattle.table.specs.Pairs as P;
 ghost use Rattle.table.specs.Moves as M;
 ghost use Rattle.table.specs.Carry.{Carried, Splits, Skips, SplitFits, BranchFits, BranchesFit, partAt, carriedAt};
 ghost use Rattle.table.specs.Calls.{orGiven};
+ghost use Rattle.sheet.specs.Limits.{mostEntries};
 
 // The precondition lies in every entry (24 if not).
 pub(crate) fn sure<'a>(
@@ -305,7 +306,7 @@ pub fn step_at<'a, 'b, 'c>(
     to_falses: &'c mut [u32],
 ) -> Stepped
     requires { ⌜ M.StepFits (now packed) index (now trues) (now falses) count (now «to_trues») (now «to_falses») ⌝ }
-    ensures { λ r. ⌜ M.stepAnswer (M.lent count (now (trues .entry)) (now (falses .entry))) r (now («to_trues» .exit)) (now («to_falses» .exit)) ≡ orGiven (M.lent count (now (trues .entry)) (now (falses .entry))) (S.stepTable 128 (R.actionOf (R.movesIn (now (packed .entry))) index) (entriesOf count (now (trues .entry)) (now (falses .entry)))) ⌝ }
+    ensures { λ r. ⌜ M.stepAnswer (M.lent count (now (trues .entry)) (now (falses .entry))) r (now («to_trues» .exit)) (now («to_falses» .exit)) ≡ orGiven (M.lent count (now (trues .entry)) (now (falses .entry))) (S.stepTable mostEntries (R.actionOf (R.movesIn (now (packed .entry))) index) (entriesOf count (now (trues .entry)) (now (falses .entry)))) ⌝ }
 {
     let moves = &packed[MOVES..LENGTH];
     let at = index * 35;

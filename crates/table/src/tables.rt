@@ -1,5 +1,6 @@
 // The entries of a table in two lent slices, and whether they are as document 01 describes a table (22).
 use sheet::Literals;
+use sheet::limits::ENTRIES;
 use sheet::masks;
 ghost use mathlib.Core.Path.{_≡_};
 ghost use mathlib.Core.Bool.{_||_};
@@ -9,6 +10,7 @@ ghost use Rattle.sheet.specs.Lists.{allOf};
 ghost use Rattle.table.specs.Minimal as M;
 ghost use Rattle.table.specs.Slots.{entriesOf, Room, TableRoom};
 ghost use Rattle.table.specs.Moves.{slot};
+ghost use Rattle.sheet.specs.Limits.{mostEntries};
 
 // The set in slot i.
 pub fn entry_at(trues: &[u32], falses: &[u32], i: usize) -> Literals
@@ -81,12 +83,12 @@ pub(crate) fn is_antichain<'a>(trues: &'a [u32], falses: &'a [u32], count: usize
 // 1 to 128 entries, each proper, none in another.
 pub(crate) fn described<'a>(n: usize, trues: &'a [u32], falses: &'a [u32], count: usize) -> bool
     requires { ⌜ TableRoom (now trues) (now falses) ⌝ }
-    ensures { λ r. ⌜ r ≡ M.described 128 n (entriesOf count (now (trues .entry)) (now (falses .entry))) ⌝ }
+    ensures { λ r. ⌜ r ≡ M.described mostEntries n (entriesOf count (now (trues .entry)) (now (falses .entry))) ⌝ }
 {
     if count < 1 {
         return false;
     }
-    if 128 < count {
+    if ENTRIES < count {
         return false;
     }
     if !all_proper(n, trues, falses, count) {

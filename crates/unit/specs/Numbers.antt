@@ -4,6 +4,7 @@ use mathlib.Core.List.{List, [], _∷_, _++_}
 use Prim.Native.Nat.{ℕ}
 use lib.Dec.{ltb}
 use lib.ListN.{length, getD, take, drop}
+use Rattle.sheet.specs.Limits.{mostEntries, tableNumbers}
 use Rattle.sheet.specs.declared.Answer.{Answer}
 use Rattle.sheet.specs.declared.Answer.the-variants as answer
 use Rattle.sheet.specs.Calls.{numberOf, positionOf}
@@ -81,11 +82,11 @@ tooShort n xs info = ltb (length xs) n || ltb (length info) 4
 -- ---- tables
 -- the table in the first 257 numbers: the count, the masks of true propositions, those of false ones
 unfoldable pub tableIn : List ℕ → Table
-tableIn xs = record { count = getD xs 0 0; trues = take 128 (drop 1 xs); falses = take 128 (drop 129 xs) }
+tableIn xs = record { count = getD xs 0 0; trues = take mostEntries (drop 1 xs); falses = take mostEntries (drop 129 xs) }
 
 -- a table as numbers, and the numbers after its 257 as they were
 unfoldable pub tableOut : Table → List ℕ → List ℕ
-tableOut t xs = t .count ∷ (t .trues ++ (t .falses ++ drop 257 xs))
+tableOut t xs = t .count ∷ (t .trues ++ (t .falses ++ drop tableNumbers xs))
 
 -- ---- rows
 -- the three numbers of a row

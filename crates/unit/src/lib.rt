@@ -1,4 +1,6 @@
 // The calls for C: sheets, tables, rows and plans as numbers in slices that the caller lends.
+use sheet::limits::ENTRIES;
+use sheet::limits::PLACES;
 ghost use mathlib.Core.Path.{_≡_};
 ghost use mathlib.Core.Bool.{true, cond};
 ghost use mathlib.Core.List.{_++_};
@@ -10,6 +12,7 @@ ghost use Rattle.table.specs.PictureCalls.{bufferOf};
 ghost use Rattle.plan.specs.Calls.{searchOf};
 ghost use Rattle.unit.specs.Numbers.{tooShort, infoOf, tableIn, tableOut};
 ghost use Rattle.unit.specs.Calls as U;
+ghost use Rattle.sheet.specs.Limits.{tableNumbers};
 
 mod numbers;
 
@@ -39,11 +42,11 @@ pub extern "C" fn krepuskilo_judge(sheet: &[u8], info: &mut [u64]) -> u8
 // The first table of a sheet.
 #[no_mangle]
 pub extern "C" fn krepuskilo_start(sheet: &[u8], table: &mut [u32], info: &mut [u64]) -> u8
-    ensures { λ r. ⌜ r ≡ cond (tooShort 257 (now (table .entry)) (now (info .entry))) 255 (U.startReply (now (sheet .entry)) .answer) ⌝ }
-    ensures { λ r. ⌜ now (table .exit) ≡ cond (tooShort 257 (now (table .entry)) (now (info .entry))) (now (table .entry)) (tableOut (startOf (sheetOf (now (sheet .entry))) .table) (now (table .entry))) ⌝ }
-    ensures { λ r. ⌜ now (info .exit) ≡ cond (tooShort 257 (now (table .entry)) (now (info .entry))) (now (info .entry)) (infoOf (U.startReply (now (sheet .entry))) (now (info .entry))) ⌝ }
+    ensures { λ r. ⌜ r ≡ cond (tooShort tableNumbers (now (table .entry)) (now (info .entry))) 255 (U.startReply (now (sheet .entry)) .answer) ⌝ }
+    ensures { λ r. ⌜ now (table .exit) ≡ cond (tooShort tableNumbers (now (table .entry)) (now (info .entry))) (now (table .entry)) (tableOut (startOf (sheetOf (now (sheet .entry))) .table) (now (table .entry))) ⌝ }
+    ensures { λ r. ⌜ now (info .exit) ≡ cond (tooShort tableNumbers (now (table .entry)) (now (info .entry))) (now (info .entry)) (infoOf (U.startReply (now (sheet .entry))) (now (info .entry))) ⌝ }
 {
-    if table.len() < 257 {
+    if table.len() < numbers::TABLE_NUMBERS {
         return 255;
     }
     if info.len() < 4 {
@@ -66,11 +69,11 @@ pub extern "C" fn krepuskilo_picture(
     buffer: &mut [u8],
     info: &mut [u64],
 ) -> u8
-    ensures { λ r. ⌜ r ≡ cond (tooShort 257 (now (table .entry)) (now (info .entry))) 255 (U.pictureReply (now (sheet .entry)) (now (table .entry)) (length (now (buffer .entry))) .answer) ⌝ }
-    ensures { λ r. ⌜ now (buffer .exit) ≡ cond (tooShort 257 (now (table .entry)) (now (info .entry))) (now (buffer .entry)) (bufferOf (sheetOf (now (sheet .entry))) (tableIn (now (table .entry))) (now (buffer .entry))) ⌝ }
-    ensures { λ r. ⌜ now (info .exit) ≡ cond (tooShort 257 (now (table .entry)) (now (info .entry))) (now (info .entry)) (infoOf (U.pictureReply (now (sheet .entry)) (now (table .entry)) (length (now (buffer .entry)))) (now (info .entry))) ⌝ }
+    ensures { λ r. ⌜ r ≡ cond (tooShort tableNumbers (now (table .entry)) (now (info .entry))) 255 (U.pictureReply (now (sheet .entry)) (now (table .entry)) (length (now (buffer .entry))) .answer) ⌝ }
+    ensures { λ r. ⌜ now (buffer .exit) ≡ cond (tooShort tableNumbers (now (table .entry)) (now (info .entry))) (now (buffer .entry)) (bufferOf (sheetOf (now (sheet .entry))) (tableIn (now (table .entry))) (now (buffer .entry))) ⌝ }
+    ensures { λ r. ⌜ now (info .exit) ≡ cond (tooShort tableNumbers (now (table .entry)) (now (info .entry))) (now (info .entry)) (infoOf (U.pictureReply (now (sheet .entry)) (now (table .entry)) (length (now (buffer .entry)))) (now (info .entry))) ⌝ }
 {
-    if table.len() < 257 {
+    if table.len() < numbers::TABLE_NUMBERS {
         return 255;
     }
     if info.len() < 4 {
@@ -92,18 +95,18 @@ pub extern "C" fn krepuskilo_step(
     index: u64,
     info: &mut [u64],
 ) -> u8
-    ensures { λ r. ⌜ r ≡ cond (tooShort 257 (now (table .entry)) (now (info .entry))) 255 (U.stepReply (now (sheet .entry)) (now (table .entry)) index .answer) ⌝ }
-    ensures { λ r. ⌜ now (table .exit) ≡ cond (tooShort 257 (now (table .entry)) (now (info .entry))) (now (table .entry)) (tableOut (stepOf (sheetOf (now (sheet .entry))) (tableIn (now (table .entry))) index .table) (now (table .entry))) ⌝ }
-    ensures { λ r. ⌜ now (info .exit) ≡ cond (tooShort 257 (now (table .entry)) (now (info .entry))) (now (info .entry)) (infoOf (U.stepReply (now (sheet .entry)) (now (table .entry)) index) (now (info .entry))) ⌝ }
+    ensures { λ r. ⌜ r ≡ cond (tooShort tableNumbers (now (table .entry)) (now (info .entry))) 255 (U.stepReply (now (sheet .entry)) (now (table .entry)) index .answer) ⌝ }
+    ensures { λ r. ⌜ now (table .exit) ≡ cond (tooShort tableNumbers (now (table .entry)) (now (info .entry))) (now (table .entry)) (tableOut (stepOf (sheetOf (now (sheet .entry))) (tableIn (now (table .entry))) index .table) (now (table .entry))) ⌝ }
+    ensures { λ r. ⌜ now (info .exit) ≡ cond (tooShort tableNumbers (now (table .entry)) (now (info .entry))) (now (info .entry)) (infoOf (U.stepReply (now (sheet .entry)) (now (table .entry)) index) (now (info .entry))) ⌝ }
 {
-    if table.len() < 257 {
+    if table.len() < numbers::TABLE_NUMBERS {
         return 255;
     }
     if info.len() < 4 {
         return 255;
     }
-    let mut trues = [0u32; 128];
-    let mut falses = [0u32; 128];
+    let mut trues = [0u32; ENTRIES];
+    let mut falses = [0u32; ENTRIES];
     let stepped = numbers::step_numbers(sheet, table, index as usize, &mut trues, &mut falses);
     let reply = numbers::answer_reply(numbers::step_answer(stepped), 0);
     numbers::write_step(table, stepped, &trues, &falses);
@@ -166,21 +169,21 @@ pub extern "C" fn krepuskilo_run(
     table: &mut [u32],
     info: &mut [u64],
 ) -> u8
-    ensures { λ r. ⌜ r ≡ cond (tooShort 257 (now (table .entry)) (now (info .entry))) 255 (U.runReply (now (sheet .entry)) (now (rows .entry)) .answer) ⌝ }
-    ensures { λ r. ⌜ now (rows .exit) ≡ cond (tooShort 257 (now (table .entry)) (now (info .entry))) (now (rows .entry)) (U.rowsOut (now (sheet .entry)) (now (rows .entry))) ⌝ }
-    ensures { λ r. ⌜ now (table .exit) ≡ cond (tooShort 257 (now (table .entry)) (now (info .entry))) (now (table .entry)) (tableOut (U.runTable (now (sheet .entry)) (now (rows .entry))) (now (table .entry))) ⌝ }
-    ensures { λ r. ⌜ now (info .exit) ≡ cond (tooShort 257 (now (table .entry)) (now (info .entry))) (now (info .entry)) (infoOf (U.runReply (now (sheet .entry)) (now (rows .entry))) (now (info .entry))) ⌝ }
+    ensures { λ r. ⌜ r ≡ cond (tooShort tableNumbers (now (table .entry)) (now (info .entry))) 255 (U.runReply (now (sheet .entry)) (now (rows .entry)) .answer) ⌝ }
+    ensures { λ r. ⌜ now (rows .exit) ≡ cond (tooShort tableNumbers (now (table .entry)) (now (info .entry))) (now (rows .entry)) (U.rowsOut (now (sheet .entry)) (now (rows .entry))) ⌝ }
+    ensures { λ r. ⌜ now (table .exit) ≡ cond (tooShort tableNumbers (now (table .entry)) (now (info .entry))) (now (table .entry)) (tableOut (U.runTable (now (sheet .entry)) (now (rows .entry))) (now (table .entry))) ⌝ }
+    ensures { λ r. ⌜ now (info .exit) ≡ cond (tooShort tableNumbers (now (table .entry)) (now (info .entry))) (now (info .entry)) (infoOf (U.runReply (now (sheet .entry)) (now (rows .entry))) (now (info .entry))) ⌝ }
 {
-    if table.len() < 257 {
+    if table.len() < numbers::TABLE_NUMBERS {
         return 255;
     }
     if info.len() < 4 {
         return 255;
     }
-    let mut trues = [0u32; 128];
-    let mut falses = [0u32; 128];
-    let mut entries = [0usize; 65];
-    let mut clauses = [0usize; 65];
+    let mut trues = [0u32; ENTRIES];
+    let mut falses = [0u32; ENTRIES];
+    let mut entries = [0usize; PLACES];
+    let mut clauses = [0usize; PLACES];
     let ran = plan::runs::course_into(
         sheet,
         rows.len() / 3,

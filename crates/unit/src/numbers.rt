@@ -5,6 +5,8 @@ use plan::SearchAnswer;
 use plan::Verdict;
 use plan::rows::row_at;
 use sheet::Answer;
+use sheet::limits::ENTRIES;
+use sheet::limits::PLACES;
 use sheet::packed::wide;
 use table::Table;
 use table::slots::copy_masks;
@@ -22,6 +24,14 @@ ghost use Rattle.table.specs.Slots.{Fresh};
 ghost use Rattle.plan.specs.Course.{countsIn};
 ghost use Rattle.plan.specs.Rows.{rowsIn};
 ghost use Rattle.unit.specs.Numbers.{steppedAnswer, answerReply, verdictReply, kindReply, infoOf, tableIn, tableOut, rowNumbers};
+ghost use Rattle.sheet.specs.Limits.{mostPlaces, tableNumbers};
+
+// The numbers of a table, and where its masks begin.
+pub(crate) const TABLE_NUMBERS: usize = 257;
+
+const TRUES: usize = 1;
+
+const FALSES: usize = 129;
 
 // An answer in numbers; `extra` is the second number of info if it is accepted.
 pub(crate) fn answer_reply(answer: Answer, extra: u64) -> Reply
@@ -160,13 +170,13 @@ pub(crate) fn write_search<'a, 'b>(
 
 // The table in 257 numbers: the count, the masks of true propositions, those of false ones.
 pub(crate) fn table_in(numbers: &[u32]) -> Table
-    requires { ⌜ 257 ≤ length (now numbers) ⌝ }
+    requires { ⌜ tableNumbers ≤ length (now numbers) ⌝ }
     ensures { λ r. ⌜ r ≡ tableIn (now (numbers .entry)) ⌝ }
 {
-    let mut trues = [0u32; 128];
-    let mut falses = [0u32; 128];
-    copy_masks(&mut trues, 0, &numbers[1..129]);
-    copy_masks(&mut falses, 0, &numbers[129..257]);
+    let mut trues = [0u32; ENTRIES];
+    let mut falses = [0u32; ENTRIES];
+    copy_masks(&mut trues, 0, &numbers[TRUES..FALSES]);
+    copy_masks(&mut falses, 0, &numbers[FALSES..TABLE_NUMBERS]);
     Table {
         count: numbers[0] as usize,
         trues,
@@ -178,20 +188,20 @@ pub(crate) fn table_in(numbers: &[u32]) -> Table
 pub(crate) fn write_entries<'a, 'b>(
     numbers: &'a mut [u32],
     count: usize,
-    trues: &'b [u32; 128],
-    falses: &'b [u32; 128],
+    trues: &'b [u32; ENTRIES],
+    falses: &'b [u32; ENTRIES],
 )
-    requires { ⌜ (257 ≤ length (now numbers)) × (count < 2 ^ 32) ⌝ }
+    requires { ⌜ (tableNumbers ≤ length (now numbers)) × (count < 2 ^ 32) ⌝ }
     ensures { λ r. ⌜ now (numbers .exit) ≡ tableOut (lent count (now (trues .entry)) (now (falses .entry))) (now (numbers .entry)) ⌝ }
 {
     numbers[0] = count as u32;
-    copy_masks(numbers, 1, trues);
-    copy_masks(numbers, 129, falses);
+    copy_masks(numbers, TRUES, trues);
+    copy_masks(numbers, FALSES, falses);
 }
 
 // A table as 257 numbers. The others are kept.
 pub(crate) fn write_table(numbers: &mut [u32], table: Table)
-    requires { ⌜ (257 ≤ length (now numbers)) × (table .count < 2 ^ 32) ⌝ }
+    requires { ⌜ (tableNumbers ≤ length (now numbers)) × (table .count < 2 ^ 32) ⌝ }
     ensures { λ r. ⌜ now (numbers .exit) ≡ tableOut table (now (numbers .entry)) ⌝ }
 {
     let count = table.count;
@@ -206,15 +216,15 @@ pub(crate) fn step_numbers<'a, 'b, 'c>(
     to_trues: &'c mut [u32],
     to_falses: &'c mut [u32],
 ) -> Stepped
-    requires { ⌜ 257 ≤ length (now numbers) ⌝ }
+    requires { ⌜ tableNumbers ≤ length (now numbers) ⌝ }
     requires { ⌜ Fresh (now «to_trues») (now «to_falses») ⌝ }
     ensures { λ r. ⌜ stepAnswer (tableIn (now (numbers .entry))) r (now («to_trues» .exit)) (now («to_falses» .exit)) ≡ stepOf (sheetOf (now (sheet .entry))) (tableIn (now (numbers .entry))) index ⌝ }
 {
     step_lent(
         sheet,
         index,
-        &numbers[1..129],
-        &numbers[129..257],
+        &numbers[TRUES..FALSES],
+        &numbers[FALSES..TABLE_NUMBERS],
         wide(numbers[0]),
         to_trues,
         to_falses,
@@ -225,10 +235,10 @@ pub(crate) fn step_numbers<'a, 'b, 'c>(
 pub(crate) fn write_step<'a, 'b>(
     numbers: &'a mut [u32],
     stepped: Stepped,
-    trues: &'b [u32; 128],
-    falses: &'b [u32; 128],
+    trues: &'b [u32; ENTRIES],
+    falses: &'b [u32; ENTRIES],
 )
-    requires { ⌜ (257 ≤ length (now numbers)) × (stepAnswer (tableIn (now numbers)) stepped (now trues) (now falses) .table .count < 2 ^ 32) ⌝ }
+    requires { ⌜ (tableNumbers ≤ length (now numbers)) × (stepAnswer (tableIn (now numbers)) stepped (now trues) (now falses) .table .count < 2 ^ 32) ⌝ }
     ensures { λ r. ⌜ now (numbers .exit) ≡ tableOut (stepAnswer (tableIn (now (numbers .entry))) stepped (now (trues .entry)) (now (falses .entry)) .table) (now (numbers .entry)) ⌝ }
 {
     match stepped {
@@ -241,10 +251,10 @@ pub(crate) fn write_step<'a, 'b>(
 pub(crate) fn write_row_numbers<'a, 'b>(
     rows: &'a mut [u64],
     count: usize,
-    entries: &'b [usize; 65],
-    clauses: &'b [usize; 65],
+    entries: &'b [usize; PLACES],
+    clauses: &'b [usize; PLACES],
 )
-    requires { ⌜ (count ≤ 65) × (3 * count ≤ length (now rows)) ⌝ }
+    requires { ⌜ (count ≤ mostPlaces) × (3 * count ≤ length (now rows)) ⌝ }
     ensures { λ r. ⌜ now (rows .exit) ≡ collect rowNumbers (rowsIn (countsIn count (now (entries .entry)) (now (clauses .entry)))) ++ drop (3 * count) (now (rows .entry)) ⌝ }
 {
     let mut i: usize = 0;

@@ -28,23 +28,23 @@ wide-requires-2 c κs = search needs
 returns-2 : tie.Need-returns-2
 returns-2 c = λ e. absurd (true≢false (sym e))
 
-sub-same : tie.Need-sub-same
-sub-same c = search needs
+sub-stored-trues : tie.Need-sub-stored-trues
+sub-stored-trues c = search needs
 
-part-same-start : tie.Need-part-same-start
-part-same-start c = search needs
+part-stored-trues-start : tie.Need-part-stored-trues-start
+part-stored-trues-start c = search needs
 
-part-same-end : tie.Need-part-same-end
-part-same-end c = search needs
+part-stored-trues-end : tie.Need-part-stored-trues-end
+part-stored-trues-end c = search needs
 
-sub-same-2 : tie.Need-sub-same-2
-sub-same-2 c = search needs
+sub-stored-falses : tie.Need-sub-stored-falses
+sub-stored-falses c = search needs
 
-part-same-start-2 : tie.Need-part-same-start-2
-part-same-start-2 c = search needs
+part-stored-falses-start : tie.Need-part-stored-falses-start
+part-stored-falses-start c = search needs
 
-part-same-end-2 : tie.Need-part-same-end-2
-part-same-end-2 c = search needs
+part-stored-falses-end : tie.Need-part-stored-falses-end
+part-stored-falses-end c = search needs
 
 same-requires : tie.Need-same-requires
 same-requires c κs = search needs
@@ -67,11 +67,11 @@ holds-spec =
     shared-slice-read-wide-2
     wide-requires-2
     returns-2
-    sub-same
-    part-same-start
-    part-same-end
-    sub-same-2
-    part-same-start-2
-    part-same-end-2
+    sub-stored-trues
+    part-stored-trues-start
+    part-stored-trues-end
+    sub-stored-falses
+    part-stored-falses-start
+    part-stored-falses-end
     same-requires
     returns-3)
