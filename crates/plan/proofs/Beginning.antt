@@ -13,7 +13,7 @@ use Rattle.table.specs.Step.{stepTable}
 use Rattle.table.specs.Slots.{entriesOf, entries, tableOf, Room}
 use Rattle.table.specs.Calls.{orGiven}
 use Rattle.table.proofs.Demands.{step-table}
-use Rattle.table.proofs.Pads.{length-pad}
+use Rattle.sheet.proofs.base.Padding.{length-pad}
 use Rattle.plan.specs.declared.SearchAnswer.{SearchAnswer}
 use Rattle.table.specs.declared.steps.Stepped.{Stepped}
 use Rattle.table.specs.declared.steps.Stepped.the-variants as moved

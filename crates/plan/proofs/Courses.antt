@@ -13,7 +13,7 @@ use Rattle.sheet.specs.Lists.{pad}
 use Rattle.sheet.specs.Problem.{Action, Problem, Statement}
 use Rattle.sheet.specs.Format.{Judgement, accepted, refused as faulty, sheetOf}
 use Rattle.sheet.specs.Encoding.{ProperProblem}
-use Rattle.sheet.proofs.Reading.{pad-set}
+use Rattle.sheet.proofs.base.Padding.{pad-set}
 use Rattle.sheet.proofs.SlotLaws.{not-both}
 use Rattle.table.specs.declared.Table.{Table}
 use Rattle.table.specs.declared.TableAnswer.{TableAnswer}

@@ -1,41 +1,41 @@
 -- The laws that belong to no one function.
-pub mod Commuting
-pub mod Exchanging
-pub mod GoalWorlds
-pub mod Running
-pub mod Verdicts
-pub mod Exactly
-pub mod TableRuns
-pub mod CallRuns
+mod Commuting
+mod Exchanging
+mod GoalWorlds
+mod Running
+mod Verdicts
+mod Exactly
+mod TableRuns
+mod CallRuns
 pub mod CallAnswers
-pub mod Courses
-pub mod FinalPictures
+mod Courses
+mod FinalPictures
 pub mod Searching
-pub mod SearchRuns
-pub mod FirstAnswers
-pub mod Pruning
-pub mod Remembering
-pub mod Walking
-pub mod Beginning
-pub mod PlanRuns
-pub mod SearchCalls
-pub mod SheetStarts
-pub mod RunAnswers
-pub mod CallDemands
-pub mod RunPlaces
-pub mod RunDemands
-pub mod SearchDemands
-pub mod Touching
-pub mod ExchangeDemands
-pub mod ExchangeMet
-pub mod PaperRuns
-pub mod TextExamples
-pub mod Demands
-pub mod Relending
+mod SearchRuns
+mod FirstAnswers
+mod Pruning
+mod Remembering
+mod Walking
+mod Beginning
+mod PlanRuns
+mod SearchCalls
+mod SheetStarts
+mod RunAnswers
+mod CallDemands
+mod RunPlaces
+mod RunDemands
+mod SearchDemands
+mod Touching
+mod ExchangeDemands
+mod ExchangeMet
+mod PaperRuns
+mod TextExamples
+mod Demands
+mod Relending
 pub mod LentCalls
 pub mod Entering
-pub mod RowCalls
-pub mod RowsWritten
+mod RowCalls
+mod RowsWritten
 pub mod RowCounts
-pub mod Texts
+mod Texts
 pub mod Reports

@@ -15,7 +15,7 @@ use Rattle.sheet.proofs.base.ListFacts.{all-map, any-out}
 use Rattle.table.specs.Minimal.{Outcome, refused, table}
 use Rattle.table.specs.Step.{stepTable}
 use Rattle.table.specs.Slots.{pairs, entriesOf}
-use Rattle.table.proofs.Pads.{length-pad, getD-pad}
+use Rattle.sheet.proofs.base.Padding.{length-pad, getD-pad}
 use Rattle.plan.specs.Run.{haltedBy, onward, runFrom}
 use Rattle.plan.specs.Search.{plansOf, nothing}
 use Rattle.plan.specs.Order.{Fails}

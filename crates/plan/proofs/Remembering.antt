@@ -16,7 +16,7 @@ use Rattle.sheet.specs.Lists.{All}
 use Rattle.sheet.specs.Problem.{Action}
 use Rattle.sheet.specs.Packed.{itemAt, setsIn, actionOf, goalIn, movesIn}
 use Rattle.sheet.proofs.base.ListFacts.{all-map, any-out}
-use Rattle.sheet.proofs.PackedLaws.{item-lent}
+use Rattle.sheet.proofs.PackedLaws.{item-lent, itemAnew, item-anew-long, item-same, item-other}
 use Rattle.table.specs.Slots.{entriesOf}
 use Rattle.plan.specs.Search.{plansOf, nothing, firstOf}
 use Rattle.plan.specs.Order.{Fails}
@@ -127,62 +127,8 @@ laid-table {slot} {ts} {fs} {n} {mark} {i} h l e =
 
 -- ---- one slot of a memory written anew
 module _ (xs slot : List ℕ) (j : ℕ) (room : j * 258 + 258 ≤ length xs) (long : length slot ≡ 258) where
-  abbrev front : List ℕ
-  front = take (j * 258) xs
-
-  abbrev rest : List ℕ
-  rest = drop (j * 258 + 258 - j * 258) (drop (j * 258) xs)
-
   abbrev put : List ℕ
-  put = front ++ (slot ++ rest)
-
-  front-long : length front ≡ j * 258
-  front-long = length-take-le (j * 258) xs (omega (arith, room))
-
-  put-long : length put ≡ length xs
-  put-long =
-      let a = length-append front (slot ++ rest) in
-      let b = length-append slot rest in
-      let c = length-drop (j * 258 + 258 - j * 258) (drop (j * 258) xs) in
-      let d = length-drop (j * 258) xs in
-      omega (arith, a, b, c, d, front-long, room, long)
-
-  row-same : itemAt 258 put j ≡ slot
-  unfolding itemAt
-  row-same = ap (take 258) (drop-at front (slot ++ rest) (j * 258) front-long) ∙ take-at slot rest 258 long
-
-  before : (x : ℕ) → x < j * 258 → getD put x 0 ≡ getD xs x 0
-  before x l = List·getD-append front (slot ++ rest) 0 x (omega (arith, l, front-long)) ∙ getD-take (j * 258) xs x 0 l
-
-  after : (y : ℕ) → getD put (j * 258 + (258 + y)) 0 ≡ getD xs (j * 258 + (258 + y)) 0
-  after y =
-      let w : j * 258 + 258 - j * 258 + y ≡ 258 + y = omega arith in
-      ap (λ (a : ℕ). getD put (a + (258 + y)) 0) (sym front-long)
-      ∙ getD-append-add front (slot ++ rest) (258 + y) 0
-      ∙ ap (λ (a : ℕ). getD (slot ++ rest) (a + y) 0) (sym long)
-      ∙ getD-append-add slot rest y 0
-      ∙ getD-drop (j * 258 + 258 - j * 258) (drop (j * 258) xs) y 0
-      ∙ getD-drop (j * 258) xs (j * 258 + 258 - j * 258 + y) 0
-      ∙ ap (λ (a : ℕ). getD xs (j * 258 + a) 0) w
-
-  elsewhere : (x : ℕ) → (x < j * 258 → ⊥) → (x < j * 258 + 258 → ⊥) → getD put x 0 ≡ getD xs x 0
-  elsewhere x a b =
-      let e : j * 258 + (258 + (x - (j * 258 + 258))) ≡ x = omega (arith, b) in
-      subst (λ (y : ℕ). getD put y 0 ≡ getD xs y 0) e (after (x - (j * 258 + 258)))
-
-  row-other : (i : ℕ) → (i ≡ j → ⊥) → i * 258 + 258 ≤ length xs → itemAt 258 put i ≡ itemAt 258 xs i
-  unfolding itemAt
-  row-other i ne l =
-      ext-getD 0 (take 258 (drop (i * 258) put)) (take 258 (drop (i * 258) xs)) (wide put (omega (arith, l, put-long)) ∙ sym (wide xs l))
-      (λ y b. let c : y < 258 = omega (arith, b, wide put (omega (arith, l, put-long))) in
-      getD-take 258 (drop (i * 258) put) y 0 c ∙ getD-drop (i * 258) put y 0 ∙ at y c (ltb i j) refl ∙ sym (getD-take 258 (drop (i * 258) xs) y 0 c ∙ getD-drop (i * 258) xs y 0))
-    where
-      wide : (zs : List ℕ) → i * 258 + 258 ≤ length zs → length (take 258 (drop (i * 258) zs)) ≡ 258
-      wide zs g = length-take-le 258 (drop (i * 258) zs) (omega (arith, g, length-drop (i * 258) zs))
-
-      at : (y : ℕ) → y < 258 → (b : Bool) → ltb i j ≡ b → getD put (i * 258 + y) 0 ≡ getD xs (i * 258 + y) 0
-      at y c true e = before (i * 258 + y) (omega (arith, c, ltb-true i j e))
-      at y c false e = elsewhere (i * 258 + y) (λ z. omega (arith, z, ltb-false i j e)) (λ z. ne (omega (arith, z, ltb-false i j e)))
+  put = itemAnew xs slot 258 j
 
   -- what every slot said, every slot says still, if the new one says what is known
   pub kept-by : (packed : List ℕ) (count : ℕ) → Remembers packed count xs → NoShorterFrom packed count 0 (tableIn slot) (markIn slot)
@@ -190,10 +136,10 @@ module _ (xs slot : List ℕ) (j : ℕ) (room : j * 258 + 258 ≤ length xs) (lo
   kept-by packed count h g i l = go (ℕ-discrete i j)
     where
       go : Dec (i ≡ j) → NoShorterFrom packed count 0 (tableIn (itemAt 258 put i)) (markIn (itemAt 258 put i))
-      go (yes e) = subst (λ (s : List ℕ). NoShorterFrom packed count 0 (tableIn s) (markIn s)) (sym (ap (itemAt 258 put) e ∙ row-same)) g
+      go (yes e) = subst (λ (s : List ℕ). NoShorterFrom packed count 0 (tableIn s) (markIn s)) (sym (ap (itemAt 258 put) e ∙ item-same xs slot 258 j room long)) g
       go (no ne) =
-          let r : i * 258 + 258 ≤ length xs = omega (arith, l, put-long) in
-          subst (λ (s : List ℕ). NoShorterFrom packed count 0 (tableIn s) (markIn s)) (sym (row-other i ne r)) (h i r)
+          let r : i * 258 + 258 ≤ length xs = omega (arith, l, item-anew-long xs slot 258 j room long) in
+          subst (λ (s : List ℕ). NoShorterFrom packed count 0 (tableIn s) (markIn s)) (sym (item-other xs slot 258 j room long i ne)) (h i r)
 
 -- ---- marks at the heads of the slots
 pub mark-head : (memory : List ℕ) (j : ℕ) → markIn (itemAt 258 memory j) ≡ getD memory (j * 258) 0

@@ -16,7 +16,7 @@ use Rattle.sheet.specs.Format.{Judgement, accepted, refused, sheetOf}
 use Rattle.table.specs.Minimal.{Outcome, refused as no-table, table}
 use Rattle.table.specs.Start.{startTable}
 use Rattle.table.specs.Calls.{actionAt}
-use Rattle.table.proofs.Pads.{getD-pad}
+use Rattle.sheet.proofs.base.Padding.{getD-pad}
 use Rattle.plan.specs.declared.Row.{Row}
 use Rattle.plan.specs.declared.Counts.{Counts}
 use Rattle.plan.specs.Run.{actionsOf, movesTaken, rowOf, rowsFrom}

@@ -16,7 +16,7 @@ use Rattle.sheet.specs.Problem.{Problem, Statement}
 use Rattle.sheet.specs.Format.{Judgement, accepted, refused, sheetOf}
 use Rattle.sheet.specs.Faults.{Says}
 use Rattle.sheet.specs.Encoding.{ProperProblem}
-use Rattle.sheet.proofs.SlotLaws.{take-pad}
+use Rattle.sheet.proofs.base.Padding.{take-pad}
 use Rattle.sheet.proofs.Demands.{statement-proper}
 use Rattle.table.specs.Minimal.{Outcome}
 use Rattle.table.specs.Start.{startTable}

@@ -10,12 +10,12 @@ ghost use Rattle.sheet.specs.Format.{sheetOf};
 ghost use Rattle.plan.specs.Calls.{runOf, rowsAfter, searchOf};
 ghost use Rattle.plan.specs.Text.{reportOf, reportIn};
 
-pub mod goals;
-pub mod memory;
+mod goals;
+mod memory;
 pub mod rows;
 pub mod runs;
-pub mod searches;
-pub mod text;
+mod searches;
+mod text;
 
 // Bytes that the text of any run fits into.
 pub const REPORT_LENGTH: usize = 8192;

@@ -3,23 +3,23 @@ pub mod base
 pub mod Bits
 pub mod LiteralSets
 pub mod Bytes
-pub mod Lowest
+mod Lowest
 pub mod Results
 pub mod Worlds
-pub mod Forms
-pub mod Roles
-pub mod Runs
+mod Forms
+mod Roles
+mod Runs
 pub mod Ascending
 pub mod Encoded
 pub mod Judging
 pub mod Reading
-pub mod Parts
+mod Parts
 pub mod PackedLaws
 pub mod SlotLaws
-pub mod Sections
-pub mod Rules
+mod Sections
+mod Rules
 pub mod Members
-pub mod LiteralTests
-pub mod Faults
-pub mod Alike
+mod LiteralTests
+mod Faults
+mod Alike
 pub mod Demands

@@ -5,6 +5,9 @@ use Prim.Native.Nat.{ℕ, zero, suc, _+_, _-_, _*_, _≤_, _<_}
 use native.Mathlib.Nat.{not-suc-le-zero, le-of-suc-le-suc}
 use native.Mathlib.Numerals.{add-one}
 use native.Mathlib.Omega.{arith}
+use borrow.Author.Tests.{ltb-true, ltb-false}
+use mathlib.Core.Bool.{Bool, true, false}
+use lib.Dec.{ltb}
 use lib.ListN.{length, set, getD, take, drop, length-append, length-drop, take-append-drop, drop-of-length-le}
 use lib.Seq.{getD-drop, take-at, drop-at, drop-drop, take-append-le, drop-append-le, length-take-le, sets-eq}
 use Rattle.sheet.specs.declared.Literals.{Literals}
@@ -106,6 +109,35 @@ module _ (xs ys : List ℕ) (at w : ℕ) (room : at + w ≤ length xs) (long : l
 pub item-lent : (w i : ℕ) (xs : List ℕ) → take (i * w + w - i * w) (drop (i * w) xs) ≡ itemAt w xs i
 unfolding itemAt
 item-lent w i xs = let e : i * w + w - i * w ≡ w = omega arith in ap (λ (k : ℕ). take k (drop (i * w) xs)) e
+
+-- an item ends where a later one begins, or before
+next-item : (i j w : ℕ) → i < j → i * w + w ≤ j * w
+next-item i zero w l = absurd (not-suc-le-zero l)
+next-item zero (suc j) w l = omega arith
+next-item (suc i) (suc j) w l = let r = next-item i j w (le-of-suc-le-suc l) in omega (arith, r)
+
+-- ---- item j of w numbers written anew, as a borrow of it leaves the whole
+abbrev pub itemAnew : List ℕ → List ℕ → ℕ → ℕ → List ℕ
+itemAnew xs ys w j = take (j * w) xs ++ (ys ++ drop (j * w + w - j * w) (drop (j * w) xs))
+
+module _ (xs ys : List ℕ) (w j : ℕ) (room : j * w + w ≤ length xs) (long : length ys ≡ w) where
+  item-anew : (itemAnew xs ys w j) ≡ anew xs ys (j * w) w
+  item-anew = let e : j * w + w - j * w ≡ w = omega arith in ap (λ (k : ℕ). take (j * w) xs ++ (ys ++ drop k (drop (j * w) xs))) e
+
+  pub item-anew-long : length (itemAnew xs ys w j) ≡ length xs
+  item-anew-long = ap length item-anew ∙ anew-long xs ys (j * w) w room long
+
+  pub item-same : itemAt w (itemAnew xs ys w j) j ≡ ys
+  unfolding itemAt
+  item-same = ap (part (j * w) w) item-anew ∙ part-same xs ys (j * w) w room long
+
+  pub item-other : (i : ℕ) → (i ≡ j → ⊥) → itemAt w (itemAnew xs ys w j) i ≡ itemAt w xs i
+  unfolding itemAt
+  item-other i ne = ap (part (i * w) w) item-anew ∙ by (ltb i j) refl
+    where
+      by : (b : Bool) → ltb i j ≡ b → part (i * w) w (anew xs ys (j * w) w) ≡ part (i * w) w xs
+      by true e = part-before xs ys (j * w) w room long (i * w) w (next-item i j w (ltb-true i j e))
+      by false e = part-after xs ys (j * w) w room long (i * w) w (next-item j i w (let l = ltb-false i j e in omega (arith, l, ne)))
 
 -- the masks of a move's effects
 pub effects-room : (i : ℕ) (xs : List ℕ) → i * 35 + 35 ≤ length xs → length (part 3 32 (itemAt 35 xs i)) ≡ 32

@@ -15,6 +15,7 @@ use Rattle.sheet.specs.Lists.{pad}
 use Rattle.sheet.specs.Form.{Form, done, _>>=_, judged, times, Read, item, fault, thenRead, admit, byteAt, read}
 use Rattle.sheet.specs.Marks.{markOf, ReadsAs, same}
 use Rattle.sheet.proofs.Forms.{read-then, read-judged}
+use Rattle.sheet.proofs.base.Padding.{pad-set}
 
 -- ---- marks
 -- no item is a fault
@@ -99,16 +100,6 @@ byte-passed s rule at {b} {next} q = go (ltb at (length s)) refl
         let j = admitted (rule (getD s at 0)) (getD s at 0) at h in
         ap rule (sym (j .1)) ∙ j .0
     go false e = let h : fault 1 (length s) ≡ item b next = rw e at r in absurd (clash (sym h))
-
--- ---- lists in slots
-pub pad-set : {A : Type 0} (n : ℕ) (d : A) (xs : List A) (x : A) (i : ℕ) → length xs ≡ i → i < n
-    → set (pad n d xs) i x ≡ pad n d (xs ++ (x ∷ []))
-unfolding pad
-pad-set zero d xs x i e h = absurd (omega arith)
-pad-set (suc n) d [] x zero e h = refl
-pad-set (suc n) d [] x (suc i) e h = absurd (let z : _≡_ {A = ℕ} 0 (suc i) = e in omega arith)
-pad-set (suc n) d (y ∷ xs) x zero e h = absurd (let z : _≡_ {A = ℕ} (suc (length xs)) 0 = e in omega arith)
-pad-set (suc n) d (y ∷ xs) x (suc i) e h = ap (λ (r : List _). y ∷ r) (pad-set n d xs x i (omega arith) (omega arith))
 
 -- ---- a loop over k items
 -- the items that are left, read after those done

@@ -26,13 +26,7 @@ use Rattle.sheet.proofs.base.ListFacts.{all-map}
 use Rattle.sheet.proofs.Encoded.{encoded-iff}
 use Rattle.sheet.proofs.Judging.{accepted-iff}
 use Rattle.sheet.proofs.PackedLaws.{items-length, anew, anew-long, part-same, part-before, part-after}
-
--- the first slots of a padded list are the list
-pub take-pad : {A : Type 0} (n : ℕ) (d : A) (xs : List A) → length xs ≤ n → take (length xs) (pad n d xs) ≡ xs
-unfolding pad
-take-pad n d [] h = refl
-take-pad zero d (x ∷ xs) h = absurd (not-suc-le-zero h)
-take-pad {A} (suc n) d (x ∷ xs) h = ap (λ (r : List A). x ∷ r) (take-pad n d xs (le-of-suc-le-suc h))
+use Rattle.sheet.proofs.base.Padding.{take-pad}
 
 pub plan-slots : (ks : List ℕ) → length ks ≤ 64 → planIn (planOf ks) ≡ ks
 unfolding planIn planOf

@@ -11,9 +11,10 @@ use lib.Seq.{take-suc, take-all, drop-cons, set-at, getD-at, set-append-left}
 use Rattle.sheet.specs.declared.Literals.{Literals}
 use Rattle.sheet.specs.Literals.{noLiteral}
 use Rattle.sheet.specs.Lists.{anyOf, addIf, keep, pad}
-use Rattle.sheet.proofs.Reading.{pad-set}
+use Rattle.sheet.proofs.base.Padding.{pad-set}
 use Rattle.table.specs.Slots.{trues-of, falses-of, entriesOf, Holds, Held}
-use Rattle.table.proofs.Pads.{length-pad, pad-suc, pad-over, pad-front, length-entriesOf, getD-entriesOf, take-entriesOf, holds-falses-long}
+use Rattle.table.proofs.Pads.{length-entriesOf, getD-entriesOf, take-entriesOf, holds-falses-long}
+use Rattle.sheet.proofs.base.Padding.{length-pad, pad-suc, pad-over, pad-front}
 
 -- ---- one array
 

@@ -1,44 +1,43 @@
 -- The laws that belong to no one function: of slots and loops, of worlds, of pictures; and the theorems.
 pub mod Pads
-pub mod Scan
-pub mod Compact
-pub mod PutSlots
-pub mod Growing
-pub mod Copying
-pub mod Lacking
-pub mod Choosing
-pub mod PackedClauses
+mod Scan
+mod Compact
+mod PutSlots
+mod Growing
+mod Lacking
+mod Choosing
+mod PackedClauses
 pub mod Started
 pub mod Turns
 pub mod PutLaws
-pub mod Splitting
+mod Splitting
 pub mod Stepping
-pub mod Candidates
-pub mod Starting
-pub mod PairLaws
-pub mod PairScan
-pub mod Describing
-pub mod Walks
-pub mod Advancing
+mod Candidates
+mod Starting
+mod PairLaws
+mod PairScan
+mod Describing
+mod Walks
+mod Advancing
 pub mod ClausePut
 pub mod Primes
-pub mod Order
+mod Order
 pub mod PictureBytes
 pub mod Pictures
-pub mod Joining
-pub mod Absorbing
-pub mod Firsts
-pub mod Inserting
-pub mod Folding
+mod Joining
+mod Absorbing
+mod Firsts
+mod Inserting
+mod Folding
 pub mod MaskBytes
-pub mod Drawing
-pub mod Answers
-pub mod PictureAnswers
+mod Drawing
+mod Answers
+mod PictureAnswers
 pub mod Demands
 pub mod PaperWorlds
 pub mod Unread
 pub mod CallTables
 pub mod CallDemands
-pub mod Carrying
+mod Carrying
 pub mod Examples
-pub mod PictureExamples
+mod PictureExamples

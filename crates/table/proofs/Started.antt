@@ -32,7 +32,8 @@ use Rattle.table.specs.Start.{Clause, candidates, fresh, grow, onTable, 
 use Rattle.table.specs.Slots.{pairs, entriesOf, Fresh, Holds, Held, tableOf, Grew, Puts}
 use Rattle.table.specs.Reads.{ClausesFit, startAnswer}
 use Rattle.table.specs.Calls.{orGiven, startOf, actionAt}
-use Rattle.table.proofs.Pads.{length-pad, length-entriesOf, holds-trues-long, holds-falses-long, holds-entries, held as held-of, holds-table, table-holds}
+use Rattle.table.proofs.Pads.{length-entriesOf, holds-trues-long, holds-falses-long, holds-entries, held as held-of, holds-table, table-holds}
+use Rattle.sheet.proofs.base.Padding.{length-pad}
 use Rattle.table.proofs.PutLaws.{put-all-size}
 
 -- the moves of a problem are proper

@@ -11,9 +11,9 @@ ghost use Rattle.table.specs.Moves.{lent, stepAnswer};
 ghost use Rattle.table.specs.Slots.{TableRoom, Fresh};
 ghost use Rattle.table.specs.PictureCalls.{pictureOf, bufferOf};
 
-pub mod picture_bytes;
+mod picture_bytes;
 pub mod picture_clauses;
-pub mod picture_order;
+mod picture_order;
 pub mod slots;
 pub mod starts;
 pub mod steps;

@@ -3,4 +3,4 @@ mod Stores
 mod Answering
 mod Sizes
 mod RowNumbers
-pub mod Demands
+mod Demands

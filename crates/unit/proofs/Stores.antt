@@ -11,7 +11,7 @@ use Rattle.table.specs.declared.Table.{Table}
 use Rattle.table.specs.declared.steps.Stepped.{Stepped}
 use Rattle.table.specs.Moves.{lent, stepAnswer}
 use Rattle.table.specs.Calls.{stepOf}
-use Rattle.table.proofs.Copying.{Copied, copied-step, copied-end, front}
+use Rattle.sheet.proofs.base.Copying.{Copied, copied-step, copied-end, front}
 use Rattle.unit.specs.declared.Reply.{Reply}
 use Rattle.unit.specs.Numbers.{infoOf, tableIn, tableOut}
 

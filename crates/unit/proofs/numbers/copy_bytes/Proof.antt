@@ -2,7 +2,7 @@
 use Prim.Native.Nat.{_-_}
 use native.Mathlib.Omega.{arith}
 use lib.ListN.{length}
-use Rattle.table.proofs.Copying.{Copied, copied-start}
+use Rattle.sheet.proofs.base.Copying.{Copied, copied-start}
 use Rattle.unit.proofs.Stores.{front-step, front-end}
 use Rattle.unit.proofs.numbers.copy_bytes.Statement.{statement}
 use Rattle.unit.proofs.numbers.copy_bytes.Tie as tie

@@ -4,7 +4,7 @@ use Prim.Native.Nat.{_≤_}
 use native.Mathlib.Omega.{arith}
 use lib.ListN.{length, length-take, length-drop}
 use borrow.Author.Needs.{needs}
-use Rattle.table.proofs.Copying.{whole}
+use Rattle.sheet.proofs.base.Copying.{whole}
 use Rattle.unit.proofs.Stores.{table-read}
 use Rattle.unit.proofs.numbers.table_in.Statement.{statement}
 use Rattle.unit.proofs.numbers.table_in.Tie as tie
