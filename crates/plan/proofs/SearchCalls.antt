@@ -1,4 +1,4 @@
--- The search and the run by a problem's moves and goal in rows, its start, and the call on bytes. Assumes nothing.
+-- The search and the run by a problem's moves and goal in a packed array, its start, and the call on bytes. Assumes nothing.
 use mathlib.Core.Path.{_≡_, refl, sym, ap, ap₂, subst, _∙_}
 use mathlib.Core.Bool.{Bool, true, false, cond}
 use mathlib.Core.List.{List, [], _∷_, map}
@@ -39,14 +39,14 @@ map-below : (f g : ℕ → Action) (k : ℕ) → ((i : ℕ) → i < k → f i �
 map-below f g k h [] l = refl
 map-below f g k h (i ∷ q) l = ap₂ {C = List Action} (λ (a : Action) (b : List Action). a ∷ b) (h i (l .0)) (map-below f g k h q (l .1))
 
--- a row says how many sets or effects it has
-sets-count : (row : List ℕ) → length (setsIn row) ≡ getD row 0 0
+-- how many sets or effects there are
+sets-count : (xs : List ℕ) → length (setsIn xs) ≡ getD xs 0 0
 unfolding setsIn
-sets-count row = sets-long (getD row 0 0) (drop 1 row)
+sets-count xs = sets-long (getD xs 0 0) (drop 1 xs)
 
-effects-count : (row : List ℕ) → length (actionFrom row .effects) ≡ countIn row
+effects-count : (xs : List ℕ) → length (actionFrom xs .effects) ≡ countIn xs
 unfolding actionFrom
-effects-count row = effects-long (countIn row) (take 32 (drop 3 row))
+effects-count xs = effects-long (countIn xs) (take 32 (drop 3 xs))
 
 -- ---- the moves and the goal of a problem in a packed array
 module _ (p : Problem) (g : ProperProblem p) (packed : List ℕ) (long : length packed ≡ 1409)

@@ -102,41 +102,41 @@ module _ (p : Problem) (hp : ProperProblem p) (t : List Literals) (starts : star
   abbrev pub Short : Type 0
   Short = (u : List Literals) × (tableAt 128 (length plan) plan t ≡ some u) × ((w : ℕ) × (w < 2 ^ p .n) × In (p .n) u w × (InGoal (p .n) (p .goal) w → ⊥))
 
-  Told : Verdict → Type 0
-  Told reached = Reached
-  Told short = Short
-  Told (stopped k N) = Stopped k N
-  Told (full k) = Filled k
+  Meant : Verdict → Type 0
+  Meant reached = Reached
+  Meant short = Short
+  Meant (stopped k N) = Stopped k N
+  Meant (full k) = Filled k
 
-  told : Told verdict
-  unfolding Told
-  told = go (story 128 plan t)
+  meant : Meant verdict
+  unfolding Meant
+  meant = go (story 128 plan t)
     where
-      ends : (u : List Literals) → tableAt 128 (length plan) plan t ≡ some u → (b : Bool) → allOf (inGoal (p .goal)) u ≡ b → Told (endedIn b)
+      ends : (u : List Literals) → tableAt 128 (length plan) plan t ≡ some u → (b : Bool) → allOf (inGoal (p .goal)) u ≡ b → Meant (endedIn b)
       ends u h true e = (u, h, λ w l i. goal-each (p .n) (p .goal) u (true-T (allOf (inGoal (p .goal)) u) e) w i)
       ends u h false e =
           let x = goal-lacks (p .n) (p .goal) u goals (place-arrives (length plan) u h .described .proper) (false-T (allOf (inGoal (p .goal)) u) e) in
           (u, h, (x .0, x .1 .1 .0, x .1 .0, x .1 .1 .1))
 
-      by : (k N : ℕ) → Refuses 128 plan t k N → stepping.Kind (refused N) → Told (haltedBy (eqb N 21) (suc k) N)
-      by k N r (inl f) = let e = code-is f in subst (λ (c : ℕ). Told (haltedBy (eqb c 21) (suc k) c)) (sym e) (k, refl, subst (Refuses 128 plan t k) e r, inl refl)
-      by k N r (inr (inl f)) = let e = code-is f in subst (λ (c : ℕ). Told (haltedBy (eqb c 21) (suc k) c)) (sym e) (k, refl, subst (Refuses 128 plan t k) e r, inr refl)
-      by k N r (inr (inr (inl f))) = let e = code-is f in subst (λ (c : ℕ). Told (haltedBy (eqb c 21) (suc k) c)) (sym e) (k, refl, subst (Refuses 128 plan t k) e r)
+      by : (k N : ℕ) → Refuses 128 plan t k N → stepping.Kind (refused N) → Meant (haltedBy (eqb N 21) (suc k) N)
+      by k N r (inl f) = let e = code-is f in subst (λ (c : ℕ). Meant (haltedBy (eqb c 21) (suc k) c)) (sym e) (k, refl, subst (Refuses 128 plan t k) e r, inl refl)
+      by k N r (inr (inl f)) = let e = code-is f in subst (λ (c : ℕ). Meant (haltedBy (eqb c 21) (suc k) c)) (sym e) (k, refl, subst (Refuses 128 plan t k) e r, inr refl)
+      by k N r (inr (inr (inl f))) = let e = code-is f in subst (λ (c : ℕ). Meant (haltedBy (eqb c 21) (suc k) c)) (sym e) (k, refl, subst (Refuses 128 plan t k) e r)
       by k N r (inr (inr (inr x))) = table-refused (x .0) N (sym (x .1))
 
-      go : Story 128 plan t → Told verdict
-      go (inl x) = subst Told (sym (run-ended 128 (p .goal) 0 plan t (x .0) (x .1))) (ends (x .0) (x .1) (allOf (inGoal (p .goal)) (x .0)) refl)
+      go : Story 128 plan t → Meant verdict
+      go (inl x) = subst Meant (sym (run-ended 128 (p .goal) 0 plan t (x .0) (x .1))) (ends (x .0) (x .1) (allOf (inGoal (p .goal)) (x .0)) refl)
       go (inr x) =
           let r = x .2 in
           let e : 0 + x .0 ≡ x .0 = omega arith in
           let a = place-arrives (x .0) (r .last) (r .arrives) in
-          subst Told (sym (run-refused 128 (p .goal) 0 plan t (x .0) (x .1) r ∙ ap (λ (i : ℕ). haltedBy (eqb (x .1) 21) (suc i) (x .1)) e))
+          subst Meant (sym (run-refused 128 (p .goal) 0 plan t (x .0) (x .1) r ∙ ap (λ (i : ℕ). haltedBy (eqb (x .1) 21) (suc i) (x .1)) e))
           (by (x .0) (x .1) r (subst stepping.Kind (r .gives)
           (stepping.step-kind (p .n) (hp .n-most) (r .move) (all-next (ProperAction (p .n)) (x .0) plan (r .move) (r .later) (r .next) moves) (r .last) (a .described .proper) 128)))
 
   pub by-stopped : (k N : ℕ) → (verdict ≡ stopped k N) ↔ Stopped k N
-  unfolding Told
-  by-stopped k N = (λ e. subst Told e told, back)
+  unfolding Meant
+  by-stopped k N = (λ e. subst Meant e meant, back)
     where
       back : Stopped k N → verdict ≡ stopped k N
       back x = go (x .3)
@@ -153,22 +153,22 @@ module _ (p : Problem) (hp : ProperProblem p) (t : List Literals) (starts : star
           go (inr e) = by 25 e ∙ ap (stopped k) (sym e)
 
   pub by-full : (k : ℕ) → (verdict ≡ full k) ↔ Filled k
-  unfolding Told
-  by-full k = (λ e. subst Told e told, λ x. let e : suc (0 + x .0) ≡ k = omega (arith, x .1) in run-refused 128 (p .goal) 0 plan t (x .0) 21 (x .2) ∙ ap full e)
+  unfolding Meant
+  by-full k = (λ e. subst Meant e meant, λ x. let e : suc (0 + x .0) ≡ k = omega (arith, x .1) in run-refused 128 (p .goal) 0 plan t (x .0) 21 (x .2) ∙ ap full e)
 
   pub by-reached : (verdict ≡ reached) ↔ Reached
-  unfolding Told
+  unfolding Meant
   by-reached = (
-    λ e. subst Told e told,
+    λ e. subst Meant e meant,
     λ x.
         run-ended 128 (p .goal) 0 plan t (x .0) (x .1)
         ∙ ap endedIn (T-true (allOf (inGoal (p .goal)) (x .0)) (goal-entries (p .n) (p .goal) (x .0) goals (place-arrives (length plan) (x .0) (x .1) .described .proper) .1 (x .2))),
   )
 
   pub by-short : (verdict ≡ short) ↔ Short
-  unfolding Told
+  unfolding Meant
   by-short = (
-    λ e. subst Told e told,
+    λ e. subst Meant e meant,
     λ x.
         run-ended 128 (p .goal) 0 plan t (x .0) (x .1)
         ∙ ap endedIn (T-false (allOf (inGoal (p .goal)) (x .0)) (not-in (allOf (inGoal (p .goal)) (x .0)) (λ g. x .2 .3 (goal-each (p .n) (p .goal) (x .0) g (x .2 .0) (x .2 .2))))),

@@ -165,7 +165,7 @@ module _ {A : Type 0} (s : List ℕ) (one : Form A) where
         let e : k - i ≡ 0 = omega arith in
         t .rest ∙ ap (λ (j : ℕ). onto xs (read s (times j one) next)) e ∙ ap (onto xs) (times-none next) ∙ ap (λ (l : List A). item l next) (append-nil xs)
 
-    -- a loop that lays items in a row: one more, a fault, and all of them
+    -- a loop that lays items one after the other: one more, a fault, and all of them
     module _ {m : Mark} {v : A} (g : ReadsAs same (read s one next) m v) where
       pub turns-laid : {rest : ℕ} {more : List A} → i < k → m ≡ At rest → more ≡ xs ++ (v ∷ []) → Turns k first more (i + 1) rest
       turns-laid {rest} h q e =
@@ -175,7 +175,7 @@ module _ {A : Type 0} (s : List ℕ) (one : Form A) where
       pub turns-stop : {w : List A} {f p : ℕ} → i < k → m ≡ Fault f p → ReadsAs same (read s (times k one) first) m w
       turns-stop h q = gave-fault same _ (turns-fault h (got-fault same (read s one next) m v g q)) q
 
-  -- `parts n` are the first n items of the row
+  -- `parts n` are the first n items
   pub turns-end : (k first : ℕ) (parts : ℕ → List A) (i next : ℕ) → Turns k first (parts i) i next → k ≤ i → ReadsAs same (read s (times k one) first) (At next) (parts k)
   turns-end k first parts i next t h =
       let e : k ≡ i = omega (arith, t .within) in

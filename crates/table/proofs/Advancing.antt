@@ -156,7 +156,7 @@ module _ (a : Action) (n : ℕ) (ts fs : List ℕ) (h : Fits a (lent n ts fs)) (
       unfolding entries
       lent-to k q = stepped b given fits s u r vs hs (fresh-puts us gs z _ r vs hs w) k q ∙ due-is
 
--- what was read of the row of a move is the move
+-- what was read of the numbers of a move is the move
 pub action-is : (moves : List ℕ) (m : ℕ) (item : List ℕ) (p : Literals) (size : ℕ) → item ≡ itemAt 35 moves m → p ≡ setFrom item 0 → size ≡ countIn item
     → actionBy p size (take 32 (drop 3 item)) ≡ actionOf moves m
 unfolding actionFrom

@@ -235,19 +235,19 @@ module _ (s : List ℕ) (x : Statement) (says : Says s x) (t : Table) (m : ℕ) 
   pub step-numbers : (k q : ℕ) → stepOf (sheetOf s) t m .answer ≡ Refused k q → (q ≡ 0) × ((k ≡ 7) ⊎ ((k ≡ 22) ⊎ ((k ≡ 24) ⊎ ((k ≡ 25) ⊎ (k ≡ 21)))))
   step-numbers k q e = go (ltb m count) refl (described 128 n (entries t)) refl
     where
-      Told : Type 0
-      Told = (q ≡ 0) × ((k ≡ 7) ⊎ ((k ≡ 22) ⊎ ((k ≡ 24) ⊎ ((k ≡ 25) ⊎ (k ≡ 21)))))
+      Numbers : Type 0
+      Numbers = (q ≡ 0) × ((k ≡ 7) ⊎ ((k ≡ 22) ⊎ ((k ≡ 24) ⊎ ((k ≡ 25) ⊎ (k ≡ 21)))))
 
       position : (j : ℕ) → answer ≡ Refused j 0 → (q ≡ 0) × (k ≡ j)
       position j f = let i : _≡_ {A = Answer} (Refused k q) (Refused j 0) = sym e ∙ f in (cc, cc)
 
-      known : OnSheet x m → AsDescribed x t → (o ≡ Outcome.refused 24) ⊎ ((o ≡ Outcome.refused 25) ⊎ ((o ≡ Outcome.refused 21) ⊎ ((v : List Literals) × (o ≡ Outcome.table v)))) → Told
+      known : OnSheet x m → AsDescribed x t → (o ≡ Outcome.refused 24) ⊎ ((o ≡ Outcome.refused 25) ⊎ ((o ≡ Outcome.refused 21) ⊎ ((v : List Literals) × (o ≡ Outcome.table v)))) → Numbers
       known on fits (inl i) = let r = position 24 (number 24 (inl refl) .1 (on, fits, i)) in (r .0, inr (inr (inl (r .1))))
       known on fits (inr (inl i)) = let r = position 25 (number 25 (inr (inl refl)) .1 (on, fits, i)) in (r .0, inr (inr (inr (inl (r .1)))))
       known on fits (inr (inr (inl i))) = let r = position 21 (number 21 (inr (inr refl)) .1 (on, fits, i)) in (r .0, inr (inr (inr (inr (r .1)))))
       known on fits (inr (inr (inr i))) = absurd (let z : _≡_ {A = ℕ} 0 1 = cc (tables.step-accepted s x says t m .1 (on, fits, i), e) in omega arith)
 
-      go : (b : Bool) → ltb m count ≡ b → (c : Bool) → described 128 n (entries t) ≡ c → Told
+      go : (b : Bool) → ltb m count ≡ b → (c : Bool) → described 128 n (entries t) ≡ c → Numbers
       go false f c g = let r = position 7 (tables.step-7 s x says t m .1 (ltb-false m count f)) in (r .0, inl (r .1))
       go true f false g =
           let r = position 22 (tables.step-22 s x says t m .1 (ltb-true m count f, λ d. true≢false (sym (tables.described-iff 128 n (entries t) .1 d) ∙ g))) in
@@ -282,18 +282,18 @@ module _ (s : List ℕ) (x : Statement) (says : Says s x) (t : Table) where
         by-sheet : pictureOf (sheetOf s) t len ≡ cond (described 128 (x .problem .n) (entries t)) (given (picture (entries t)) len) (refusal 22 0)
         by-sheet = unfold pictureOf in rw says
 
-        Told : Type 0
-        Told = (q ≡ 0) × ((k ≡ 22) ⊎ ((k ≡ 21) ⊎ (k ≡ 23)))
+        Numbers : Type 0
+        Numbers = (q ≡ 0) × ((k ≡ 22) ⊎ ((k ≡ 21) ⊎ (k ≡ 23)))
 
-        fit : (b : Bool) (c : ℕ) → cond b (refusal 23 0) (record { answer = Accepted; clauses = c }) .answer ≡ Refused k q → Told
+        fit : (b : Bool) (c : ℕ) → cond b (refusal 23 0) (record { answer = Accepted; clauses = c }) .answer ≡ Refused k q → Numbers
         fit true c f = unfold refusal in let i : k ≡ 23 = cc in (cc, inr (inr i))
         fit false c f = absurd (let z : _≡_ {A = ℕ} 0 1 = cc in omega arith)
 
-        shown : (o : Option (List Literals)) → given o len .answer ≡ Refused k q → Told
+        shown : (o : Option (List Literals)) → given o len .answer ≡ Refused k q → Numbers
         shown none f = unfold given refusal in let i : k ≡ 21 = cc in (cc, inr (inl i))
         shown (some c) f = unfold given in fit (tooLong c len) (length c) f
 
-        go : (b : Bool) (o : Option (List Literals)) → cond b (given o len) (refusal 22 0) .answer ≡ Refused k q → Told
+        go : (b : Bool) (o : Option (List Literals)) → cond b (given o len) (refusal 22 0) .answer ≡ Refused k q → Numbers
         go true o f = shown o f
         go false o f = unfold refusal in let i : k ≡ 22 = cc in (cc, inl i)
 

@@ -34,8 +34,8 @@ pub left-out : (c : Literals) → consistent c ≡ false → keep consistent (c 
 left-out c e = ap (λ (b : Bool). addIf b c []) e
 
 -- no alternative is left
-pub chosen-all : (n : ℕ) (row : List ℕ) (i : ℕ) (d : Literals) → n ≤ i → consistent d ≡ true → d ∷ [] ≡ keep consistent (falsify (drop i (setsAt n row)) d)
-chosen-all n row i d h e = sym (ap (λ (x : List Literals). keep consistent (falsify x d)) (sets-end n row i h) ∙ kept-one d e)
+pub chosen-all : (n : ℕ) (laid : List ℕ) (i : ℕ) (d : Literals) → n ≤ i → consistent d ≡ true → d ∷ [] ≡ keep consistent (falsify (drop i (setsAt n laid)) d)
+chosen-all n laid i d h e = sym (ap (λ (x : List Literals). keep consistent (falsify x d)) (sets-end n laid i h) ∙ kept-one d e)
 
 -- what was put, by the names that the slots and the result have later
 pub puts-later : (cs : List Literals) (k : ℕ) (ts fs : List ℕ) (r : Grown) (us gs : List ℕ) (r′ : Grown) (us′ gs′ : List ℕ) → us′ ≡ us → gs′ ≡ gs → r′ ≡ r
@@ -87,36 +87,36 @@ without at (suc j) (x ∷ xs) =
     ∙ ap (λ (k : ℕ). x ∷ others k (at + 1) xs) e
     ∙ ap (λ (r : List Literals). x ∷ r) (without (at + 1) j xs)
 
--- ---- the alternatives but one, laid out in a row of masks: k of those below j, and those from j on are still to come
-pub record Laying (xs : List Literals) (i j k : ℕ) (row : List ℕ) : Type 0 where
+-- ---- the alternatives but one, laid out as masks: k of those below j, and those from j on are still to come
+pub record Laying (xs : List Literals) (i j k : ℕ) (laid : List ℕ) : Type 0 where
   pub few : k ≤ j
-  pub is : setsAt k row ++ others i j (drop j xs) ≡ others i 0 xs
+  pub is : setsAt k laid ++ others i j (drop j xs) ≡ others i 0 xs
 
-pub laying-start : (xs : List Literals) (i : ℕ) (row : List ℕ) → Laying xs i 0 0 row
+pub laying-start : (xs : List Literals) (i : ℕ) (laid : List ℕ) → Laying xs i 0 0 laid
 unfolding setsAt
-laying-start xs i row = record { few = omega arith; is = refl }
+laying-start xs i laid = record { few = omega arith; is = refl }
 
-module _ (xs : List Literals) (i j k : ℕ) (row : List ℕ) (a : Literals) (g : Laying xs i j k row) where
-  pub laying-one : drop j xs ≡ a ∷ drop (j + 1) xs → (j ≡ i → ⊥) → 2 * k + 2 ≤ length row
-      → Laying xs i (j + 1) (k + 1) (set (set row (2 * k) (a .trues)) (2 * k + 1) (a .falses))
+module _ (xs : List Literals) (i j k : ℕ) (laid : List ℕ) (a : Literals) (g : Laying xs i j k laid) where
+  pub laying-one : drop j xs ≡ a ∷ drop (j + 1) xs → (j ≡ i → ⊥) → 2 * k + 2 ≤ length laid
+      → Laying xs i (j + 1) (k + 1) (set (set laid (2 * k) (a .trues)) (2 * k + 1) (a .falses))
   laying-one e n h = record {
     few = omega (arith, g .few);
     is = ap (λ (y : List Literals). y ++ others i (j + 1) (drop (j + 1) xs))
-        (ap (λ (m : ℕ). setsAt m (set (set row (2 * k) (a .trues)) (2 * k + 1) (a .falses))) (add-one k) ∙ sets-more k row a h)
-        ∙ append-assoc (setsAt k row) (a ∷ []) (others i (j + 1) (drop (j + 1) xs))
-        ∙ ap (λ (y : List Literals). setsAt k row ++ y) (sym (others-keep i j a (drop j xs) (drop (j + 1) xs) e n))
+        (ap (λ (m : ℕ). setsAt m (set (set laid (2 * k) (a .trues)) (2 * k + 1) (a .falses))) (add-one k) ∙ sets-more k laid a h)
+        ∙ append-assoc (setsAt k laid) (a ∷ []) (others i (j + 1) (drop (j + 1) xs))
+        ∙ ap (λ (y : List Literals). setsAt k laid ++ y) (sym (others-keep i j a (drop j xs) (drop (j + 1) xs) e n))
         ∙ g .is;
   }
 
-  pub laying-none : drop j xs ≡ a ∷ drop (j + 1) xs → j ≡ i → Laying xs i (j + 1) k row
+  pub laying-none : drop j xs ≡ a ∷ drop (j + 1) xs → j ≡ i → Laying xs i (j + 1) k laid
   laying-none e n = record {
     few = omega (arith, g .few);
-    is = ap (λ (y : List Literals). setsAt k row ++ y) (sym (others-skip i j a (drop j xs) (drop (j + 1) xs) e n)) ∙ g .is;
+    is = ap (λ (y : List Literals). setsAt k laid ++ y) (sym (others-skip i j a (drop j xs) (drop (j + 1) xs) e n)) ∙ g .is;
   }
 
-pub laying-end : (xs : List Literals) (i j k : ℕ) (row : List ℕ) → Laying xs i j k row → drop j xs ≡ [] → setsAt k row ≡ others i 0 xs
-laying-end xs i j k row g e =
-    sym (append-nil (setsAt k row)) ∙ ap (λ (y : List Literals). setsAt k row ++ others i j y) (sym e) ∙ g .is
+pub laying-end : (xs : List Literals) (i j k : ℕ) (laid : List ℕ) → Laying xs i j k laid → drop j xs ≡ [] → setsAt k laid ≡ others i 0 xs
+laying-end xs i j k laid g e =
+    sym (append-nil (setsAt k laid)) ∙ ap (λ (y : List Literals). setsAt k laid ++ others i j y) (sym e) ∙ g .is
 
 -- ---- the literals of an alternative that are left
 -- no literal of `rest` is in d

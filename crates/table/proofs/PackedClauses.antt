@@ -1,4 +1,4 @@
--- The alternatives of a clause in a row of 17 numbers, and the clauses of a section one after the other. Assumes nothing.
+-- The alternatives of a clause in 17 numbers, and the clauses of a section one after the other. Assumes nothing.
 use mathlib.Core.Path.{_≡_, refl, sym, ap, _∙_}
 use mathlib.Core.List.{List, [], _∷_}
 use Prim.Native.Nat.{ℕ, _+_, _-_, _*_, _≤_, _<_}
@@ -13,33 +13,33 @@ use Rattle.sheet.proofs.PackedLaws.{sets-long, sets-step, sets-end, item-of-all
 
 -- ---- the alternatives
 
-pub length-alts : (row : List ℕ) → length (setsIn row) ≡ getD row 0 0
+pub length-alts : (xs : List ℕ) → length (setsIn xs) ≡ getD xs 0 0
 unfolding setsIn
-length-alts row = sets-long (getD row 0 0) (drop 1 row)
+length-alts xs = sets-long (getD xs 0 0) (drop 1 xs)
 
-module _ (row : List ℕ) (i n : ℕ) (e : n ≡ getD row 0 0) where
-  pub alts-step : (a : Literals) → i < n → a ≡ setFrom (drop 1 row) (2 * i) → drop i (setsIn row) ≡ a ∷ drop (i + 1) (setsIn row)
+module _ (xs : List ℕ) (i n : ℕ) (e : n ≡ getD xs 0 0) where
+  pub alts-step : (a : Literals) → i < n → a ≡ setFrom (drop 1 xs) (2 * i) → drop i (setsIn xs) ≡ a ∷ drop (i + 1) (setsIn xs)
   unfolding setsIn
-  alts-step a h q = sets-step (getD row 0 0) (drop 1 row) i a (omega arith) q
+  alts-step a h q = sets-step (getD xs 0 0) (drop 1 xs) i a (omega arith) q
 
-  pub alts-end : n ≤ i → drop i (setsIn row) ≡ []
+  pub alts-end : n ≤ i → drop i (setsIn xs) ≡ []
   unfolding setsIn
-  alts-end h = sets-end (getD row 0 0) (drop 1 row) i (omega arith)
+  alts-end h = sets-end (getD xs 0 0) (drop 1 xs) i (omega arith)
 
 -- the one of number i
-pub alt-at : (row : List ℕ) (i : ℕ) (a : Literals) → i < getD row 0 0 → a ≡ setFrom (drop 1 row) (2 * i) → getD (setsIn row) i noLiteral ≡ a
-alt-at row i a h q =
+pub alt-at : (xs : List ℕ) (i : ℕ) (a : Literals) → i < getD xs 0 0 → a ≡ setFrom (drop 1 xs) (2 * i) → getD (setsIn xs) i noLiteral ≡ a
+alt-at xs i a h q =
     let e : i ≡ i + 0 = omega arith in
-    ap (λ (k : ℕ). getD (setsIn row) k noLiteral) e
-    ∙ sym (getD-drop i (setsIn row) 0 noLiteral)
-    ∙ ap (λ (x : List Literals). getD x 0 noLiteral) (alts-step row i _ refl a h q)
+    ap (λ (k : ℕ). getD (setsIn xs) k noLiteral) e
+    ∙ sym (getD-drop i (setsIn xs) 0 noLiteral)
+    ∙ ap (λ (x : List Literals). getD x 0 noLiteral) (alts-step xs i _ refl a h q)
 
 -- ---- the clauses
 
 abbrev clause : List ℕ → ℕ → List Literals
 clause xs i = setsIn (itemAt 17 xs i)
 
--- ---- the row of a clause by its two ends
+-- ---- the numbers of a clause by its two ends
 abbrev pub clauseItem : List ℕ → ℕ → List ℕ
 clauseItem xs i = take (i * 17 + 17 - i * 17) (drop (i * 17) xs)
 

@@ -1,4 +1,4 @@
--- What the start takes and gives: clauses by kind and in rows, the alternatives but one, the answer with its arrays.
+-- What the start takes and gives: clauses by kind, the alternatives but one, the answer with its arrays.
 use mathlib.Core.Bool.{Bool, true, false, cond}
 use mathlib.Core.List.{List, [], _∷_}
 use Prim.Native.Nat.{ℕ, _+_, _*_, _≤_}
@@ -25,10 +25,10 @@ abbrev pub others : ℕ → ℕ → List Literals → List Literals
 others i at [] = []
 others i at (x ∷ xs) = cond (eqb at i) (others i (at + 1) xs) (x ∷ others i (at + 1) xs)
 
--- the rows of so many clauses, of at most 8 alternatives each
-pub record ClausesFit (count : ℕ) (rows : List ℕ) : Type 0 where
-  pub room : count * 17 ≤ length rows
-  pub few : All (λ (c : List Literals). length c ≤ 8) (clausesAt count rows)
+-- so many clauses, of at most 8 alternatives each
+pub record ClausesFit (count : ℕ) (xs : List ℕ) : Type 0 where
+  pub room : count * 17 ≤ length xs
+  pub few : All (λ (c : List Literals). length c ≤ 8) (clausesAt count xs)
 
 -- what a start gave, with the arrays that it was put in; refused, a table without entries
 abbrev pub startAnswer : Started → List ℕ → List ℕ → TableAnswer

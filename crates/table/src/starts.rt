@@ -70,9 +70,9 @@ pub(crate) fn widen_or(
 }
 
 // The alternatives but the one of number i, laid out, two masks to each. The result is how many.
-pub(crate) fn lay_others(alts: &[u32], i: usize, row: &mut [u32]) -> usize
-    requires { ⌜ R.SetsFit (now alts) × (length (now row) ≡ 16) ⌝ }
-    ensures { λ r. ⌜ (2 * r ≤ length (now (row .exit))) × (R.setsAt r (now (row .exit)) ≡ others i 0 (R.setsIn (now (alts .entry)))) ⌝ }
+pub(crate) fn lay_others(alts: &[u32], i: usize, laid: &mut [u32]) -> usize
+    requires { ⌜ R.SetsFit (now alts) × (length (now laid) ≡ 16) ⌝ }
+    ensures { λ r. ⌜ (2 * r ≤ length (now (laid .exit))) × (R.setsAt r (now (laid .exit)) ≡ others i 0 (R.setsIn (now (alts .entry)))) ⌝ }
 {
     let size = count_of(alts);
     let mut filled: usize = 0;
@@ -80,8 +80,8 @@ pub(crate) fn lay_others(alts: &[u32], i: usize, row: &mut [u32]) -> usize
     while j < size {
         if j != i {
             let a = set_at(alts, j);
-            row[2 * filled] = a.trues;
-            row[2 * filled + 1] = a.falses;
+            laid[2 * filled] = a.trues;
+            laid[2 * filled + 1] = a.falses;
             filled += 1;
         }
         j += 1;
@@ -92,7 +92,7 @@ pub(crate) fn lay_others(alts: &[u32], i: usize, row: &mut [u32]) -> usize
 // Each alternative from `at` on is made false in every way: by each of its literals that the piece lacks. One that the piece has would make
 // an inconsistent set.
 pub(crate) fn choose<'a, 'b>(
-    row: &'a [u32; 16],
+    laid: &'a [u32; 16],
     size: usize,
     at: usize,
     piece: Literals,
@@ -100,23 +100,23 @@ pub(crate) fn choose<'a, 'b>(
     to_falses: &'b mut [u32],
     count: usize,
 ) -> Grown
-    requires { ⌜ 2 * size ≤ length (now row) ⌝ }
+    requires { ⌜ 2 * size ≤ length (now laid) ⌝ }
     requires { ⌜ L.consistent piece ≡ true ⌝ }
     requires { ⌜ Held (length (now «to_trues»)) count (now «to_trues») (now «to_falses») ⌝ }
-    ensures { λ r. ⌜ Puts (keep L.consistent (spec.falsify (drop at (R.setsAt size (now (row .entry)))) piece)) count (now («to_trues» .entry)) (now («to_falses» .entry)) r (now («to_trues» .exit)) (now («to_falses» .exit)) ⌝ }
+    ensures { λ r. ⌜ Puts (keep L.consistent (spec.falsify (drop at (R.setsAt size (now (laid .entry)))) piece)) count (now («to_trues» .entry)) (now («to_falses» .entry)) r (now («to_trues» .exit)) (now («to_falses» .exit)) ⌝ }
 {
     if size <= at {
         return offer_by_newest(to_trues, to_falses, count, piece);
     }
     let after = at + 1;
-    let mut rest = minus(set_from(row, 2 * at), piece);
+    let mut rest = minus(set_from(laid, 2 * at), piece);
     let mut filled = count;
     let mut l = next(rest, 0);
     while l < 64 {
         let one = literal(l);
         let chosen = join(piece, flip(one));
         if after < size {
-            let Grown::To(grown) = choose(row, size, after, chosen, to_trues, to_falses, filled)
+            let Grown::To(grown) = choose(laid, size, after, chosen, to_trues, to_falses, filled)
             else {
                 return Grown::Full;
             };
@@ -151,9 +151,9 @@ pub(crate) fn widen_one(
     if !consistent(first) {
         return Grown::To(count);
     }
-    let mut row = [0u32; 16];
-    let size = lay_others(alts, i, &mut row);
-    choose(&row, size, 0, first, to_trues, to_falses, count)
+    let mut laid = [0u32; 16];
+    let size = lay_others(alts, i, &mut laid);
+    choose(&laid, size, 0, first, to_trues, to_falses, count)
 }
 
 // The entry with each alternative of a oneof-clause, in order, and the others made false.

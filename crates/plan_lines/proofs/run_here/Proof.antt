@@ -160,8 +160,8 @@ module _ {M : Type 1} (𝓤 : URA M) (H : Heap 𝓤) (A : Atoms 𝓤) (W : Given
     abbrev Homed : Val → Item 𝓤
     Homed = Home T.the-row (named 1) l₂ 0 𝓤 H A ys Ended (mean 𝓤 H A Beside) (A .lft κ q)
 
-    abbrev Told : ℕ → GName → Val → Item 𝓤
-    Told = SaidHome T.the-row (named 1) l₂ 0 𝓤 H A ys Ended (mean 𝓤 H A Beside) (A .lft κ q)
+    abbrev Answered : ℕ → GName → Val → Item 𝓤
+    Answered = SaidHome T.the-row (named 1) l₂ 0 𝓤 H A ys Ended (mean 𝓤 H A Beside) (A .lft κ q)
 
     goes-run : (ν : ℕ) (δ : GName) → ent 𝓤 (sep 𝓤 (A .lft (ν ∷ []) fullShare) (sep 𝓤 (sem 𝓤 H A (LentHome T.the-row (named 1) l₂ 0 𝓤 H A ν δ ys)) (mean 𝓤 H A Beside))) (Run 𝓤 H A mem run .pre (to-run ν δ))
     goes-run ν δ =
@@ -170,7 +170,7 @@ module _ {M : Type 1} (𝓤 : URA M) (H : Heap 𝓤) (A : Atoms 𝓤) (W : Given
         nothing ! $ move ! (3 ∷ 0 ∷ []) $ join ! $ move ! (1 ∷ 0 ∷ []) $ join ! $
         nothing ! $ move ! (3 ∷ 0 ∷ []) $ fjoin ! $ move ! (2 ∷ 0 ∷ []) $ fjoin ! $ move ! (1 ∷ 0 ∷ []) $ join ! $ frame ! $ done !
 
-    gets-run : (ν : ℕ) (δ : GName) (w : Val) → ent 𝓤 (Run 𝓤 H A mem run .post (to-run ν δ) w) (mean 𝓤 H A (Told ν δ w))
+    gets-run : (ν : ℕ) (δ : GName) (w : Val) → ent 𝓤 (Run 𝓤 H A mem run .post (to-run ν δ) w) (mean 𝓤 H A (Answered ν δ w))
     gets-run ν δ w =
         qed W (raw (Run 𝓤 H A mem run .post (to-run ν δ) w) ∷ []) ∵ updating ! $
         use1 W (later (some (λ (r : RunAnswer). ((‵ (flft κ q) ⊛ (‵ (flft (ν ∷ []) fullShare) ⊛ ‵ ftrue)) ⊛ ‵ (S.the-row .own r (w ∷ [])))

@@ -43,13 +43,13 @@ abbrev claims : ℕ → choose-lts.Claims
 claims t = (offer-by-newest-reads.Asked, offer-by-newest-reads.Learnt, set-from-reads.Asked, set-from-reads.Learnt, minus-reads.Asked, minus-reads.Learnt, next-reads.Asked, next-reads.Learnt, literal-reads.Asked, literal-reads.Learnt, flip-reads.Asked, flip-reads.Learnt, join-reads.Asked, join-reads.Learnt, choose-below t, choose.Post)
 
 abbrev choose-Inv-loop : choose-lts.InvT-loop
-choose-Inv-loop row size at piece to-trues₀ to-falses₀ count after rest₀ filled₀ l₀ to-trues to-falses rest filled l =
-    Going (keep L.consistent (falsify (drop at (setsAt size row)) piece)) count to-trues₀ to-falses₀ (keep L.consistent (choicesOf (drop after (setsAt size row)) rest piece)) filled to-trues to-falses
+choose-Inv-loop laid size at piece to-trues₀ to-falses₀ count after rest₀ filled₀ l₀ to-trues to-falses rest filled l =
+    Going (keep L.consistent (falsify (drop at (setsAt size laid)) piece)) count to-trues₀ to-falses₀ (keep L.consistent (choicesOf (drop after (setsAt size laid)) rest piece)) filled to-trues to-falses
     × (l ≡ L.next rest 0)
     × Free rest piece
 
 abbrev choose-μ-loop : choose-lts.MeasureT-loop
-choose-μ-loop row size at piece to-trues₀ to-falses₀ count after rest₀ filled₀ l₀ to-trues to-falses rest filled l = length (L.members rest 0)
+choose-μ-loop laid size at piece to-trues₀ to-falses₀ count after rest₀ filled₀ l₀ to-trues to-falses rest filled l = length (L.members rest 0)
 
 choose-offer-by-newest-requires : (t : ℕ) → choose-lts.Need-offer-by-newest-requires (claims t) (choose-at t) choose.Post choose-Inv-loop choose-μ-loop
 choose-offer-by-newest-requires t c κs = c .before .before .before .before .before .pre .1 .1 .1
@@ -63,7 +63,7 @@ choose-same-length-2 t c = search needs
 choose-returns : (t : ℕ) → choose-lts.Need-returns (claims t) (choose-at t) choose.Post choose-Inv-loop choose-μ-loop
 choose-returns t c =
     let s = c .before .before .before .before .before .before .before .before .before .before in
-    puts-is _ _ _ _ _ _ _ _ (chosen-all (s .args .size) (s .args .row .now) (s .args .at) _ (omega arith) (s .pre .1 .1 .0)) (c .before .before .before .before .offer-by-newest .ensures)
+    puts-is _ _ _ _ _ _ _ _ (chosen-all (s .args .size) (s .args .laid .now) (s .args .at) _ (omega arith) (s .pre .1 .1 .0)) (c .before .before .before .before .offer-by-newest .ensures)
 
 choose-add-after : (t : ℕ) → choose-lts.Need-add-after (claims t) (choose-at t) choose.Post choose-Inv-loop choose-μ-loop
 choose-add-after t c = omega arith
@@ -83,7 +83,7 @@ choose-next-requires t c κs = search needs
 choose-loop-holds : (t : ℕ) → choose-lts.Need-loop-holds (claims t) (choose-at t) choose.Post choose-Inv-loop choose-μ-loop
 choose-loop-holds t c =
     let s = c .before .before .before .before .before .before .before in (
-      going-start _ _ _ _ _ (choices-start _ _ _ _ _ (s .pre .1 .1 .0) (sets-step (s .args .size) (s .args .row .now) (s .args .at) _ (omega arith) (c .before .before .set-from .ensures)) (c .before .minus .ensures)) (s .pre .1 .1 .1),
+      going-start _ _ _ _ _ (choices-start _ _ _ _ _ (s .pre .1 .1 .0) (sets-step (s .args .size) (s .args .laid .now) (s .args .at) _ (omega arith) (c .before .before .set-from .ensures)) (c .before .minus .ensures)) (s .pre .1 .1 .1),
       c .next .ensures,
       free-start _ _ _ (c .before .minus .ensures),
     )
@@ -144,7 +144,7 @@ choose-returns-3 t c =
     let o = c .before .before .before .before .before .before .before .before .before .before in
     let w = o .before .before .before .before .loop .inv in
     let steady = chosen-steady _ _ _ _ _ _ (s .pre .1 .1 .0) (w .2) (w .1) (o .before .before .before .loop-test .taken) (o .before .before .literal .ensures) (o .before .flip .ensures) (o .join .ensures) in
-    let q = chosen-all (s .args .size) (s .args .row .now) (s .args .at + 1) _ (c .before .before .before .before .before .before .before .before .before .if2 .left) steady in
+    let q = chosen-all (s .args .size) (s .args .laid .now) (s .args .at + 1) _ (c .before .before .before .before .before .before .before .before .before .if2 .left) steady in
     going-full _ _ _ _ _ _ _ _ _ _ _ _ _ (w .0)
     (choices-step _ _ _ _ _ _ _ _ (w .1) (o .before .before .before .loop-test .taken) (o .before .before .literal .ensures) (o .before .flip .ensures) (o .join .ensures) refl) (puts-is _ _ _ _ _ _ _ _ q (c .before .before .before .before .before .before .offer-by-newest2 .ensures)) (c .enum-told2 .given .1)
 
@@ -170,7 +170,7 @@ choose-loop-again t c =
           (⊎-elim
           (λ v. puts-later _ _ _ _ _ _ _ _ _ _ (v .11) (v .12) (ap grown.To (v .13) ∙ sym (v .9 .given .1)) (v .3 .ensures))
           (λ v. puts-later _ _ _ _ _ _ _ _ _ _ (v .11) (v .12) (ap grown.To (v .13) ∙ sym (v .9 .given .1))
-          (puts-is _ _ _ _ _ _ _ _ (chosen-all (s .args .size) (s .args .row .now) (s .args .at + 1) _ (v .0 .left) steady) (v .3 .ensures)))
+          (puts-is _ _ _ _ _ _ _ _ (chosen-all (s .args .size) (s .args .laid .now) (s .args .at + 1) _ (v .0 .left) steady) (v .3 .ensures)))
           (c .before .before .if2 .came)) _ refl,
       c .next2 .ensures,
       free-on _ _ _ _ (w .2) (c .before .minus2 .ensures),

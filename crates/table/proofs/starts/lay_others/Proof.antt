@@ -12,10 +12,10 @@ use Rattle.table.proofs.starts.lay_others.Statement.{statement}
 use Rattle.table.proofs.starts.lay_others.Tie as tie
 
 abbrev Inv-loop : tie.InvT-loop
-Inv-loop alts i row₀ size filled₀ j₀ row filled j = (j ≤ size) × (length row ≡ 16) × Laying (setsIn alts) i j filled row
+Inv-loop alts i laid₀ size filled₀ j₀ laid filled j = (j ≤ size) × (length laid ≡ 16) × Laying (setsIn alts) i j filled laid
 
 abbrev μ-loop : tie.MeasureT-loop
-μ-loop alts i row₀ size filled₀ j₀ row filled j = size - j
+μ-loop alts i laid₀ size filled₀ j₀ laid filled j = size - j
 
 count-of-requires : tie.Need-count-of-requires Inv-loop μ-loop
 count-of-requires c κs = search needs
@@ -26,26 +26,26 @@ loop-holds c = (omega arith, c .before .before .before .pre .1, laying-start _ _
 set-at-requires : tie.Need-set-at-requires Inv-loop μ-loop
 set-at-requires c κs = omega arith
 
-mul-row : tie.Need-mul-row Inv-loop μ-loop
-mul-row c = omega arith
+mul-laid : tie.Need-mul-laid Inv-loop μ-loop
+mul-laid c = omega arith
 
-mul-row-2 : tie.Need-mul-row-2 Inv-loop μ-loop
-mul-row-2 c = omega arith
+mul-laid-2 : tie.Need-mul-laid-2 Inv-loop μ-loop
+mul-laid-2 c = omega arith
 
-slice-write-row : tie.Need-slice-write-row Inv-loop μ-loop
-slice-write-row c = omega arith
+slice-write-laid : tie.Need-slice-write-laid Inv-loop μ-loop
+slice-write-laid c = omega arith
 
-mul-row-3 : tie.Need-mul-row-3 Inv-loop μ-loop
-mul-row-3 c = omega arith
+mul-laid-3 : tie.Need-mul-laid-3 Inv-loop μ-loop
+mul-laid-3 c = omega arith
 
-add-row : tie.Need-add-row Inv-loop μ-loop
-add-row c = omega arith
+add-laid : tie.Need-add-laid Inv-loop μ-loop
+add-laid c = omega arith
 
-mul-row-4 : tie.Need-mul-row-4 Inv-loop μ-loop
-mul-row-4 c = omega arith
+mul-laid-4 : tie.Need-mul-laid-4 Inv-loop μ-loop
+mul-laid-4 c = omega arith
 
-slice-write-row-2 : tie.Need-slice-write-row-2 Inv-loop μ-loop
-slice-write-row-2 c = simp length-set (omega arith)
+slice-write-laid-2 : tie.Need-slice-write-laid-2 Inv-loop μ-loop
+slice-write-laid-2 c = simp length-set (omega arith)
 
 add-filled : tie.Need-add-filled Inv-loop μ-loop
 add-filled c = omega arith
@@ -82,13 +82,13 @@ lay-others-spec =
     count-of-requires
     loop-holds
     set-at-requires
-    mul-row
-    mul-row-2
-    slice-write-row
-    mul-row-3
-    add-row
-    mul-row-4
-    slice-write-row-2
+    mul-laid
+    mul-laid-2
+    slice-write-laid
+    mul-laid-3
+    add-laid
+    mul-laid-4
+    slice-write-laid-2
     add-filled
     add-j
     loop-less

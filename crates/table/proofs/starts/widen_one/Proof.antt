@@ -18,8 +18,8 @@ use Rattle.table.proofs.starts.widen_one.Statement.{statement}
 use Rattle.table.proofs.starts.widen_one.Tie as tie
 
 -- the alternative is read in its slot
-picked : (row : List ℕ) (i : ℕ) (d a w : Literals) → i < getD row 0 0 → a ≡ setFrom (drop 1 row) (2 * i) → w ≡ L.join d a → w ≡ L.join d (getD (setsIn row) i L.noLiteral)
-picked row i d a w h q e = e ∙ ap (L.join d) (sym (alt-at row i a h q))
+picked : (laid : List ℕ) (i : ℕ) (d a w : Literals) → i < getD laid 0 0 → a ≡ setFrom (drop 1 laid) (2 * i) → w ≡ L.join d a → w ≡ L.join d (getD (setsIn laid) i L.noLiteral)
+picked laid i d a w h q e = e ∙ ap (L.join d) (sym (alt-at laid i a h q))
 
 set-at-requires : tie.Need-set-at-requires
 set-at-requires c κs = search needs

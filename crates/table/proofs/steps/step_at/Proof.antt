@@ -18,7 +18,7 @@ its-move : (c : tie.After-wide) → let a = c .before .before .before .before .b
     ≡ actionOf (movesIn (a .packed .now)) (a .index)
 its-move c = let a = c .before .before .before .before .before .before .before .before .before .before .args in action-is (movesIn (a .packed .now)) (a .index) _ _ _ (item-lent 35 (a .index) (movesIn (a .packed .now))) (c .before .before .set-from .ensures) (c .wide .ensures)
 
--- its effects are within the row
+-- its effects are within its numbers
 its-effects : (c : tie.After-wide) → let a = c .before .before .before .before .before .before .before .before .before .before .args in
     4 * c .wide .result ≤ length (take 32 (drop 3 (take (a .index * 35 + 35 - a .index * 35) (drop (a .index * 35) (movesIn (a .packed .now))))))
 its-effects c =
