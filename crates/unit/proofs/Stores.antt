@@ -33,9 +33,9 @@ front-end d s i e h past = copied-end d 0 s i e h past ∙ front d s
 -- ---- tables
 -- what is read of a table
 pub table-read : (xs ts fs : List ℕ) → ts ≡ take 128 (drop 1 xs) → fs ≡ take 128 (drop 129 xs)
-    → record { count = getD xs 0 0; trues = ts; falses = fs } ≡ tableIn xs
+    → lent (getD xs 0 0) ts fs ≡ tableIn xs
 unfolding tableIn
-table-read xs ts fs p q = λ k. record { count = getD xs 0 0; trues = p k; falses = q k }
+table-read xs ts fs p q = λ k. lent (getD xs 0 0) (p k) (q k)
 
 -- two copies one after the other
 two-copies : (d s t : List ℕ) (at : ℕ) → at + length s + length t ≤ length d

@@ -9,6 +9,7 @@ use Rattle.sheet.specs.declared.Answer.{Answer}
 use Rattle.sheet.specs.declared.Answer.the-variants as answer
 use Rattle.sheet.specs.Calls.{numberOf, positionOf}
 use Rattle.table.specs.declared.Table.{Table}
+use Rattle.table.specs.Moves.{lent}
 use Rattle.table.specs.declared.steps.Stepped.{Stepped}
 use Rattle.table.specs.declared.steps.Stepped.the-variants as stepped
 use Rattle.plan.specs.declared.Row.{Row}
@@ -82,7 +83,7 @@ tooShort n xs info = ltb (length xs) n || ltb (length info) 4
 -- ---- tables
 -- the table in the first 257 numbers: the count, the masks of true propositions, those of false ones
 unfoldable pub tableIn : List ℕ → Table
-tableIn xs = record { count = getD xs 0 0; trues = take mostEntries (drop 1 xs); falses = take mostEntries (drop 129 xs) }
+tableIn xs = lent (getD xs 0 0) (take mostEntries (drop 1 xs)) (take mostEntries (drop 129 xs))
 
 -- a table as numbers, and the numbers after its 257 as they were
 unfoldable pub tableOut : Table → List ℕ → List ℕ
