@@ -8,7 +8,7 @@ extern "C" {
         sheet: *const u8, sheet_len: usize, table: *mut u32, table_len: usize, info: *mut u64, info_len: usize,
     ) -> u8;
     fn krepuskilo_step(
-        sheet: *const u8, sheet_len: usize, table: *mut u32, table_len: usize, number: u64, info: *mut u64, info_len: usize,
+        sheet: *const u8, sheet_len: usize, table: *mut u32, table_len: usize, index: u64, info: *mut u64, info_len: usize,
     ) -> u8;
     fn krepuskilo_picture(
         sheet: *const u8, sheet_len: usize, table: *const u32, table_len: usize, buffer: *mut u8, buffer_len: usize,
@@ -38,9 +38,9 @@ pub fn start(sheet: &[u8], table: &mut [u32], info: &mut [u64]) -> u8 {
     unsafe { krepuskilo_start(s, sheet.len(), t, table.len(), i, info.len()) }
 }
 
-pub fn step(sheet: &[u8], table: &mut [u32], number: u64, info: &mut [u64]) -> u8 {
+pub fn step(sheet: &[u8], table: &mut [u32], index: u64, info: &mut [u64]) -> u8 {
     let (s, t, i) = (sheet.as_ptr(), table.as_mut_ptr(), info.as_mut_ptr());
-    unsafe { krepuskilo_step(s, sheet.len(), t, table.len(), number, i, info.len()) }
+    unsafe { krepuskilo_step(s, sheet.len(), t, table.len(), index, i, info.len()) }
 }
 
 pub fn picture(sheet: &[u8], table: &[u32], buffer: &mut [u8], info: &mut [u64]) -> u8 {
