@@ -1,6 +1,15 @@
 -- The limits by name: document 01's, and the lengths of the arrays that follow from them.
 use Prim.Native.Nat.{ℕ}
 
+-- ---- the sheet: what all layers ask of it (its ranges stand where the format states them, in Format and Encoding)
+-- propositions: the bits of a mask
+abbrev pub mostPropositions : ℕ
+mostPropositions = 32
+
+-- moves
+abbrev pub mostMoves : ℕ
+mostMoves = 32
+
 -- ---- tables, pictures, runs
 -- entries of a table
 abbrev pub mostEntries : ℕ

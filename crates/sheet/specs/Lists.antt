@@ -39,8 +39,8 @@ module _ {A : Type 0} where
   collect f [] = []
   collect f (x ∷ xs) = f x ++ collect f xs
 
-  -- the list in n slots, those after it filled with d
+  -- the list in so many slots, those after it filled with d
   unfoldable pub pad : ℕ → A → List A → List A
   pad zero d xs = []
-  pad (suc n) d [] = d ∷ pad n d []
-  pad (suc n) d (x ∷ xs) = x ∷ pad n d xs
+  pad (suc slots) d [] = d ∷ pad slots d []
+  pad (suc slots) d (x ∷ xs) = x ∷ pad slots d xs

@@ -30,10 +30,10 @@ movesIn = part movesAt movesWidth
 unfoldable pub setFrom : List ℕ → ℕ → Literals
 setFrom xs i = record { trues = getD xs i 0; falses = getD xs (i + 1) 0 }
 
--- the first n sets, two masks to a set
+-- the first sets, so many, two masks to a set
 unfoldable pub setsAt : ℕ → List ℕ → List Literals
 setsAt zero xs = []
-setsAt (suc n) xs = setFrom xs 0 ∷ setsAt n (drop 2 xs)
+setsAt (suc size) xs = setFrom xs 0 ∷ setsAt size (drop 2 xs)
 
 -- four masks to an effect: its condition, its result
 unfoldable pub masksOf : Effect → List ℕ
@@ -42,10 +42,10 @@ masksOf e = e .condition .trues ∷ e .condition .falses ∷ e .result .trues �
 unfoldable pub effectAt : List ℕ → ℕ → Effect
 effectAt xs i = record { condition = setFrom xs (4 * i); result = setFrom xs (4 * i + 2) }
 
--- the first n of them
+-- the first of them, so many
 unfoldable pub effectsAt : ℕ → List ℕ → List Effect
 effectsAt zero xs = []
-effectsAt (suc n) xs = effectAt xs 0 ∷ effectsAt n (drop 4 xs)
+effectsAt (suc size) xs = effectAt xs 0 ∷ effectsAt size (drop 4 xs)
 
 -- the action with these effects
 abbrev pub actionBy : Literals → ℕ → List ℕ → Action
@@ -56,10 +56,10 @@ actionBy precondition size xs = record { precondition = precondition; effects = 
 unfoldable pub itemAt : ℕ → List ℕ → ℕ → List ℕ
 itemAt w xs i = part (i * w) w xs
 
--- the first k items
+-- the first items, so many
 unfoldable pub itemsAt : {A : Type 0} → ℕ → (List ℕ → A) → ℕ → List ℕ → List A
 itemsAt w f zero xs = []
-itemsAt w f (suc k) xs = f (take w xs) ∷ itemsAt w f k (drop w xs)
+itemsAt w f (suc size) xs = f (take w xs) ∷ itemsAt w f size (drop w xs)
 
 -- ---- a list of sets in 17 numbers, their count and two masks to each of eight: the alternatives of a clause, or the clauses of the goal
 unfoldable pub setsIn : List ℕ → List Literals

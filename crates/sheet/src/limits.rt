@@ -1,4 +1,9 @@
-// The limits by name (specs/Limits): entries of a table, clauses of a picture, the clauses that a row says of a full picture, places of a run.
+// The limits by name (specs/Limits): propositions, moves, entries of a table, clauses of a picture, the clauses that a row says of a full
+// picture, places of a run.
+pub const PROPOSITIONS: usize = 32;
+
+pub const MOST_MOVES: usize = 32;
+
 pub const ENTRIES: usize = 128;
 
 pub const CLAUSES: usize = 256;

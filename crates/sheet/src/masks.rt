@@ -1,7 +1,9 @@
 // Sets of literals as two masks: shifts make the mask of a literal; and, or and complement do the rest.
 use crate::Literals;
+use crate::limits::PROPOSITIONS;
 ghost use mathlib.Core.Path.{_≡_};
 ghost use Prim.Native.Nat.{_*_, _<_, _≤_};
+ghost use Rattle.sheet.specs.Limits.{mostPropositions};
 ghost use Rattle.sheet.specs.Literals as L;
 
 // All literals of a lie in b.
@@ -100,10 +102,10 @@ pub(crate) fn contains(a: Literals, l: usize) -> bool
 
 // The smallest literal of a at the propositions from p on; 64 where there is none.
 fn lowest(a: Literals, p: usize) -> usize
-    requires { ⌜ p ≤ 32 ⌝ }
+    requires { ⌜ p ≤ mostPropositions ⌝ }
     ensures { λ r. ⌜ r ≡ L.next a (2 * p) ⌝ }
 {
-    if p >= 32 {
+    if p >= PROPOSITIONS {
         return 64;
     }
     let named = (a.trues | a.falses) >> p;
@@ -137,7 +139,7 @@ pub fn next(a: Literals, from: usize) -> usize
 pub fn below(n: usize, a: Literals) -> bool
     ensures { λ r. ⌜ r ≡ L.below n a ⌝ }
 {
-    if n >= 32 {
+    if n >= PROPOSITIONS {
         return true;
     }
     (a.trues | a.falses) >> n == 0

@@ -7,8 +7,15 @@ ghost use Prim.Native.Nat.{_≤_, _+_, _*_};
 ghost use lib.ListN.{length, take, drop, getD};
 ghost use Rattle.sheet.specs.Packed as R;
 
-// Where each section begins, and how long the packed array is: or-clauses and oneof-clauses, eight of 17 numbers each; the goal, 17; the
-// moves, 32 of 35.
+// The numbers of a clause, or of the goal: its count, and two masks to each of eight sets.
+pub const SETS_WIDTH: usize = 17;
+
+// The numbers of a move, two masks of its precondition, its count, its effects; where its effects begin.
+pub const MOVE_WIDTH: usize = 35;
+
+pub const EFFECTS: usize = 3;
+
+// Where each section begins, and how long the packed array is: eight or-clauses, eight oneof-clauses, the goal, 32 moves.
 pub const ORS: usize = 0;
 
 pub const ONEOFS: usize = 136;
@@ -50,7 +57,7 @@ pub fn wide(x: u32) -> usize
     x as usize
 }
 
-// How many sets a clause, or the goal, has in its 17 numbers.
+// How many sets a clause, or the goal, has in its numbers.
 pub fn count_of<'a>(item: &'a [u32]) -> usize
     requires { ⌜ 1 ≤ length (now item) ⌝ }
     ensures { λ r. ⌜ r ≡ getD (now (item .entry)) 0 0 ⌝ }

@@ -5,12 +5,17 @@ use crate::Effect;
 use crate::Literals;
 use crate::Plan;
 use crate::Sheet;
+use crate::limits::MOST_MOVES;
+use crate::limits::PROPOSITIONS;
 use crate::masks;
+use crate::packed::EFFECTS;
 use crate::packed::GOAL;
 use crate::packed::LENGTH;
+use crate::packed::MOVE_WIDTH;
 use crate::packed::MOVES;
 use crate::packed::ONEOFS;
 use crate::packed::ORS;
+use crate::packed::SETS_WIDTH;
 use crate::packed::write_effect;
 ghost use mathlib.Core.Path.{_≡_};
 ghost use mathlib.Core.List.{[]};
@@ -24,7 +29,7 @@ ghost use Rattle.sheet.specs.Decoded.{planOf, judgementIn};
 ghost use Rattle.sheet.specs.Marks.{ReadsAs, same, literalBefore, factsIn, refusedBy};
 ghost use Rattle.sheet.specs.Calls.{answerOf};
 ghost use Rattle.sheet.specs.declared.Answer.the-variants.{Refused};
-ghost use Rattle.sheet.specs.Limits.{packedLength};
+ghost use Rattle.sheet.specs.Limits.{mostPropositions, mostMoves, setsWidth, effectsWidth, moveWidth, clausesWidth, movesWidth, packedLength};
 
 // Where reading stands: at the next position, or at a fault with its number and position.
 pub enum Mark {
@@ -124,7 +129,7 @@ fn count_at(s: &[u8], low: usize, high: usize, at: usize) -> ByteRead
 
 // The number of a literal's fault, 0 for none. floor is one more than the literal before, 0 for the first.
 fn literal_fault(n: usize, floor: usize, b: usize) -> u8
-    requires { ⌜ n ≤ 32 ⌝ }
+    requires { ⌜ n ≤ mostPropositions ⌝ }
     ensures { λ r. ⌜ r ≡ F.literalFault n (literalBefore floor) b ⌝ }
 {
     if 2 * n <= b {
@@ -143,7 +148,7 @@ fn literal_fault(n: usize, floor: usize, b: usize) -> u8
 
 // A literal byte after those of a list that were read before it.
 fn literal_at(s: &[u8], n: usize, floor: usize, at: usize) -> ByteRead
-    requires { ⌜ n ≤ 32 ⌝ }
+    requires { ⌜ n ≤ mostPropositions ⌝ }
     ensures { λ r. ⌜ ReadsAs same (read (now (s .entry)) (judged (F.literalFault n (literalBefore floor))) at) (r .mark) (r .value) ⌝ }
 {
     if s.len() <= at {
@@ -166,7 +171,7 @@ fn literal_at(s: &[u8], n: usize, floor: usize, at: usize) -> ByteRead
 
 // k literals from first.
 fn literals_from(s: &[u8], n: usize, k: usize, first: usize) -> LiteralsRead
-    requires { ⌜ n ≤ 32 ⌝ }
+    requires { ⌜ n ≤ mostPropositions ⌝ }
     ensures { λ r. ⌜ ReadsAs F.setOf (read (now (s .entry)) (F.ascending n none k) first) (r .mark) (r .value) ⌝ }
 {
     let mut l = NONE;
@@ -196,7 +201,7 @@ fn literals_from(s: &[u8], n: usize, k: usize, first: usize) -> LiteralsRead
 
 // A list of low to high literals, after its count.
 fn literals_at(s: &[u8], n: usize, low: usize, high: usize, at: usize) -> LiteralsRead
-    requires { ⌜ n ≤ 32 ⌝ }
+    requires { ⌜ n ≤ mostPropositions ⌝ }
     ensures { λ r. ⌜ ReadsAs same (read (now (s .entry)) (F.literals n low high) at) (r .mark) (r .value) ⌝ }
 {
     let r = count_at(s, low, high, at);
@@ -212,7 +217,7 @@ fn literals_at(s: &[u8], n: usize, low: usize, high: usize, at: usize) -> Litera
 
 // A condition and a result.
 fn effect_at(s: &[u8], n: usize, at: usize) -> EffectRead
-    requires { ⌜ n ≤ 32 ⌝ }
+    requires { ⌜ n ≤ mostPropositions ⌝ }
     ensures { λ r. ⌜ ReadsAs same (read (now (s .entry)) (F.effect n) at) (r .mark) (r .value) ⌝ }
 {
     let c = literals_at(s, n, 0, 4, at);
@@ -244,7 +249,7 @@ fn effect_at(s: &[u8], n: usize, at: usize) -> EffectRead
 
 // k effects from first, laid out.
 fn effects_from(s: &[u8], n: usize, k: usize, first: usize, effects: &mut [u32]) -> Mark
-    requires { ⌜ (n ≤ 32) × (k ≤ 8) × (length (now effects) ≡ 32) ⌝ }
+    requires { ⌜ (n ≤ mostPropositions) × (k ≤ 8) × (length (now effects) ≡ effectsWidth) ⌝ }
     ensures { λ r. ⌜ ReadsAs same (read (now (s .entry)) (times k (F.effect n)) first) r (R.effectsAt k (now (effects .exit))) ⌝ }
 {
     let mut next = first;
@@ -265,7 +270,7 @@ fn effects_from(s: &[u8], n: usize, k: usize, first: usize, effects: &mut [u32])
 
 // A precondition and the effects, laid in the 35 numbers of a move.
 fn move_at(s: &[u8], n: usize, at: usize, item: &mut [u32]) -> Mark
-    requires { ⌜ (n ≤ 32) × (length (now item) ≡ 35) ⌝ }
+    requires { ⌜ (n ≤ mostPropositions) × (length (now item) ≡ moveWidth) ⌝ }
     ensures { λ r. ⌜ ReadsAs same (read (now (s .entry)) (F.action n) at) r (R.actionFrom (now (item .exit))) ⌝ }
 {
     let p = literals_at(s, n, 0, 8, at);
@@ -283,19 +288,19 @@ fn move_at(s: &[u8], n: usize, at: usize, item: &mut [u32]) -> Mark
     item[0] = precondition.trues;
     item[1] = precondition.falses;
     item[2] = k as u32;
-    effects_from(s, n, k, first, &mut item[3..35])
+    effects_from(s, n, k, first, &mut item[EFFECTS..MOVE_WIDTH])
 }
 
 // k moves from first, laid in their section.
 fn moves_from(s: &[u8], n: usize, k: usize, first: usize, section: &mut [u32]) -> Mark
-    requires { ⌜ (n ≤ 32) × (k ≤ 32) × (length (now section) ≡ 1120) ⌝ }
+    requires { ⌜ (n ≤ mostPropositions) × (k ≤ mostMoves) × (length (now section) ≡ movesWidth) ⌝ }
     ensures { λ r. ⌜ ReadsAs same (read (now (s .entry)) (times k (F.action n)) first) r (R.actionsAt k (now (section .exit))) ⌝ }
 {
     let mut next = first;
     let mut i: usize = 0;
     while i < k {
-        let at = i * 35;
-        let mark = move_at(s, n, next, &mut section[at..at + 35]);
+        let at = i * MOVE_WIDTH;
+        let mark = move_at(s, n, next, &mut section[at..at + MOVE_WIDTH]);
         let Mark::At(rest) = mark else {
             return mark;
         };
@@ -307,10 +312,10 @@ fn moves_from(s: &[u8], n: usize, k: usize, first: usize, section: &mut [u32]) -
 
 // Section 5, laid in their section: how many moves.
 fn moves_at(s: &[u8], n: usize, at: usize, section: &mut [u32]) -> ByteRead
-    requires { ⌜ (n ≤ 32) × (length (now section) ≡ 1120) ⌝ }
+    requires { ⌜ (n ≤ mostPropositions) × (length (now section) ≡ movesWidth) ⌝ }
     ensures { λ r. ⌜ ReadsAs same (read (now (s .entry)) (F.actions n) at) (r .mark) (R.actionsAt (r .value) (now (section .exit))) ⌝ }
 {
-    let r = count_at(s, 1, 32, at);
+    let r = count_at(s, 1, MOST_MOVES, at);
     let mark = r.mark;
     let Mark::At(first) = mark else {
         return r;
@@ -324,7 +329,7 @@ fn moves_at(s: &[u8], n: usize, at: usize, section: &mut [u32]) -> ByteRead
 
 // k lists of 1 to widest literals from first, laid out, two masks to each.
 fn sets_from(s: &[u8], n: usize, widest: usize, k: usize, first: usize, sets: &mut [u32]) -> Mark
-    requires { ⌜ (n ≤ 32) × (k ≤ 8) × (length (now sets) ≡ 16) ⌝ }
+    requires { ⌜ (n ≤ mostPropositions) × (k ≤ 8) × (length (now sets) ≡ 16) ⌝ }
     ensures { λ r. ⌜ ReadsAs same (read (now (s .entry)) (times k (F.literals n 1 widest)) first) r (R.setsAt k (now (sets .exit))) ⌝ }
 {
     let mut next = first;
@@ -346,7 +351,7 @@ fn sets_from(s: &[u8], n: usize, widest: usize, k: usize, first: usize, sets: &m
 
 // least to 8 lists of 1 to widest literals, laid in 17 numbers: the alternatives of a clause, or section 6, the goal.
 fn sets_at(s: &[u8], n: usize, least: usize, widest: usize, at: usize, item: &mut [u32]) -> Mark
-    requires { ⌜ (n ≤ 32) × (length (now item) ≡ 17) ⌝ }
+    requires { ⌜ (n ≤ mostPropositions) × (length (now item) ≡ setsWidth) ⌝ }
     ensures { λ r. ⌜ ReadsAs same (read (now (s .entry)) (F.listOf least 8 (F.literals n 1 widest)) at) r (R.setsIn (now (item .exit))) ⌝ }
 {
     let r = count_at(s, least, 8, at);
@@ -356,19 +361,19 @@ fn sets_at(s: &[u8], n: usize, least: usize, widest: usize, at: usize, item: &mu
     };
     let k = r.value;
     item[0] = k as u32;
-    sets_from(s, n, widest, k, first, &mut item[1..17])
+    sets_from(s, n, widest, k, first, &mut item[1..SETS_WIDTH])
 }
 
 // k clauses from first, laid in their section.
 fn clauses_from(s: &[u8], n: usize, k: usize, first: usize, section: &mut [u32]) -> Mark
-    requires { ⌜ (n ≤ 32) × (k ≤ 8) × (length (now section) ≡ 136) ⌝ }
+    requires { ⌜ (n ≤ mostPropositions) × (k ≤ 8) × (length (now section) ≡ clausesWidth) ⌝ }
     ensures { λ r. ⌜ ReadsAs same (read (now (s .entry)) (times k (F.clause n)) first) r (R.clausesAt k (now (section .exit))) ⌝ }
 {
     let mut next = first;
     let mut i: usize = 0;
     while i < k {
-        let at = i * 17;
-        let mark = sets_at(s, n, 1, 4, next, &mut section[at..at + 17]);
+        let at = i * SETS_WIDTH;
+        let mark = sets_at(s, n, 1, 4, next, &mut section[at..at + SETS_WIDTH]);
         let Mark::At(rest) = mark else {
             return mark;
         };
@@ -380,7 +385,7 @@ fn clauses_from(s: &[u8], n: usize, k: usize, first: usize, section: &mut [u32])
 
 // Section 3 or 4, laid in their section: how many clauses.
 fn clauses_at(s: &[u8], n: usize, at: usize, section: &mut [u32]) -> ByteRead
-    requires { ⌜ (n ≤ 32) × (length (now section) ≡ 136) ⌝ }
+    requires { ⌜ (n ≤ mostPropositions) × (length (now section) ≡ clausesWidth) ⌝ }
     ensures { λ r. ⌜ ReadsAs same (read (now (s .entry)) (F.clauses n) at) (r .mark) (R.clausesAt (r .value) (now (section .exit))) ⌝ }
 {
     let r = count_at(s, 0, 8, at);
@@ -418,7 +423,7 @@ fn number_at(s: &[u8], m: usize, at: usize) -> ByteRead
 
 // k move numbers from first.
 fn plan_from(s: &[u8], m: usize, k: usize, first: usize) -> PlanRead
-    requires { ⌜ (m ≤ 32) × (k ≤ 64) ⌝ }
+    requires { ⌜ (m ≤ mostMoves) × (k ≤ 64) ⌝ }
     ensures { λ r. ⌜ ReadsAs planOf (read (now (s .entry)) (times k (judged (F.numberFault m))) first) (r .mark) (r .value) ⌝ }
 {
     let mut numbers = [0u8; 64];
@@ -451,7 +456,7 @@ fn plan_from(s: &[u8], m: usize, k: usize, first: usize) -> PlanRead
 
 // Section 7.
 fn plan_at(s: &[u8], m: usize, at: usize) -> PlanRead
-    requires { ⌜ m ≤ 32 ⌝ }
+    requires { ⌜ m ≤ mostMoves ⌝ }
     ensures { λ r. ⌜ ReadsAs planOf (read (now (s .entry)) (F.plan m) at) (r .mark) (r .value) ⌝ }
 {
     let r = count_at(s, 0, 64, at);
@@ -466,7 +471,7 @@ fn plan_at(s: &[u8], m: usize, at: usize) -> PlanRead
 }
 
 fn no_facts(mark: Mark) -> FactsRead
-    ensures { λ r. ⌜ (r .mark ≡ mark) × (r .value .n ≤ 32) ⌝ }
+    ensures { λ r. ⌜ (r .mark ≡ mark) × (r .value .n ≤ mostPropositions) ⌝ }
 {
     FactsRead {
         mark: mark,
@@ -482,15 +487,15 @@ fn no_facts(mark: Mark) -> FactsRead
 // Sections 1 to 4, the clauses laid in the packed array.
 fn facts_at(s: &[u8], packed: &mut [u32]) -> FactsRead
     requires { ⌜ length (now packed) ≡ packedLength ⌝ }
-    ensures { λ r. ⌜ ReadsAs same (read (now (s .entry)) F.facts 0) (r .mark) (factsIn (r .value) (now (packed .exit))) × (r .value .n ≤ 32) ⌝ }
+    ensures { λ r. ⌜ ReadsAs same (read (now (s .entry)) F.facts 0) (r .mark) (factsIn (r .value) (now (packed .exit))) × (r .value .n ≤ mostPropositions) ⌝ }
 {
-    let first = count_at(s, 1, 32, 0);
+    let first = count_at(s, 1, PROPOSITIONS, 0);
     let mark = first.mark;
     let Mark::At(a) = mark else {
         return no_facts(mark);
     };
     let n = first.value;
-    let known = literals_at(s, n, 0, 32, a);
+    let known = literals_at(s, n, 0, PROPOSITIONS, a);
     let mark_known = known.mark;
     let Mark::At(b) = mark_known else {
         return no_facts(mark_known);
