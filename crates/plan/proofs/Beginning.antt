@@ -17,7 +17,7 @@ use Rattle.sheet.proofs.base.Padding.{length-pad}
 use Rattle.plan.specs.declared.SearchAnswer.{SearchAnswer}
 use Rattle.table.specs.declared.steps.Stepped.{Stepped}
 use Rattle.table.specs.declared.steps.Stepped.the-variants as moved
-use Rattle.table.specs.Moves.{Fits, lent, stepAnswer}
+use Rattle.table.specs.Moves.{MoveFits, lent, stepAnswer}
 use Rattle.plan.specs.Search.{fullAt, nothing}
 use Rattle.plan.specs.Calls.{answered}
 use Rattle.sheet.specs.Packed.{actionOf}
@@ -29,14 +29,18 @@ use Rattle.plan.proofs.Courses.{stepped, stopped, ready-table, ready-co
 use Rattle.plan.proofs.Pruning.{quiet-after, unchanged}
 use Rattle.plan.proofs.Walking.{written, onward-ended, onward-not, at-stop, at-full}
 
--- the slots hold the entries
-pub slots-room : {packed : List ℕ} {k : ℕ} {n : ℕ} {ts fs : List ℕ} → Searchable packed k (lent n ts fs) → Room n ts fs
-unfolding tableOf
-slots-room {packed} {k} {n} {ts} {fs} h =
-    let z = h .ready .zeros in
-    let a : length ts ≡ 128 = ap (λ (t : Table). length (t .trues)) z ∙ length-pad 128 0 _ in
-    let b : length fs ≡ 128 = ap (λ (t : Table). length (t .falses)) z ∙ length-pad 128 0 _ in
-    record { trues = omega (arith, h .entries-most); falses = omega (arith, h .entries-most) }
+-- the slots of the table, and that they hold the entries
+module _ {packed : List ℕ} {k : ℕ} {n : ℕ} {ts fs : List ℕ} (h : Searchable packed k (lent n ts fs)) where
+  pub trues-long : length ts ≡ 128
+  unfolding tableOf
+  trues-long = ap (λ (t : Table). length (t .trues)) (h .ready .zeros) ∙ length-pad 128 0 _
+
+  pub falses-long : length fs ≡ 128
+  unfolding tableOf
+  falses-long = ap (λ (t : Table). length (t .falses)) (h .ready .zeros) ∙ length-pad 128 0 _
+
+  pub slots-room : Room n ts fs
+  slots-room = record { trues = omega (arith, trues-long, h .entries-most); falses = omega (arith, falses-long, h .entries-most) }
 
 -- a slot of the memory has room for them
 pub storable : {packed : List ℕ} {k : ℕ} {n : ℕ} {ts fs : List ℕ} → Searchable packed k (lent n ts fs) → Storable n ts fs
@@ -46,13 +50,13 @@ module _ {packed : List ℕ} {k : ℕ} {n : ℕ} {ts fs : List ℕ} (h : Searcha
   abbrev t : Table
   t = lent n ts fs
 
-  pub can-step : Fits (actionOf (movesIn packed) m) t
-  can-step = record {
-    n = h .n;
-    n-most = h .n-most;
-    entries-most = h .entries-most;
-    action = h .actions m lt;
-    proper = h .ready .described .proper;
+  -- each of the moves can be taken from the table
+  pub move-fits : MoveFits packed m t
+  move-fits = record {
+    long = h .long;
+    move-most = omega (arith, lt, h .most);
+    effects-few = h .effects-most m lt;
+    fits = record { n = h .n; n-most = h .n-most; entries-most = h .entries-most; action = h .actions m lt; proper = h .ready .described .proper };
   }
 
   module _ (r : Stepped) (us gs : List ℕ) (told : stepAnswer t r us gs ≡ orGiven t (stepTable 128 (actionOf (movesIn packed) m) (entriesOf n ts fs))) where

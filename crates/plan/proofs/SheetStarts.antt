@@ -79,15 +79,15 @@ module _ (x : Sheet) (packed : List ℕ) (h : Filled x packed) where
           coursed p proper packed (h .long) are goal-is (lent k ts fs) (planIn (x .plan)) numbers
           ∙ start-run p proper first first-is refl (planIn (x .plan))
 
-    module _ (k : ℕ) (q : r ≡ started.Refused k) where
+    module _ (k position : ℕ) (q : r ≡ started.Refused k position) where
       abbrev none : TableAnswer
-      none = record { answer = Refused k 0; table = tableOf [] }
+      none = record { answer = Refused k position; table = tableOf [] }
 
       none-is : none ≡ orGiven (tableOf []) (startTable 128 p)
       none-is = sym (ap (λ (y : Started). startAnswer y ts fs) q) ∙ e
 
       pub search-stops : (limit : ℕ) → refusedSearch k 0 ≡ searched p limit (startTable 128 p)
-      search-stops limit = sought-refused p none none-is limit k 0 refl
+      search-stops limit = sought-refused p none none-is limit k position refl
 
       pub run-stops : refusedCourse k 0 ≡ plannedCourse p (planIn (x .plan)) (startTable 128 p)
-      run-stops = start-halt p proper none none-is (planIn (x .plan)) k 0 refl
+      run-stops = start-halt p proper none none-is (planIn (x .plan)) k position refl

@@ -30,9 +30,9 @@ unfoldable pub courseOf : Judgement → ℕ → Course
 courseOf sheet lent = record { ran = runOf sheet lent; counts = countsOf (rowsOf sheet lent) }
 
 -- ---- in lent arrays
--- the numbers of k rows
+-- the numbers of so many rows
 abbrev pub countsIn : ℕ → List ℕ → List ℕ → Counts
-countsIn k es cs = record { count = k; entries = es; clauses = cs }
+countsIn count es cs = record { count = count; entries = es; clauses = cs }
 
 -- the slots of 65 rows, all zero
 pub record FreshRows (es cs : List ℕ) : Type 0 where

@@ -36,6 +36,12 @@ pub record Underway (packed : List ℕ) (depth : Depth) (t : Table) (memory : Li
   pub no-shorter : NoShorterFrom packed (depth .moves) (depth .at) (entries t) (depth .left)
   pub remembers : Remembers packed (depth .moves) memory
 
+-- what trying one move asks: a search under way, with moves left, and one of the moves
+pub record MoveUnderway (packed : List ℕ) (depth : Depth) (index : ℕ) (t : Table) (memory : List ℕ) : Type 0 where
+  pub underway : Underway packed depth t memory
+  pub some-left : 1 ≤ depth .left
+  pub below : index < depth .moves
+
 -- some slot has the table es, with a mark above `left`
 pub record Recalls (memory : List ℕ) (es : List Literals) (left : ℕ) : Type 0 where
   pub slot : ℕ

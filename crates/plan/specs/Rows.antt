@@ -13,10 +13,10 @@ rowIn entries clauses place = record { place = place; entries = getD entries pla
 abbrev pub rowAt : Counts → ℕ → Row
 rowAt c at = rowIn (c .entries) (c .clauses) at
 
--- the rows of the places below n
+-- the rows of the places below one
 abbrev pub rowsBelow : Counts → ℕ → List Row
 rowsBelow c zero = []
-rowsBelow c (suc n) = rowsBelow c n ++ (rowAt c n ∷ [])
+rowsBelow c (suc place) = rowsBelow c place ++ (rowAt c place ∷ [])
 
 -- the rows of the places arrived at
 abbrev pub rowsIn : Counts → List Row

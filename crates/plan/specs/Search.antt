@@ -9,14 +9,14 @@ abbrev pub upto : ℕ → List ℕ
 upto zero = []
 upto (suc k) = upto k ++ (k ∷ [])
 
--- the plans of m of the k moves, in ascending order of moves
+-- the plans of `left` moves, of so many that there are, in ascending order of moves
 abbrev pub plansOf : ℕ → ℕ → List (List ℕ)
-plansOf k zero = [] ∷ []
-plansOf k (suc m) = collect (λ i. map (λ p. i ∷ p) (plansOf k m)) (upto k)
+plansOf count zero = [] ∷ []
+plansOf count (suc left) = collect (λ index. map (λ p. index ∷ p) (plansOf count left)) (upto count)
 
 -- the plans of at most `limit` moves, shorter first
 abbrev pub plansUpTo : ℕ → ℕ → List (List ℕ)
-plansUpTo k limit = collect (plansOf k) (upto (suc limit))
+plansUpTo count limit = collect (plansOf count) (upto (suc limit))
 
 -- a plan that is reached; a plan that is full, with its place; none
 pub data Answer : Type 0 where
@@ -27,8 +27,8 @@ pub data Answer : Type 0 where
 abbrev pub orNext : Verdict → List ℕ → Answer → Answer
 orNext reached p next = found p
 orNext short p next = next
-orNext (stopped k c) p next = next
-orNext (full k) p next = fullAt p k
+orNext (stopped place number) p next = next
+orNext (full place) p next = fullAt p place
 
 -- the first plan that is reached or full
 abbrev pub firstOf : (List ℕ → Verdict) → List (List ℕ) → Answer

@@ -2,9 +2,9 @@
 use mathlib.Core.Path.{_≡_}
 use mathlib.Core.Bool.{Bool, true, false}
 use mathlib.Core.List.{List, _∷_, _++_, map}
-use Prim.Native.Nat.{ℕ, _+_, _*_, _≤_, _<_}
+use Prim.Native.Nat.{ℕ, _+_, _≤_, _<_}
 use lib.ListN.{length, replicate}
-use Rattle.sheet.specs.Limits.{mostEntries, packedLength}
+use Rattle.sheet.specs.Limits.{mostPropositions, mostMoves, mostEntries, packedLength}
 use Rattle.sheet.specs.declared.Literals.{Literals}
 use Rattle.sheet.specs.Lists.{All, pad}
 use Rattle.sheet.specs.Problem.{Action}
@@ -14,7 +14,6 @@ use Rattle.sheet.specs.declared.Sheet.{Sheet}
 use Rattle.sheet.specs.Decoded.{planIn, Filled}
 use Rattle.sheet.specs.Packed.{goalIn, movesIn, setsIn, SetsFit, countOf, actionOf}
 use Rattle.table.specs.declared.Table.{Table}
-use Rattle.table.specs.Moves.{Fits}
 use Rattle.table.specs.Slots.{entries, Fresh}
 use Rattle.plan.specs.declared.SearchAnswer.{SearchAnswer}
 use Rattle.plan.specs.declared.Kind.{Kind}
@@ -30,21 +29,21 @@ use Rattle.plan.specs.Course.{Ready, FreshRows}
 abbrev pub ranFrom : List Literals → (ℕ → Action) → ℕ → List Literals → List ℕ → Verdict
 ranFrom goal f place t plan = runFrom mostEntries goal place (map f plan) t
 
--- among the plans of n of the k moves
+-- among the plans of so many of the moves, `left`
 abbrev pub firstFrom : List Literals → (ℕ → Action) → ℕ → ℕ → List Literals → ℕ → Answer
-firstFrom goal f k place t n = firstOf (ranFrom goal f place t) (plansOf k n)
+firstFrom goal f count place t left = firstOf (ranFrom goal f place t) (plansOf count left)
 
--- among those of move m and n more
+-- among those of one move and `left` more
 abbrev pub firstBy : List Literals → (ℕ → Action) → ℕ → ℕ → List Literals → ℕ → ℕ → Answer
-firstBy goal f k place t n m = firstOf (ranFrom goal f place t) (map (λ p. m ∷ p) (plansOf k n))
+firstBy goal f count place t left index = firstOf (ranFrom goal f place t) (map (λ p. index ∷ p) (plansOf count left))
 
--- no plan of fewer than n of the k moves is reached or full
+-- no plan of fewer than `left` of the moves is reached or full
 abbrev pub NoShorterPlan : List Literals → (ℕ → Action) → ℕ → ℕ → List Literals → ℕ → Type 0
-NoShorterPlan goal f k place t n = (q : List ℕ) → All (λ i. i < k) q → length q < n → Fails (ranFrom goal f place t q)
+NoShorterPlan goal f count place t left = (q : List ℕ) → All (λ i. i < count) q → length q < left → Fails (ranFrom goal f place t q)
 
 -- the same by the moves and the goal of a packed array
 abbrev pub NoShorterFrom : List ℕ → ℕ → ℕ → List Literals → ℕ → Type 0
-NoShorterFrom packed k place t n = NoShorterPlan (setsIn (goalIn packed)) (actionOf (movesIn packed)) k place t n
+NoShorterFrom packed count place t left = NoShorterPlan (setsIn (goalIn packed)) (actionOf (movesIn packed)) count place t left
 
 -- ---- the answer of an inner call: its plan from byte `at` on, zeros before it for the moves taken
 unfoldable pub answeredAt : ℕ → Answer → SearchAnswer
@@ -62,9 +61,9 @@ isEnd (kind.Refused number position) = true
 -- ---- so many moves, a goal and a table over the same n propositions, within their slots
 pub record Searchable (packed : List ℕ) (count : ℕ) (t : Table) : Type 0 where
   pub n : ℕ
-  pub n-most : n ≤ 32
+  pub n-most : n ≤ mostPropositions
   pub least : 1 ≤ count
-  pub most : count ≤ 32
+  pub most : count ≤ mostMoves
   pub long : length packed ≡ packedLength
   pub effects-most : (i : ℕ) → i < count → countOf (movesIn packed) i ≤ 8
   pub actions : (i : ℕ) → i < count → ProperAction n (actionOf (movesIn packed) i)
@@ -72,14 +71,7 @@ pub record Searchable (packed : List ℕ) (count : ℕ) (t : Table) : Type 0 whe
   pub entries-most : t .count ≤ mostEntries
   pub ready : Ready n t
 
--- what a step of a run asks: the packed array with the move of a number, and a table over the same propositions
-pub record StepHere (packed : List ℕ) (index : ℕ) (t : Table) : Type 0 where
-  pub long : length packed ≡ packedLength
-  pub most : index < 32
-  pub effects-few : countOf (movesIn packed) index ≤ 8
-  pub fits : Fits (actionOf (movesIn packed) index) t
-
--- the same with a plan of these moves
+-- so many moves, a goal and a table, with a plan of these moves
 pub record Runnable (plan : Plan) (packed : List ℕ) (t : Table) : Type 0 where
   pub count : ℕ
   pub fits : Searchable packed count t
@@ -97,7 +89,7 @@ abbrev pub plansTried : List ℕ → ℕ → Table → ℕ → ℕ → SearchAns
 plansTried packed count t at left = answeredAt at (firstFrom (setsIn (goalIn packed)) (actionOf (movesIn packed)) count at (entries t) left)
 
 abbrev pub moveTried : List ℕ → ℕ → Table → ℕ → ℕ → ℕ → SearchAnswer
-moveTried packed count t at left m = answeredAt at (firstBy (setsIn (goalIn packed)) (actionOf (movesIn packed)) count at (entries t) left m)
+moveTried packed count t at left index = answeredAt at (firstBy (setsIn (goalIn packed)) (actionOf (movesIn packed)) count at (entries t) left index)
 
 abbrev pub searchedBy : List ℕ → ℕ → Table → ℕ → SearchAnswer
 searchedBy packed count t limit = answered (firstOf (ranFrom (setsIn (goalIn packed)) (actionOf (movesIn packed)) 0 (entries t)) (plansUpTo count limit))

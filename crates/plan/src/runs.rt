@@ -32,7 +32,7 @@ ghost use Rattle.table.specs.Slots.{entriesOf, Room, Fresh};
 ghost use Rattle.table.specs.Start.{startTable};
 ghost use Rattle.table.specs.Step.{stepTable};
 ghost use Rattle.table.specs.Calls.{orGiven};
-ghost use Rattle.table.specs.Moves.{lent, stepAnswer};
+ghost use Rattle.table.specs.Moves.{lent, stepAnswer, MoveFits};
 ghost use Rattle.plan.specs.Run as R;
 ghost use Rattle.plan.specs.Calls.{verdictOf};
 ghost use Rattle.plan.specs.Course as C;
@@ -91,7 +91,7 @@ pub(crate) fn step_here<'a, 'b, 'c>(
     falses: &'c mut [u32; ENTRIES],
     count: usize,
 ) -> Stepped
-    requires { ⌜ W.StepHere (now packed) index (lent count (now trues) (now falses)) ⌝ }
+    requires { ⌜ MoveFits (now packed) index (lent count (now trues) (now falses)) ⌝ }
     ensures { λ r. ⌜ stepAnswer (lent count (now (trues .exit)) (now (falses .exit))) r (now (trues .exit)) (now (falses .exit)) ≡ orGiven (lent count (now (trues .entry)) (now (falses .entry))) (stepTable mostEntries (actionOf (movesIn (now (packed .entry))) index) (entriesOf count (now (trues .entry)) (now (falses .entry)))) ⌝ }
 {
     let mut to_trues = [0u32; ENTRIES];
@@ -105,10 +105,10 @@ pub(crate) fn step_here<'a, 'b, 'c>(
         &mut to_trues,
         &mut to_falses,
     ) {
-        Stepped::To(k) => {
+        Stepped::To(filled) => {
             *trues = to_trues;
             *falses = to_falses;
-            Stepped::To(k)
+            Stepped::To(filled)
         }
         Stepped::Refused(number, position) => Stepped::Refused(number, position),
     }
@@ -129,31 +129,31 @@ pub(crate) fn run_from<'a, 'b, 'c, 'd, 'e>(
     ensures { λ r. ⌜ C.courseIn r (now (trues .exit)) (now (falses .exit)) (now (entries .exit)) (now (clauses .exit)) ≡ C.courseFrom (setsIn (goalIn (now (packed .entry)))) [] 0 (map (actionOf (movesIn (now (packed .entry)))) (planIn plan)) (entriesOf count (now (trues .entry)) (now (falses .entry))) ⌝ }
 {
     let length = plan.count;
-    let mut size = count;
+    let mut filled = count;
     let mut i: usize = 0;
     while i < length {
-        note(entries, clauses, i, trues, falses, size);
+        note(entries, clauses, i, trues, falses, filled);
         let place = i + 1;
         let index = plan.numbers[i] as usize;
-        match step_here(packed, index, trues, falses, size) {
-            Stepped::To(k) => {
-                size = k;
+        match step_here(packed, index, trues, falses, filled) {
+            Stepped::To(grown) => {
+                filled = grown;
             }
             Stepped::Refused(number, _) => {
                 return RunRecord {
                     verdict: halt(place, number),
-                    count: size,
+                    count: filled,
                     rows: place,
                 };
             }
         }
         i += 1;
     }
-    note(entries, clauses, i, trues, falses, size);
+    note(entries, clauses, i, trues, falses, filled);
     let goal = &packed[GOAL..MOVES];
     RunRecord {
-        verdict: end(goal, trues, falses, size),
-        count: size,
+        verdict: end(goal, trues, falses, filled),
+        count: filled,
         rows: i + 1,
     }
 }
@@ -184,7 +184,7 @@ pub(crate) fn run_sheet<'a, 'b, 'c, 'd, 'e>(
     let plan = sheet.plan;
     match first_into(sheet, packed, trues, falses) {
         Started::To(count) => run_from(plan, packed, trues, falses, count, entries, clauses),
-        Started::Refused(number) => {
+        Started::Refused(number, _) => {
             *trues = [0u32; ENTRIES];
             *falses = [0u32; ENTRIES];
             refuse_run(number, 0)

@@ -25,8 +25,8 @@ ghost use Rattle.table.specs.Moves as M;
 ghost use Rattle.plan.specs.Search.{fullAt, nothing};
 ghost use Rattle.plan.specs.Calls.{refusedSearch, answered, searched};
 ghost use Rattle.plan.specs.Walks as W;
-ghost use Rattle.plan.specs.Memory.{Remembers, Underway};
-ghost use Rattle.sheet.specs.Limits.{mostEntries};
+ghost use Rattle.plan.specs.Memory.{Remembers, Underway, MoveUnderway};
+ghost use Rattle.sheet.specs.Limits.{mostEntries, mostMoves};
 
 // Where the search stands: how many moves there are to choose from, how many are taken, how many are left.
 pub struct Depth {
@@ -59,7 +59,7 @@ pub(crate) fn refuse_search(number: u8, position: usize) -> SearchAnswer
 
 // Full at a move: the first of the plans with `left` moves more has move 0 for each.
 pub(crate) fn full(at: usize, left: usize, index: usize) -> SearchAnswer
-    requires { ⌜ (at + left < 8) × (index < 32) ⌝ }
+    requires { ⌜ (at + left < 8) × (index < mostMoves) ⌝ }
     ensures { λ r. ⌜ r ≡ W.answeredAt at (fullAt (index ∷ replicate left 0) (at + 1)) ⌝ }
 {
     let next = at + 1;
@@ -125,8 +125,7 @@ fn try_move<'a, 'b, 'c>(
     count: usize,
     memory: &'c mut [u32],
 ) -> SearchAnswer
-    requires { ⌜ Underway (now packed) depth (M.lent count (now trues) (now falses)) (now memory) ⌝ }
-    requires { ⌜ (1 ≤ depth .left) × (index < depth .moves) ⌝ }
+    requires { ⌜ MoveUnderway (now packed) depth index (M.lent count (now trues) (now falses)) (now memory) ⌝ }
     ensures answers { λ r. ⌜ r ≡ W.moveTried (now (packed .entry)) (depth .moves) (M.lent count (now (trues .entry)) (now (falses .entry))) (depth .at) (depth .left - 1) index ⌝ }
     ensures keeps { λ r. ⌜ Remembers (now (packed .entry)) (depth .moves) (now (memory .exit)) ⌝ }
 {
@@ -144,8 +143,8 @@ fn try_move<'a, 'b, 'c>(
     let at = depth.at;
     let left = depth.left - 1;
     match stepped {
-        Stepped::To(k) => {
-            if same(&to_trues, &to_falses, k, trues, falses, count) {
+        Stepped::To(filled) => {
+            if same(&to_trues, &to_falses, filled, trues, falses, count) {
                 return none();
             }
             let next = Depth {
@@ -153,7 +152,7 @@ fn try_move<'a, 'b, 'c>(
                 at: at + 1,
                 left,
             };
-            let mut r = try_plans(packed, next, &to_trues, &to_falses, k, memory);
+            let mut r = try_plans(packed, next, &to_trues, &to_falses, filled, memory);
             if is_end(r) {
                 r.plan[at] = index as u8;
             }
@@ -256,6 +255,6 @@ pub(crate) fn search_sheet<'a, 'b>(
     let mut falses = [0u32; ENTRIES];
     match first_into(sheet, packed, &mut trues, &mut falses) {
         Started::To(count) => lengths(packed, sheet.moves, &trues, &falses, count, limit, memory),
-        Started::Refused(number) => refuse_search(number, 0),
+        Started::Refused(number, _) => refuse_search(number, 0),
     }
 }

@@ -1,12 +1,10 @@
 -- One clause, the clauses of a section, and the first table, on tables in lent arrays. Assumes nothing.
-use Prim.Native.Nat.{ℕ, zero, suc, _+_, _≤_, _<_}
+use Prim.Native.Nat.{ℕ, zero, _+_, _≤_, _<_}
 use mathlib.Core.Path.{_≡_, refl, sym, ap, _∙_, subst}
-use mathlib.Core.List.{List, [], _∷_, _++_, map}
+use mathlib.Core.List.{List, [], _∷_, _++_}
 use mathlib.Core.Option.{Option, none, some}
-use native.Mathlib.Nat.{not-suc-le-zero, le-of-suc-le-suc}
 use native.Mathlib.Omega.{arith}
-use lib.ListN.{length, drop, take, replicate, set, length-map, take-append-drop}
-use lib.Seq.{paste, take-all, length-take-le}
+use lib.ListN.{length, replicate, set}
 use Rattle.sheet.specs.declared.Answer.the-variants.{Accepted, Refused}
 use Rattle.sheet.specs.declared.Literals.{Literals}
 use Rattle.sheet.specs.Literals.{consistent}
@@ -32,8 +30,7 @@ use Rattle.table.specs.Start.{Clause, candidates, fresh, grow, onTable, 
 use Rattle.table.specs.Slots.{pairs, entriesOf, Fresh, Holds, Held, tableOf, Grew, Puts}
 use Rattle.table.specs.Reads.{ClausesFit, startAnswer}
 use Rattle.table.specs.Calls.{orGiven, startOf, actionAt}
-use Rattle.table.proofs.Pads.{length-entriesOf, holds-trues-long, holds-falses-long, holds-entries, held as held-of, holds-table, table-holds}
-use Rattle.sheet.proofs.base.Padding.{length-pad}
+use Rattle.table.proofs.Pads.{length-entriesOf, holds-entries, held as held-of, holds-table, table-holds}
 use Rattle.table.proofs.PutLaws.{put-all-size}
 
 -- the moves of a problem are proper
@@ -52,7 +49,7 @@ pub record Readied (o : Outcome) (k : ℕ) (ts fs : List ℕ) : Type 0 where
   pub held : Held 128 k ts fs
   pub is : o ≡ table (entriesOf k ts fs)
 
-pub right-refused : (o : Outcome) (k : ℕ) (ts fs : List ℕ) → o ≡ refused k → Right o (started.Refused k) ts fs
+pub right-refused : (o : Outcome) (k : ℕ) (ts fs : List ℕ) → o ≡ refused k → Right o (started.Refused k 0) ts fs
 unfolding orGiven
 right-refused o k ts fs e = sym (ap (orGiven (tableOf [])) e)
 
@@ -76,51 +73,14 @@ ready o r k ts fs small w e = at o refl (subst (λ (x : Started). Right o x ts f
         record { held = held-of _ _ _ _ _ h; is = q ∙ sym (ap table (holds-entries _ _ _ _ _ h)) }
 
 -- a refusal stays
-pub refusal : (o : Outcome) (r : Started) (k : ℕ) (ts fs : List ℕ) (f : List Literals → Outcome) → Right o r ts fs → r ≡ started.Refused k
-    → Right (onTable o f) (started.Refused k) ts fs
+pub refusal : (o : Outcome) (r : Started) (k p : ℕ) (ts fs : List ℕ) (f : List Literals → Outcome) → Right o r ts fs → r ≡ started.Refused k p
+    → Right (onTable o f) (started.Refused k p) ts fs
 unfolding orGiven
-refusal o r k ts fs f w e = at o (subst (λ (x : Started). Right o x ts fs) e w)
+refusal o r k p ts fs f w e = at o (subst (λ (x : Started). Right o x ts fs) e w)
   where
-    at : (x : Outcome) → Right x (started.Refused k) ts fs → Right (onTable x f) (started.Refused k) ts fs
+    at : (x : Outcome) → Right x (started.Refused k p) ts fs → Right (onTable x f) (started.Refused k p) ts fs
     at (refused j) v = v
-    at (table u) v = not-both (Refused k 0) k 0 (ap (λ (y : TableAnswer). y .answer) v) refl
-
--- ---- a table copied over another: both are zero past `top`
-
-module _ (k : ℕ) (us gs : List ℕ) (h : Held 128 k us gs) (top : ℕ) (most : top ≤ 128) where
-  pub trues-front : length (take top us) ≡ top
-  trues-front = let l = holds-trues-long _ _ _ _ _ h in length-take-le top us (omega arith)
-
-  pub falses-front : length (take top gs) ≡ top
-  falses-front = let l = holds-falses-long _ _ _ _ _ h in length-take-le top gs (omega arith)
-
-zeros-past : (top cap : ℕ) (xs : List ℕ) → length xs ≤ top → drop top (pad cap 0 xs) ≡ drop top (pad cap 0 [])
-unfolding pad
-zeros-past zero cap [] h = refl
-zeros-past zero cap (x ∷ xs) h = absurd (not-suc-le-zero h)
-zeros-past (suc top) zero xs h = refl
-zeros-past (suc top) (suc cap) [] h = refl
-zeros-past (suc top) (suc cap) (x ∷ xs) h = zeros-past top cap xs (le-of-suc-le-suc h)
-
-module _ (top : ℕ) (most : top ≤ 128) where
-  over : (xs ys ts us : List ℕ) → length xs ≤ top → length ys ≤ top → ts ≡ pad 128 0 xs → us ≡ pad 128 0 ys → paste ts 0 (take top us) (length (take top us)) ≡ us
-  over xs ys ts us h k e f =
-      let l : length us ≡ 128 = ap length f ∙ length-pad 128 0 ys in
-      let n : 0 + length (take top us) ≡ top = omega (arith, length-take-le top us (omega arith)) in
-      ap (λ (r : List ℕ). r ++ drop (0 + length (take top us)) ts) (take-all (length (take top us)) (take top us) (omega arith))
-      ∙ ap (λ (j : ℕ). take top us ++ drop j ts) n
-      ∙ ap (λ (r : List ℕ). take top us ++ r) (ap (drop top) e ∙ zeros-past top 128 xs h ∙ sym (zeros-past top 128 ys k) ∙ sym (ap (drop top) f))
-      ∙ take-append-drop top us
-
-  few : (f : Literals → ℕ) (n : ℕ) (ts fs : List ℕ) → n ≤ top → length (map f (entriesOf n ts fs)) ≤ top
-  few f n ts fs h = omega (arith, length-map (entriesOf n ts fs) f, length-entriesOf n ts fs)
-
-  module _ (m : ℕ) (ts fs : List ℕ) (g : Held 128 m ts fs) (k : ℕ) (us gs : List ℕ) (h : Held 128 k us gs) (p : m ≤ top) (q : k ≤ top) where
-    pub trues-over : paste ts 0 (take top us) (length (take top us)) ≡ us
-    trues-over = over _ _ ts us (few (λ (e : Literals). e .trues) m ts fs p) (few (λ (e : Literals). e .trues) k us gs q) (g .trues-are) (h .trues-are)
-
-    pub falses-over : paste fs 0 (take top gs) (length (take top gs)) ≡ gs
-    falses-over = over _ _ fs gs (few (λ (e : Literals). e .falses) m ts fs p) (few (λ (e : Literals). e .falses) k us gs q) (g .falses-are) (h .falses-are)
+    at (table u) v = not-both (Refused k p) k p (ap (λ (y : TableAnswer). y .answer) v) refl
 
 -- ---- one clause
 
@@ -136,10 +96,6 @@ grow-small c es u e = at (putAll 128 (keep consistent (collect (candidates c) es
     at none q f = absurd (let z : _≡_ {A = ℕ} 0 1 = cc in omega arith)
     at (some []) q f = absurd (let z : _≡_ {A = ℕ} 0 1 = cc in omega arith)
     at (some (d ∷ t)) q f = let s : d ∷ t ≡ u = cc in put-all-size 128 (keep consistent (collect (candidates c) es)) [] u (q ∙ ap {B = Option (List Literals)} some s) (omega arith)
-
--- what was put is held
-pub put-held : (cs : List Literals) (n : ℕ) (ts fs : List ℕ) (r : Grown) (us gs : List ℕ) → Puts cs n ts fs r us gs → (k : ℕ) → r ≡ grown.To k → Held (length ts) k us gs
-put-held cs n ts fs r us gs w k e = subst (λ (x : Grown). Grew (length ts) (putAll (length ts) cs (entriesOf n ts fs)) x us gs) e (w .grew) .1
 
 module _ (c : Clause) (es : List Literals) (r : Grown) (ts fs : List ℕ) (w : Puts (keep consistent (collect (candidates c) es)) 0 (replicate 128 0) (replicate 128 0) r ts fs) where
   told : (x : Grown) → r ≡ x → Grew 128 (putAll 128 (keep consistent (collect (candidates c) es)) []) x ts fs
@@ -162,15 +118,6 @@ module _ (c : Clause) (es : List Literals) (r : Grown) (ts fs : List ℕ) (w : P
       is = ap fresh (told (grown.To k) e .0) ∙ fresh-some (entriesOf k ts fs) (λ q. z (sym (length-entriesOf k ts fs) ∙ q));
     }
 
-    -- copied over the table that it is built from
-    pub grown-copied : (k ≡ 0 → ⊥) → (m : ℕ) (ts₀ fs₀ : List ℕ) → Held 128 m ts₀ fs₀ → (top : ℕ) → (m ≤ top) × (k ≤ top) × (top ≤ 128) → (us gs : List ℕ)
-        → us ≡ paste ts₀ 0 (take top ts) (length (take top ts)) → gs ≡ paste fs₀ 0 (take top fs) (length (take top fs)) → Right (grow 128 c es) (started.To k) us gs
-    grown-copied z m ts₀ fs₀ g top l us gs p q =
-        let w = grown-table z in
-        let a = p ∙ trues-over top (l .2) m ts₀ fs₀ g k ts fs (w .held) (l .0) (l .1) in
-        let b = q ∙ falses-over top (l .2) m ts₀ fs₀ g k ts fs (w .held) (l .0) (l .1) in
-        rw (a, b) (right-table _ k ts fs w)
-
 -- ---- the clauses of a section: those still to come, from the table in the arrays on, give o
 
 pub record Sections (o : Outcome) (cs : List Clause) (k : ℕ) (ts fs : List ℕ) : Type 0 where
@@ -187,8 +134,8 @@ module _ (o : Outcome) (bs cs : List Clause) (c : Clause) (n : ℕ) (us gs : Lis
       let m = ready _ r k ts fs (grow-small c (entriesOf n us gs)) w e in
       record { held = m .held; onwards = sym (ap (λ (x : Outcome). onTable x (λ u. growAll 128 cs u)) (m .is)) ∙ unrolled }
 
-  pub sections-refused : r ≡ started.Refused k → Right o (started.Refused k) ts fs
-  sections-refused e = subst (λ (x : Outcome). Right x (started.Refused k) ts fs) unrolled (refusal _ r k ts fs (λ u. growAll 128 cs u) w e)
+  pub sections-refused : (p : ℕ) → r ≡ started.Refused k p → Right o (started.Refused k p) ts fs
+  sections-refused p e = subst (λ (x : Outcome). Right x (started.Refused k p) ts fs) unrolled (refusal _ r k p ts fs (λ u. growAll 128 cs u) w e)
 
 pub sections-end : (o : Outcome) (cs : List Clause) (k : ℕ) (ts fs : List ℕ) → Sections o cs k ts fs → cs ≡ [] → Right o (started.To k) ts fs
 sections-end o cs k ts fs g e =
@@ -226,8 +173,8 @@ module _ (known : Literals) (ts fs : List ℕ) (zeros : Fresh ts fs) where
     whole : onTable (growAll 128 cs (entriesOf 1 (set ts 0 (known .trues)) (set fs 0 (known .falses)))) (λ u. growAll 128 ds u) ≡ growAll 128 (cs ++ ds) (known ∷ [])
     whole = ap (λ (y : List Literals). onTable (growAll 128 cs y) (λ u. growAll 128 ds u)) (holds-entries _ _ _ _ _ one) ∙ sym (growAll-append cs ds (known ∷ []))
 
-    pub first-refused : r ≡ started.Refused k → Right (growAll 128 (cs ++ ds) (known ∷ [])) (started.Refused k) us gs
-    first-refused e = subst (λ (y : Outcome). Right y (started.Refused k) us gs) whole (refusal _ r k us gs (λ u. growAll 128 ds u) w e)
+    pub first-refused : (p : ℕ) → r ≡ started.Refused k p → Right (growAll 128 (cs ++ ds) (known ∷ [])) (started.Refused k p) us gs
+    first-refused p e = subst (λ (y : Outcome). Right y (started.Refused k p) us gs) whole (refusal _ r k p us gs (λ u. growAll 128 ds u) w e)
 
     first-ready : r ≡ started.To k → Readied (growAll 128 cs (entriesOf 1 (set ts 0 (known .trues)) (set fs 0 (known .falses)))) k us gs
     first-ready e = ready _ r k us gs (growAll-small cs _ (omega (arith, length-entriesOf 1 (set ts 0 (known .trues)) (set fs 0 (known .falses))))) w e
@@ -250,20 +197,14 @@ module _ (x : Sheet) (packed : List ℕ) (h : Filled x packed) where
       let f = oneofs-few x packed (h .proper) in
       record { room = omega (arith, f .0, part-long 136 136 packed (omega (arith, h .long))); few = f .1 }
 
--- ---- the first table by value, and the call on bytes
-pub first-given : (o : Outcome) (r : Started) (ts fs : List ℕ) → Right o r ts fs → (k : ℕ) → r ≡ started.To k → Right o (started.To k) ts fs
-first-given o r ts fs e k q = sym (ap (λ (x : Started). startAnswer x ts fs) q) ∙ e
+-- ---- the call on bytes, and by value
+pub start-fault : (s : List ℕ) (k p : ℕ) → sheetOf s ≡ faulty k p → startAnswer (started.Refused k p) [] [] ≡ startOf (sheetOf s)
+unfolding startOf
+start-fault s k p e = sym (ap startOf e)
+
+pub start-by : (r x : Started) (ts fs : List ℕ) (d : TableAnswer) → r ≡ x → startAnswer r ts fs ≡ d → startAnswer x ts fs ≡ d
+start-by r x ts fs d e q = sym (ap (λ (y : Started). startAnswer y ts fs) e) ∙ q
 
 -- no table
-abbrev pub NoTable : TableAnswer → ℕ → ℕ → Type 0
-NoTable d k p = (d .answer ≡ Refused k p) × (d .table ≡ tableOf [])
-
-none-is : (d : TableAnswer) (k p : ℕ) → NoTable d k p → d ≡ record { answer = Refused k p; table = tableOf [] }
-none-is d k p h = λ j. record { answer = h .0 j; table = h .1 j }
-
-pub first-none : (o : Outcome) (r : Started) (ts fs : List ℕ) → Right o r ts fs → (k : ℕ) → r ≡ started.Refused k → (d : TableAnswer) → NoTable d k 0 → d ≡ orGiven (tableOf []) o
-first-none o r ts fs e k q d h = none-is d k 0 h ∙ sym (ap (λ (x : Started). startAnswer x ts fs) q) ∙ e
-
-pub start-fault : (s : List ℕ) (k p : ℕ) → sheetOf s ≡ faulty k p → (d : TableAnswer) → NoTable d k p → d ≡ startOf (sheetOf s)
-unfolding startOf
-start-fault s k p e d h = none-is d k p h ∙ sym (ap startOf e)
+pub start-refusal : (c : TableAnswer) (k p : ℕ) → (c .answer ≡ Refused k p) × (c .table ≡ tableOf []) → (d : TableAnswer) → startAnswer (started.Refused k p) [] [] ≡ d → c ≡ d
+start-refusal c k p h d q = (λ j. record { answer = h .0 j; table = h .1 j }) ∙ q

@@ -21,7 +21,7 @@ use Rattle.table.specs.Calls.{actionAt}
 
 -- the move of a number is on the sheet
 abbrev pub OnSheet : Statement → ℕ → Type 0
-OnSheet x m = m < length (x .problem .actions)
+OnSheet x index = index < length (x .problem .actions)
 
 -- the table is as document 01 describes it
 abbrev pub AsDescribed : Statement → Table → Type 0
@@ -40,27 +40,27 @@ Starts p w = (w < 2 ^ p .n) × Starting p w
 abbrev pub WorldOf : Statement → Table → ℕ → Type 0
 WorldOf x t w = (w < 2 ^ x .problem .n) × In (x .problem .n) (entries t) w
 
--- some world of the table lacks the precondition of move m
+-- some world of the table lacks the precondition of a move
 abbrev pub Unsure : Statement → Table → ℕ → Type 0
-Unsure x t m = (w : ℕ) × WorldOf x t w × T (not (within (actionAt (x .problem) m .precondition) (state (x .problem .n) w)))
+Unsure x t index = (w : ℕ) × WorldOf x t w × T (not (within (actionAt (x .problem) index .precondition) (state (x .problem .n) w)))
 
--- the results of move m contradict in some world of the table
+-- the results of a move contradict in some world of the table
 abbrev pub Contradictory : Statement → Table → ℕ → Type 0
-Contradictory x t m = (w : ℕ) × WorldOf x t w × T (not (consistent (results (actionAt (x .problem) m .effects) (state (x .problem .n) w))))
+Contradictory x t index = (w : ℕ) × WorldOf x t w × T (not (consistent (results (actionAt (x .problem) index .effects) (state (x .problem .n) w))))
 
--- some world of the table cannot take move m
+-- some world of the table cannot take a move
 abbrev pub Untaken : Statement → Table → ℕ → Type 0
-Untaken x t m = (w : ℕ) × WorldOf x t w × (stepWorld (x .problem .n) (actionAt (x .problem) m) w ≡ none)
+Untaken x t index = (w : ℕ) × WorldOf x t w × (stepWorld (x .problem .n) (actionAt (x .problem) index) w ≡ none)
 
 -- ---- working order
 -- the start comes to o at some clause, and to a table at every clause before it: empty, some [], is 20, full, none, is 21
 abbrev pub StartStops : Problem → Option (List Literals) → Type 0
 StartStops p o = Stops mostEntries o (startClauses p) (p .known ∷ [])
 
--- the images of the pieces of a table by move m, in working order
+-- the images of the pieces of a table by a move, in working order
 abbrev pub images : Statement → Table → ℕ → List Literals
-images x t m = map (image (actionAt (x .problem) m .effects)) (collect (pieces (actionAt (x .problem) m .effects)) (entries t))
+images x t index = map (image (actionAt (x .problem) index .effects)) (collect (pieces (actionAt (x .problem) index .effects)) (entries t))
 
 -- and put in that order into a new table; none: it fills
 abbrev pub putImages : Statement → Table → ℕ → Option (List Literals)
-putImages x t m = putAll mostEntries (images x t m) []
+putImages x t index = putAll mostEntries (images x t index) []

@@ -18,18 +18,18 @@ use Rattle.table.specs.Slots.{entries, tableOf}
 
 -- the outcome with the table; a refusal by its number, at position 0, with the table t
 unfoldable pub orGiven : Table → Outcome → TableAnswer
-orGiven t (Outcome.refused k) = record { answer = Refused k 0; table = t }
+orGiven t (Outcome.refused number) = record { answer = Refused number 0; table = t }
 orGiven t (Outcome.table u) = record { answer = Accepted; table = tableOf u }
 
 -- ---- start: a fault of the sheet; then 20 or 21, whichever comes first. Refused: a table with count 0 and all slots zero
 unfoldable pub startOf : Judgement → TableAnswer
-startOf (refused k p) = record { answer = Refused k p; table = tableOf [] }
+startOf (refused number position) = record { answer = Refused number position; table = tableOf [] }
 startOf (accepted x) = orGiven (tableOf []) (startTable mostEntries (x .problem))
 
 -- ---- step: a fault of the sheet; 7; 22; 24; 25; 21. Refused: the given table
 -- the move of a number
 unfoldable pub actionAt : Problem → ℕ → Action
-actionAt p m = getD (p .actions) m (record { precondition = noLiteral; effects = [] })
+actionAt p index = getD (p .actions) index (record { precondition = noLiteral; effects = [] })
 
 abbrev pub stepKnown : Bool → Action → Table → TableAnswer
 stepKnown false a t = record { answer = Refused 22 0; table = t }
@@ -40,5 +40,5 @@ stepMove false n a t = record { answer = Refused 7 0; table = t }
 stepMove true n a t = stepKnown (described mostEntries n (entries t)) a t
 
 unfoldable pub stepOf : Judgement → Table → ℕ → TableAnswer
-stepOf (refused k p) t m = record { answer = Refused k p; table = t }
-stepOf (accepted x) t m = stepMove (ltb m (length (x .problem .actions))) (x .problem .n) (actionAt (x .problem) m) t
+stepOf (refused number position) t index = record { answer = Refused number position; table = t }
+stepOf (accepted x) t index = stepMove (ltb index (length (x .problem .actions))) (x .problem .n) (actionAt (x .problem) index) t

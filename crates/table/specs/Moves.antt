@@ -4,7 +4,7 @@ use mathlib.Core.Bool.{Bool, _||_}
 use mathlib.Core.List.{List}
 use Prim.Native.Nat.{ℕ, _+_, _<_, _≤_}
 use lib.ListN.{length, getD}
-use Rattle.sheet.specs.Limits.{mostEntries, packedLength}
+use Rattle.sheet.specs.Limits.{mostPropositions, mostMoves, mostEntries, packedLength}
 use Rattle.sheet.specs.declared.Literals.{Literals}
 use Rattle.sheet.specs.declared.Answer.the-variants.{Accepted, Refused}
 use Rattle.sheet.specs.Literals.{within, Proper}
@@ -28,27 +28,30 @@ fourWithin ts fs i l = within (slot ts fs i) l || within (slot ts fs (i + 1)) l 
 
 -- ---- a table in lent arrays
 abbrev pub lent : ℕ → List ℕ → List ℕ → Table
-lent n ts fs = record { count = n; trues = ts; falses = fs }
+lent count ts fs = record { count = count; trues = ts; falses = fs }
 
 -- what a step of the table t gave, with the arrays that it was put in
 abbrev pub stepAnswer : Table → Stepped → List ℕ → List ℕ → TableAnswer
-stepAnswer t (stepped.To k) us gs = record { answer = Accepted; table = lent k us gs }
+stepAnswer t (stepped.To count) us gs = record { answer = Accepted; table = lent count us gs }
 stepAnswer t (stepped.Refused number position) us gs = record { answer = Refused number position; table = t }
 
 -- an action and a table over the same n propositions
 pub record Fits (a : Action) (t : Table) : Type 0 where
   pub n : ℕ
-  pub n-most : n ≤ 32
+  pub n-most : n ≤ mostPropositions
   pub entries-most : t .count ≤ mostEntries
   pub action : ProperAction n a
   pub proper : All (Proper n) (entries t)
 
--- what a step asks: the packed array with the move of a number, of at most eight effects, and the table, over the same propositions; arrays of
--- zeros
-pub record StepFits (packed : List ℕ) (index : ℕ) (ts fs : List ℕ) (count : ℕ) (us gs : List ℕ) : Type 0 where
+-- what a step asks of the move of a number in the packed array, of at most eight effects, and of the table, over the same propositions
+pub record MoveFits (packed : List ℕ) (index : ℕ) (t : Table) : Type 0 where
   pub long : length packed ≡ packedLength
-  pub move-most : index < 32
+  pub move-most : index < mostMoves
   pub effects-few : countOf (movesIn packed) index ≤ 8
-  pub fits : Fits (actionOf (movesIn packed) index) (lent count ts fs)
+  pub fits : Fits (actionOf (movesIn packed) index) t
+
+-- what a step into other arrays asks: the move and the table in its slots; arrays of zeros
+pub record StepFits (packed : List ℕ) (index : ℕ) (ts fs : List ℕ) (count : ℕ) (us gs : List ℕ) : Type 0 where
+  pub move : MoveFits packed index (lent count ts fs)
   pub room : Room count ts fs
   pub fresh : Fresh us gs

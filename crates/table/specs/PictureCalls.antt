@@ -34,7 +34,7 @@ given none len = refusal 21 0
 given (some s) len = cond (tooLong s len) (refusal 23 0) (record { answer = Accepted; clauses = length s })
 
 unfoldable pub pictureOf : Judgement → Table → ℕ → PictureAnswer
-pictureOf (refused k p) t len = refusal k p
+pictureOf (refused number position) t len = refusal number position
 pictureOf (accepted x) t len = cond (described mostEntries (x .problem .n) (entries t)) (given (picture (entries t)) len) (refusal 22 0)
 
 -- ---- the buffer after the call: the picture's bytes, later bytes kept
@@ -43,5 +43,5 @@ written none buffer = buffer
 written (some s) buffer = cond (tooLong s (length buffer)) buffer (pictureBytes s ++ drop (2 + 8 * length s) buffer)
 
 unfoldable pub bufferOf : Judgement → Table → List ℕ → List ℕ
-bufferOf (refused k p) t buffer = buffer
+bufferOf (refused number position) t buffer = buffer
 bufferOf (accepted x) t buffer = cond (described mostEntries (x .problem .n) (entries t)) (written (picture (entries t)) buffer) buffer

@@ -1,4 +1,5 @@
 -- What the start takes and gives: clauses by kind, the alternatives but one, the answer with its arrays.
+use mathlib.Core.Path.{_≡_}
 use mathlib.Core.Bool.{Bool, true, false, cond}
 use mathlib.Core.List.{List, [], _∷_}
 use Prim.Native.Nat.{ℕ, _+_, _*_, _≤_}
@@ -6,13 +7,14 @@ use lib.Dec.{eqb}
 use lib.ListN.{length}
 use Rattle.sheet.specs.declared.Literals.{Literals}
 use Rattle.sheet.specs.declared.Answer.the-variants.{Accepted, Refused}
+use Rattle.sheet.specs.Literals.{consistent}
 use Rattle.sheet.specs.Lists.{All}
-use Rattle.sheet.specs.Packed.{clausesAt}
+use Rattle.sheet.specs.Packed.{clausesAt, SetsFit}
 use Rattle.table.specs.declared.TableAnswer.{TableAnswer}
 use Rattle.table.specs.declared.starts.Started.{Started}
 use Rattle.table.specs.declared.starts.Started.the-variants as started
 use Rattle.table.specs.Start.{Clause, orOf, oneOf}
-use Rattle.table.specs.Slots.{tableOf}
+use Rattle.table.specs.Slots.{tableOf, Room, Held}
 use Rattle.table.specs.Moves.{lent}
 
 -- a oneof-clause, or an or-clause
@@ -30,7 +32,24 @@ pub record ClausesFit (count : ℕ) (xs : List ℕ) : Type 0 where
   pub room : count * 17 ≤ length xs
   pub few : All (λ (c : List Literals). length c ≤ 8) (clausesAt count xs)
 
+-- what an entry's candidates by a clause ask: its alternatives; arrays with so many entries
+pub record WidenFits (alts us gs : List ℕ) (count : ℕ) : Type 0 where
+  pub sets : SetsFit alts
+  pub held : Held (length us) count us gs
+
+-- what the candidates of all entries ask: the alternatives; the entries; arrays with no entry
+pub record WidensFit (alts ts fs : List ℕ) (count : ℕ) (us gs : List ℕ) : Type 0 where
+  pub sets : SetsFit alts
+  pub room : Room count ts fs
+  pub held : Held (length us) 0 us gs
+
+-- what making alternatives false asks: so many of them; a piece that is consistent; arrays with so many entries
+pub record ChooseFits (laid : List ℕ) (size : ℕ) (piece : Literals) (us gs : List ℕ) (count : ℕ) : Type 0 where
+  pub room : 2 * size ≤ length laid
+  pub steady : consistent piece ≡ true
+  pub held : Held (length us) count us gs
+
 -- what a start gave, with the arrays that it was put in; refused, a table without entries
 abbrev pub startAnswer : Started → List ℕ → List ℕ → TableAnswer
-startAnswer (started.To k) ts fs = record { answer = Accepted; table = lent k ts fs }
-startAnswer (started.Refused number) ts fs = record { answer = Refused number 0; table = tableOf [] }
+startAnswer (started.To count) ts fs = record { answer = Accepted; table = lent count ts fs }
+startAnswer (started.Refused number position) ts fs = record { answer = Refused number position; table = tableOf [] }

@@ -31,15 +31,15 @@ trues-of es = map (λ (e : Literals). e .trues) es
 abbrev pub falses-of : List Literals → List ℕ
 falses-of es = map (λ (e : Literals). e .falses) es
 
--- the first n slots of two arrays
+-- the first slots of two arrays, so many
 unfoldable pub entriesOf : ℕ → List ℕ → List ℕ → List Literals
-entriesOf n ts fs = pairs (pad n 0 ts) (pad n 0 fs)
+entriesOf count ts fs = pairs (pad count 0 ts) (pad count 0 fs)
 
 -- ---- what contracts ask of two arrays
--- n slots or more
-pub record Room (n : ℕ) (ts fs : List ℕ) : Type 0 where
-  pub trues : n ≤ length ts
-  pub falses : n ≤ length fs
+-- so many slots or more
+pub record Room (count : ℕ) (ts fs : List ℕ) : Type 0 where
+  pub trues : count ≤ length ts
+  pub falses : count ≤ length fs
 
 -- the slots of a table, any numbers in them
 pub record TableRoom (ts fs : List ℕ) : Type 0 where
@@ -52,16 +52,16 @@ pub record Fresh (ts fs : List ℕ) : Type 0 where
   pub falses : fs ≡ replicate mostEntries 0
 
 -- ---- a list of sets in them
--- the count n and the arrays ts, fs of capacity cap hold es, with zeros after it
-pub record Holds (cap : ℕ) (es : List Literals) (n : ℕ) (ts fs : List ℕ) : Type 0 where
-  pub count-is : n ≡ length es
-  pub room : n ≤ cap
+-- the count and the arrays ts, fs of capacity cap hold es, with zeros after it
+pub record Holds (cap : ℕ) (es : List Literals) (count : ℕ) (ts fs : List ℕ) : Type 0 where
+  pub count-is : count ≡ length es
+  pub room : count ≤ cap
   pub trues-are : ts ≡ pad cap 0 (trues-of es)
   pub falses-are : fs ≡ pad cap 0 (falses-of es)
 
--- the slots from n on are zero
+-- the slots after so many entries are zero
 abbrev pub Held : ℕ → ℕ → List ℕ → List ℕ → Type 0
-Held cap n ts fs = Holds cap (entriesOf n ts fs) n ts fs
+Held cap count ts fs = Holds cap (entriesOf count ts fs) count ts fs
 
 -- ---- tables
 -- the entries of a table: slots from its count on are not read
@@ -107,11 +107,11 @@ fateOf cap s c =
     (cond (eqb (length (left s c)) cap) Full (Added (length s - length (left s c)) (length (left s c) + 1)))
 
 -- ---- candidates put one after the other
--- what was to be put gave o: with k entries in the slots it gave them; full it gave none
+-- what was to be put gave o: with so many entries in the slots it gave them; full it gave none
 abbrev pub Grew : ℕ → Option (List Literals) → Grown → List ℕ → List ℕ → Type 0
-Grew cap o (grown.To k) ts fs = (o ≡ some (entriesOf k ts fs)) × Held cap k ts fs
+Grew cap o (grown.To count) ts fs = (o ≡ some (entriesOf count ts fs)) × Held cap count ts fs
 Grew cap o grown.Full ts fs = o ≡ none
 
--- the candidates cs were put after the first k entries of ts, fs; r, us and gs are what came of it
-pub record Puts (cs : List Literals) (k : ℕ) (ts fs : List ℕ) (r : Grown) (us gs : List ℕ) : Type 0 where
-  pub grew : Grew (length ts) (putAll (length ts) cs (entriesOf k ts fs)) r us gs
+-- the candidates cs were put after so many entries of ts, fs; r, us and gs are what came of it
+pub record Puts (cs : List Literals) (count : ℕ) (ts fs : List ℕ) (r : Grown) (us gs : List ℕ) : Type 0 where
+  pub grew : Grew (length ts) (putAll (length ts) cs (entriesOf count ts fs)) r us gs

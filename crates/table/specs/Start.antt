@@ -48,7 +48,7 @@ unfoldable pub grow : ℕ → Clause → List Literals → Outcome
 grow cap c t = fresh (putAll cap (keep consistent (collect (candidates c) t)) [])
 
 abbrev pub onTable : Outcome → (List Literals → Outcome) → Outcome
-onTable (refused k) next = refused k
+onTable (refused number) next = refused number
 onTable (table t) next = next t
 
 abbrev pub growAll : ℕ → List Clause → List Literals → Outcome

@@ -1,4 +1,5 @@
 // Belief states as tables of entries: the first table of a sheet, the step of a move, and pictures.
+use crate::starts::Started;
 use crate::steps::Stepped;
 use sheet::Answer;
 use sheet::limits::ENTRIES;
@@ -8,6 +9,7 @@ ghost use lib.ListN.{length};
 ghost use Rattle.sheet.specs.Format.{sheetOf};
 ghost use Rattle.table.specs.Calls.{startOf, stepOf};
 ghost use Rattle.table.specs.Moves.{lent, stepAnswer};
+ghost use Rattle.table.specs.Reads.{startAnswer};
 ghost use Rattle.table.specs.Slots.{TableRoom, Fresh};
 ghost use Rattle.table.specs.PictureCalls.{pictureOf, bufferOf};
 
@@ -38,33 +40,57 @@ pub struct PictureAnswer {
     pub clauses: usize,
 }
 
-// The first table of a sheet.
-pub fn start(bytes: &[u8]) -> TableAnswer
-    ensures { λ r. ⌜ r ≡ startOf (sheetOf (now (bytes .entry))) ⌝ }
+// The first table of a sheet, into arrays of zeros: a fault of the sheet, then the start.
+pub fn start_lent<'a, 'b, 'c>(
+    bytes: &'a [u8],
+    to_trues: &'b mut [u32; ENTRIES],
+    to_falses: &'c mut [u32; ENTRIES],
+) -> Started
+    requires { ⌜ Fresh (now «to_trues») (now «to_falses») ⌝ }
+    ensures { λ r. ⌜ startAnswer r (now («to_trues» .exit)) (now («to_falses» .exit)) ≡ startOf (sheetOf (now (bytes .entry))) ⌝ }
 {
     let mut packed = [0u32; LENGTH];
     let decoded = sheet::decode(bytes, &mut packed);
     let answer = decoded.answer;
     match answer {
-        Answer::Refused(number, position) => starts::refuse_start(number, position),
+        Answer::Refused(number, position) => Started::Refused(number, position),
         Answer::Accepted => {
             let sheet = decoded.sheet;
             // A reference to the whole array: its type has the length.
             let packed = &packed;
-            starts::first_table(sheet, packed)
+            starts::first_into(sheet, packed, to_trues, to_falses)
         }
     }
 }
 
+// The first table of a sheet.
+pub fn start(bytes: &[u8]) -> TableAnswer
+    ensures { λ r. ⌜ r ≡ startOf (sheetOf (now (bytes .entry))) ⌝ }
+{
+    let mut trues = [0u32; ENTRIES];
+    let mut falses = [0u32; ENTRIES];
+    match start_lent(bytes, &mut trues, &mut falses) {
+        Started::To(count) => TableAnswer {
+            answer: Answer::Accepted,
+            table: Table {
+                count,
+                trues,
+                falses,
+            },
+        },
+        Started::Refused(number, position) => starts::refuse_start(number, position),
+    }
+}
+
 // The step of a lent table by the move of a number on a sheet, into arrays of zeros: a fault of the sheet, 7, 22, then the step.
-pub fn step_lent<'a, 'b, 'c>(
+pub fn step_lent<'a, 'b, 'c, 'd>(
     bytes: &'a [u8],
     index: usize,
     trues: &'b [u32],
     falses: &'b [u32],
     count: usize,
-    to_trues: &'c mut [u32],
-    to_falses: &'c mut [u32],
+    to_trues: &'c mut [u32; ENTRIES],
+    to_falses: &'d mut [u32; ENTRIES],
 ) -> Stepped
     requires { ⌜ TableRoom (now trues) (now falses) ⌝ }
     requires { ⌜ Fresh (now «to_trues») (now «to_falses») ⌝ }

@@ -22,7 +22,7 @@ ghost use Rattle.table.specs.Counts.{JoinFits, clauseSlots, sizeOf};
 ghost use Rattle.sheet.specs.Limits.{mostClauses};
 
 // The clauses of a table, in the first count slots; none if they are too many.
-pub struct Clauses {
+pub(crate) struct Clauses {
     pub full: bool,
     pub count: usize,
     pub trues: [u32; CLAUSES],

@@ -16,20 +16,20 @@ ghost use Rattle.table.specs.declared.slots.Found.the-variants as found;
 ghost use Rattle.table.specs.Moves.{fourWithin};
 
 // The place of an entry, if there is one.
-pub enum Found {
+pub(crate) enum Found {
     At(usize),
     Nothing,
 }
 
 // What became of a candidate.
-pub enum Fate {
+pub(crate) enum Fate {
     Dropped,
     Added { removed: usize, count: usize },
     Full,
 }
 
 // How many entries there are after some candidates were put.
-pub enum Grown {
+pub(crate) enum Grown {
     To(usize),
     Full,
 }

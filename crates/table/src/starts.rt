@@ -3,7 +3,6 @@ use crate::Table;
 use crate::TableAnswer;
 use crate::slots::Grown;
 use crate::slots::admit;
-use crate::slots::copy_masks;
 use crate::slots::offer_by_newest;
 use sheet::Answer;
 use sheet::Literals;
@@ -18,11 +17,11 @@ use sheet::masks::next;
 use sheet::packed::GOAL;
 use sheet::packed::ONEOFS;
 use sheet::packed::ORS;
+use sheet::packed::SETS_WIDTH;
 use sheet::packed::count_of;
 use sheet::packed::set_at;
 use sheet::packed::set_from;
 ghost use mathlib.Core.Path.{_≡_};
-ghost use mathlib.Core.Bool.{true};
 ghost use mathlib.Core.List.{[], _∷_, _++_, map};
 ghost use Prim.Native.Nat.{_≤_, _<_, _*_};
 ghost use lib.ListN.{length, drop, getD};
@@ -32,27 +31,26 @@ ghost use Rattle.sheet.specs.Lists.{keep, collect};
 ghost use Rattle.sheet.specs.Packed as R;
 ghost use Rattle.sheet.specs.Decoded.{problemIn, Filled};
 ghost use Rattle.table.specs.Start as spec;
-ghost use Rattle.table.specs.Slots.{entriesOf, Room, Fresh, Held, Puts, tableOf};
+ghost use Rattle.table.specs.Slots.{entriesOf, Fresh, Held, Puts, tableOf};
 ghost use Rattle.table.specs.Calls.{orGiven};
-ghost use Rattle.table.specs.Reads.{clauseOf, others, ClausesFit, startAnswer};
+ghost use Rattle.table.specs.Reads.{clauseOf, others, ClausesFit, WidenFits, WidensFit, ChooseFits, startAnswer};
 ghost use Rattle.sheet.specs.Limits.{mostEntries};
 
-// What a start gives: so many entries in the lent arrays, or the number of a refusal.
+// What a start gives: so many entries in the lent arrays, or a refusal's number with its position.
 pub enum Started {
     To(usize),
-    Refused(u8),
+    Refused(u8, usize),
 }
 
 // The entry with each alternative of an or-clause, in order.
 pub(crate) fn widen_or(
     alts: &[u32],
     entry: Literals,
-    to_trues: &mut [u32],
-    to_falses: &mut [u32],
+    to_trues: &mut [u32; ENTRIES],
+    to_falses: &mut [u32; ENTRIES],
     count: usize,
 ) -> Grown
-    requires { ⌜ R.SetsFit (now alts) ⌝ }
-    requires { ⌜ Held (length (now «to_trues»)) count (now «to_trues») (now «to_falses») ⌝ }
+    requires { ⌜ WidenFits (now alts) (now «to_trues») (now «to_falses») count ⌝ }
     ensures { λ r. ⌜ Puts (keep L.consistent (spec.candidates (spec.orOf (R.setsIn (now (alts .entry)))) entry)) count (now («to_trues» .entry)) (now («to_falses» .entry)) r (now («to_trues» .exit)) (now («to_falses» .exit)) ⌝ }
 {
     let size = count_of(alts);
@@ -91,18 +89,16 @@ pub(crate) fn lay_others(alts: &[u32], i: usize, laid: &mut [u32]) -> usize
 
 // Each alternative from `at` on is made false in every way: by each of its literals that the piece lacks. One that the piece has would make
 // an inconsistent set.
-pub(crate) fn choose<'a, 'b>(
+pub(crate) fn choose<'a, 'b, 'c>(
     laid: &'a [u32; 16],
     size: usize,
     at: usize,
     piece: Literals,
-    to_trues: &'b mut [u32],
-    to_falses: &'b mut [u32],
+    to_trues: &'b mut [u32; ENTRIES],
+    to_falses: &'c mut [u32; ENTRIES],
     count: usize,
 ) -> Grown
-    requires { ⌜ 2 * size ≤ length (now laid) ⌝ }
-    requires { ⌜ L.consistent piece ≡ true ⌝ }
-    requires { ⌜ Held (length (now «to_trues»)) count (now «to_trues») (now «to_falses») ⌝ }
+    requires { ⌜ ChooseFits (now laid) size piece (now «to_trues») (now «to_falses») count ⌝ }
     ensures { λ r. ⌜ Puts (keep L.consistent (spec.falsify (drop at (R.setsAt size (now (laid .entry)))) piece)) count (now («to_trues» .entry)) (now («to_falses» .entry)) r (now («to_trues» .exit)) (now («to_falses» .exit)) ⌝ }
 {
     if size <= at {
@@ -138,12 +134,12 @@ pub(crate) fn widen_one(
     alts: &[u32],
     i: usize,
     entry: Literals,
-    to_trues: &mut [u32],
-    to_falses: &mut [u32],
+    to_trues: &mut [u32; ENTRIES],
+    to_falses: &mut [u32; ENTRIES],
     count: usize,
 ) -> Grown
-    requires { ⌜ R.SetsFit (now alts) × (i < getD (now alts) 0 0) ⌝ }
-    requires { ⌜ Held (length (now «to_trues»)) count (now «to_trues») (now «to_falses») ⌝ }
+    requires { ⌜ WidenFits (now alts) (now «to_trues») (now «to_falses») count ⌝ }
+    requires { ⌜ i < getD (now alts) 0 0 ⌝ }
     ensures { λ r. ⌜ Puts (keep L.consistent (spec.falsify (others i 0 (R.setsIn (now (alts .entry)))) (L.join entry (getD (R.setsIn (now (alts .entry))) i L.noLiteral)))) count (now («to_trues» .entry)) (now («to_falses» .entry)) r (now («to_trues» .exit)) (now («to_falses» .exit)) ⌝ }
 {
     let a = set_at(alts, i);
@@ -160,12 +156,11 @@ pub(crate) fn widen_one(
 pub(crate) fn widen_oneof(
     alts: &[u32],
     entry: Literals,
-    to_trues: &mut [u32],
-    to_falses: &mut [u32],
+    to_trues: &mut [u32; ENTRIES],
+    to_falses: &mut [u32; ENTRIES],
     count: usize,
 ) -> Grown
-    requires { ⌜ R.SetsFit (now alts) ⌝ }
-    requires { ⌜ Held (length (now «to_trues»)) count (now «to_trues») (now «to_falses») ⌝ }
+    requires { ⌜ WidenFits (now alts) (now «to_trues») (now «to_falses») count ⌝ }
     ensures { λ r. ⌜ Puts (keep L.consistent (spec.candidates (spec.oneOf (R.setsIn (now (alts .entry)))) entry)) count (now («to_trues» .entry)) (now («to_falses» .entry)) r (now («to_trues» .exit)) (now («to_falses» .exit)) ⌝ }
 {
     let size = count_of(alts);
@@ -186,12 +181,11 @@ pub(crate) fn widen(
     exclusive: bool,
     alts: &[u32],
     entry: Literals,
-    to_trues: &mut [u32],
-    to_falses: &mut [u32],
+    to_trues: &mut [u32; ENTRIES],
+    to_falses: &mut [u32; ENTRIES],
     count: usize,
 ) -> Grown
-    requires { ⌜ R.SetsFit (now alts) ⌝ }
-    requires { ⌜ Held (length (now «to_trues»)) count (now «to_trues») (now «to_falses») ⌝ }
+    requires { ⌜ WidenFits (now alts) (now «to_trues») (now «to_falses») count ⌝ }
     ensures { λ r. ⌜ Puts (keep L.consistent (spec.candidates (clauseOf exclusive (R.setsIn (now (alts .entry)))) entry)) count (now («to_trues» .entry)) (now («to_falses» .entry)) r (now («to_trues» .exit)) (now («to_falses» .exit)) ⌝ }
 {
     if exclusive {
@@ -201,18 +195,16 @@ pub(crate) fn widen(
 }
 
 // The candidates of all entries, put into other arrays.
-pub(crate) fn widen_all<'a, 'b, 'c>(
+pub(crate) fn widen_all<'a, 'b, 'c, 'd>(
     exclusive: bool,
     alts: &'c [u32],
     trues: &'a [u32],
     falses: &'a [u32],
     count: usize,
-    to_trues: &'b mut [u32],
-    to_falses: &'b mut [u32],
+    to_trues: &'b mut [u32; ENTRIES],
+    to_falses: &'d mut [u32; ENTRIES],
 ) -> Grown
-    requires { ⌜ R.SetsFit (now alts) ⌝ }
-    requires { ⌜ Room count (now trues) (now falses) ⌝ }
-    requires { ⌜ Held (length (now «to_trues»)) 0 (now «to_trues») (now «to_falses») ⌝ }
+    requires { ⌜ WidensFit (now alts) (now trues) (now falses) count (now «to_trues») (now «to_falses») ⌝ }
     ensures { λ r. ⌜ Puts (keep L.consistent (collect (spec.candidates (clauseOf exclusive (R.setsIn (now (alts .entry))))) (entriesOf count (now (trues .entry)) (now (falses .entry))))) 0 (now («to_trues» .entry)) (now («to_falses» .entry)) r (now («to_trues» .exit)) (now («to_falses» .exit)) ⌝ }
 {
     let mut filled: usize = 0;
@@ -245,23 +237,12 @@ pub(crate) fn refuse_start(number: u8, position: usize) -> TableAnswer
     }
 }
 
-// The greater of two counts.
-pub(crate) fn longer(a: usize, b: usize) -> usize
-    requires { ⌜ (a ≤ mostEntries) × (b ≤ mostEntries) ⌝ }
-    ensures { λ r. ⌜ (a ≤ r) × (b ≤ r) × (r ≤ mostEntries) ⌝ }
-{
-    if a < b {
-        return b;
-    }
-    a
-}
-
 // The fresh table that one clause builds, in the place of the one it is built from. A refusal leaves no table.
 pub(crate) fn grow(
     exclusive: bool,
     alts: &[u32],
-    trues: &mut [u32],
-    falses: &mut [u32],
+    trues: &mut [u32; ENTRIES],
+    falses: &mut [u32; ENTRIES],
     count: usize,
 ) -> Started
     requires { ⌜ R.SetsFit (now alts) ⌝ }
@@ -281,24 +262,23 @@ pub(crate) fn grow(
     ) {
         Grown::To(filled) => {
             if filled == 0 {
-                return Started::Refused(20);
+                return Started::Refused(20, 0);
             }
-            let top = longer(count, filled);
-            copy_masks(trues, 0, &to_trues[..top]);
-            copy_masks(falses, 0, &to_falses[..top]);
+            *trues = to_trues;
+            *falses = to_falses;
             Started::To(filled)
         }
-        Grown::Full => Started::Refused(21),
+        Grown::Full => Started::Refused(21, 0),
     }
 }
 
 // The tables of all clauses of a section, one after the other; the first refusal stays.
-pub(crate) fn grow_all<'a, 'b>(
+pub(crate) fn grow_all<'a, 'b, 'c>(
     exclusive: bool,
     clauses: &'a [u32],
     size: usize,
-    trues: &'b mut [u32],
-    falses: &'b mut [u32],
+    trues: &'b mut [u32; ENTRIES],
+    falses: &'c mut [u32; ENTRIES],
     count: usize,
 ) -> Started
     requires { ⌜ ClausesFit size (now clauses) ⌝ }
@@ -308,13 +288,19 @@ pub(crate) fn grow_all<'a, 'b>(
     let mut filled = count;
     let mut i: usize = 0;
     while i < size {
-        let at = i * 17;
-        match grow(exclusive, &clauses[at..at + 17], trues, falses, filled) {
+        let at = i * SETS_WIDTH;
+        match grow(
+            exclusive,
+            &clauses[at..at + SETS_WIDTH],
+            trues,
+            falses,
+            filled,
+        ) {
             Started::To(grown) => {
                 filled = grown;
             }
-            Started::Refused(number) => {
-                return Started::Refused(number);
+            Started::Refused(number, position) => {
+                return Started::Refused(number, position);
             }
         }
         i += 1;
@@ -323,11 +309,11 @@ pub(crate) fn grow_all<'a, 'b>(
 }
 
 // The first table of a sheet that was read, into arrays of zeros.
-pub fn first_into<'a, 'b>(
+pub fn first_into<'a, 'b, 'c>(
     sheet: Sheet,
     packed: &'a [u32],
-    to_trues: &'b mut [u32],
-    to_falses: &'b mut [u32],
+    to_trues: &'b mut [u32; ENTRIES],
+    to_falses: &'c mut [u32; ENTRIES],
 ) -> Started
     requires { ⌜ Filled sheet (now packed) ⌝ }
     requires { ⌜ Fresh (now «to_trues») (now «to_falses») ⌝ }
@@ -342,26 +328,6 @@ pub fn first_into<'a, 'b>(
             let oneofs = &packed[ONEOFS..GOAL];
             grow_all(true, oneofs, sheet.oneofs, to_trues, to_falses, count)
         }
-        Started::Refused(number) => Started::Refused(number),
-    }
-}
-
-// The first table of a sheet that was read.
-pub(crate) fn first_table(sheet: Sheet, packed: &[u32]) -> TableAnswer
-    requires { ⌜ Filled sheet (now packed) ⌝ }
-    ensures { λ r. ⌜ r ≡ orGiven (tableOf []) (spec.startTable mostEntries (problemIn sheet (now (packed .entry)))) ⌝ }
-{
-    let mut trues = [0u32; ENTRIES];
-    let mut falses = [0u32; ENTRIES];
-    match first_into(sheet, packed, &mut trues, &mut falses) {
-        Started::To(count) => TableAnswer {
-            answer: Answer::Accepted,
-            table: Table {
-                count,
-                trues,
-                falses,
-            },
-        },
-        Started::Refused(number) => refuse_start(number, 0),
+        Started::Refused(number, position) => Started::Refused(number, position),
     }
 }

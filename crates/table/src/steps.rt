@@ -4,8 +4,11 @@ use crate::slots::Grown;
 use crate::tables::entry_at;
 use sheet::Effect;
 use sheet::Literals;
+use sheet::limits::ENTRIES;
 use sheet::masks;
+use sheet::packed::EFFECTS;
 use sheet::packed::LENGTH;
+use sheet::packed::MOVE_WIDTH;
 use sheet::packed::MOVES;
 use sheet::packed::effect_at;
 use sheet::packed::set_from;
@@ -134,7 +137,7 @@ pub(crate) fn without(piece: Literals, l: usize) -> Literals
 }
 
 // The place of the first effect that splits a piece, and the results of those before it.
-pub struct Undecided {
+pub(crate) struct Undecided {
     pub at: usize,
     pub results: Literals,
 }
@@ -196,13 +199,13 @@ pub(crate) fn carried(results: Literals, result: Literals, t: usize) -> Literals
 
 // The pieces of `piece` by the conditions from the undecided one on, which splits it, each put in its turn: part 0, then a part for each
 // literal that is missing.
-pub(crate) fn split<'a, 'b>(
+pub(crate) fn split<'a, 'b, 'c>(
     effects: &'a [u32],
     size: usize,
     undecided: Undecided,
     piece: Literals,
-    to_trues: &'b mut [u32],
-    to_falses: &'b mut [u32],
+    to_trues: &'b mut [u32; ENTRIES],
+    to_falses: &'c mut [u32; ENTRIES],
     count: usize,
 ) -> Grown
     requires { ⌜ SplitFits (now effects) size undecided piece (now «to_trues») (now «to_falses») count ⌝ }
@@ -241,12 +244,12 @@ pub(crate) fn split<'a, 'b>(
 }
 
 // The pieces of an entry, each put in its turn.
-pub(crate) fn branch<'a, 'b>(
+pub(crate) fn branch<'a, 'b, 'c>(
     effects: &'a [u32],
     size: usize,
     entry: Literals,
-    to_trues: &'b mut [u32],
-    to_falses: &'b mut [u32],
+    to_trues: &'b mut [u32; ENTRIES],
+    to_falses: &'c mut [u32; ENTRIES],
     count: usize,
 ) -> Grown
     requires { ⌜ BranchFits (now effects) size entry (now «to_trues») (now «to_falses») count ⌝ }
@@ -264,14 +267,14 @@ pub(crate) fn branch<'a, 'b>(
 }
 
 // The pieces of the first count entries, each put in its turn into arrays with no entry.
-pub(crate) fn branch_all<'a, 'b, 'c>(
+pub(crate) fn branch_all<'a, 'b, 'c, 'd>(
     effects: &'a [u32],
     size: usize,
     trues: &'b [u32],
     falses: &'b [u32],
     count: usize,
-    to_trues: &'c mut [u32],
-    to_falses: &'c mut [u32],
+    to_trues: &'c mut [u32; ENTRIES],
+    to_falses: &'d mut [u32; ENTRIES],
 ) -> Grown
     requires { ⌜ BranchesFit (now effects) size (now trues) (now falses) count (now «to_trues») (now «to_falses») ⌝ }
     ensures { λ r. ⌜ Puts (map (S.image (R.effectsAt size (now (effects .entry)))) (collect (S.pieces (R.effectsAt size (now (effects .entry)))) (entriesOf count (now (trues .entry)) (now (falses .entry))))) 0 (now («to_trues» .entry)) (now («to_falses» .entry)) r (now («to_trues» .exit)) (now («to_falses» .exit)) ⌝ }
@@ -296,24 +299,24 @@ pub enum Stepped {
 }
 
 // The step of a lent table by the move of a number, into arrays of zeros: 24, 25, then the images, 21 if they are too many.
-pub fn step_at<'a, 'b, 'c>(
+pub fn step_at<'a, 'b, 'c, 'd>(
     packed: &'a [u32],
     index: usize,
     trues: &'b [u32],
     falses: &'b [u32],
     count: usize,
-    to_trues: &'c mut [u32],
-    to_falses: &'c mut [u32],
+    to_trues: &'c mut [u32; ENTRIES],
+    to_falses: &'d mut [u32; ENTRIES],
 ) -> Stepped
     requires { ⌜ M.StepFits (now packed) index (now trues) (now falses) count (now «to_trues») (now «to_falses») ⌝ }
     ensures { λ r. ⌜ M.stepAnswer (M.lent count (now (trues .entry)) (now (falses .entry))) r (now («to_trues» .exit)) (now («to_falses» .exit)) ≡ orGiven (M.lent count (now (trues .entry)) (now (falses .entry))) (S.stepTable mostEntries (R.actionOf (R.movesIn (now (packed .entry))) index) (entriesOf count (now (trues .entry)) (now (falses .entry)))) ⌝ }
 {
     let moves = &packed[MOVES..LENGTH];
-    let at = index * 35;
-    let item = &moves[at..at + 35];
+    let at = index * MOVE_WIDTH;
+    let item = &moves[at..at + MOVE_WIDTH];
     let precondition = set_from(item, 0);
     let size = wide(item[2]);
-    let effects = &item[3..35];
+    let effects = &item[EFFECTS..MOVE_WIDTH];
     if !sure(precondition, trues, falses, count) {
         return Stepped::Refused(24, 0);
     }

@@ -7,6 +7,7 @@ use Prim.Native.Nat.{ℕ, _+_, _*_, _/_, _≤_}
 use native.Mathlib.Omega.{arith}
 use lib.ListN.{length, getD, take, drop, replicate, take-append-drop}
 use lib.Seq.{drop-cons, drop-drop, take-at, drop-at}
+use Rattle.sheet.specs.Limits.{tableNumbers}
 use Rattle.sheet.specs.declared.Answer.the-variants.{Refused}
 use Rattle.sheet.specs.Lists.{pad, collect}
 use Rattle.sheet.specs.Format.{sheetOf}
@@ -26,15 +27,15 @@ use Rattle.unit.specs.Calls.{runTable, rowsWith, rowsOut}
 pub table-again : (t : Table) (xs : List ℕ) → length (t .trues) ≡ 128 → length (t .falses) ≡ 128 → tableIn (tableOut t xs) ≡ t
 unfolding tableIn tableOut
 table-again t xs p q =
-    let rest = t .falses ++ drop 257 xs in
+    let rest = t .falses ++ drop tableNumbers xs in
     λ k. record {
       count = t .count;
       trues = take-at (t .trues) rest 128 p k;
-      falses = (ap (take 128) (drop-at (t .trues) rest 128 p) ∙ take-at (t .falses) (drop 257 xs) 128 q) k;
+      falses = (ap (take 128) (drop-at (t .trues) rest 128 p) ∙ take-at (t .falses) (drop tableNumbers xs) 128 q) k;
     }
 
 -- ---- numbers that were read as a table and are written again are as they were, whatever they are
-pub table-kept : (xs : List ℕ) → 257 ≤ length xs → tableOut (tableIn xs) xs ≡ xs
+pub table-kept : (xs : List ℕ) → tableNumbers ≤ length xs → tableOut (tableIn xs) xs ≡ xs
 unfolding tableIn tableOut
 table-kept xs h =
     ap (λ (r : List ℕ). getD xs 0 0 ∷ (take 128 (drop 1 xs) ++ r)) (joined 129)
@@ -45,23 +46,23 @@ table-kept xs h =
     joined n = ap (λ (r : List ℕ). take 128 (drop n xs) ++ r) (sym (drop-drop 128 n xs)) ∙ take-append-drop 128 (drop n xs)
 
 -- a refused step leaves every number
-pub step-kept : (s xs : List ℕ) (m number position : ℕ) → 257 ≤ length xs → stepOf (sheetOf s) (tableIn xs) m .answer ≡ Refused number position
+pub step-kept : (s xs : List ℕ) (m number position : ℕ) → tableNumbers ≤ length xs → stepOf (sheetOf s) (tableIn xs) m .answer ≡ Refused number position
     → tableOut (stepOf (sheetOf s) (tableIn xs) m .table) xs ≡ xs
 step-kept s xs m number position h e = ap (λ (t : Table). tableOut t xs) (step-back s (tableIn xs) m number position e) ∙ table-kept xs h
 
 -- ---- no table: 257 zeros
-pub no-table : (xs : List ℕ) → tableOut (tableOf []) xs ≡ replicate 257 0 ++ drop 257 xs
+pub no-table : (xs : List ℕ) → tableOut (tableOf []) xs ≡ replicate tableNumbers 0 ++ drop tableNumbers xs
 unfolding tableOut tableOf pad
 no-table xs = refl
 
 -- a refused start gives them
 pub start-zeros : (s xs : List ℕ) (number position : ℕ) → startOf (sheetOf s) .answer ≡ Refused number position
-    → tableOut (startOf (sheetOf s) .table) xs ≡ replicate 257 0 ++ drop 257 xs
+    → tableOut (startOf (sheetOf s) .table) xs ≡ replicate tableNumbers 0 ++ drop tableNumbers xs
 start-zeros s xs number position e = ap (λ (t : Table). tableOut t xs) (start-back s number position e) ∙ no-table xs
 
 -- a refused run gives them too
 module _ (s rows : List ℕ) (number position : ℕ) (refused : runOf (sheetOf s) (length rows / 3) .verdict ≡ ran.Refused number position) where
-  pub run-zeros : (xs : List ℕ) → tableOut (runTable s rows) xs ≡ replicate 257 0 ++ drop 257 xs
+  pub run-zeros : (xs : List ℕ) → tableOut (runTable s rows) xs ≡ replicate tableNumbers 0 ++ drop tableNumbers xs
   unfolding runTable
   run-zeros xs = ap (λ (t : Table). tableOut t xs) (run-back s (length rows / 3) number position refused) ∙ no-table xs
 

@@ -14,8 +14,6 @@ use Rattle.sheet.specs.Lists.{allOf, collect}
 use Rattle.sheet.specs.Problem.{Action, Problem, Statement}
 use Rattle.sheet.specs.Encoding.{ProperProblem}
 use Rattle.sheet.specs.Format.{Judgement, accepted, refused as faulty, sheetOf}
-use Rattle.sheet.specs.declared.Answer.{Answer}
-use Rattle.sheet.specs.declared.Answer.the-variants.{Accepted}
 use Rattle.table.specs.declared.Table.{Table}
 use Rattle.table.specs.declared.steps.Stepped.{Stepped}
 use Rattle.table.specs.Moves.{stepAnswer}

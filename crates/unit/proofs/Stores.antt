@@ -1,16 +1,20 @@
 -- Numbers stored one after the other: info, copies, tables. Assumes nothing.
 use mathlib.Core.Path.{_≡_, refl, sym, ap, ap₂, subst, _∙_}
 use mathlib.Core.List.{List, [], _∷_, _++_, append-assoc}
-use Prim.Native.Nat.{ℕ, _+_, _≤_, _<_}
+use Prim.Native.Nat.{ℕ, _+_, _^_, _≤_, _<_}
 use native.Mathlib.Nat.{zero-add, not-suc-le-zero, le-refl}
 use native.Mathlib.Omega.{arith}
-use lib.ListN.{length, set, getD, take, drop, length-set, take-append-drop}
+use lib.ListN.{length, set, getD, take, drop, replicate, length-set, take-append-drop}
 use lib.Seq.{sets-eq, paste, take-paste, drop-paste, take-length, drop-drop, drop-set-lt}
+use Rattle.sheet.specs.Limits.{tableNumbers}
 use Rattle.sheet.specs.Format.{sheetOf}
+use Rattle.sheet.specs.Lists.{pad}
 use Rattle.table.specs.declared.Table.{Table}
+use Rattle.table.specs.declared.TableAnswer.{TableAnswer}
 use Rattle.table.specs.declared.steps.Stepped.{Stepped}
 use Rattle.table.specs.Moves.{lent, stepAnswer}
 use Rattle.table.specs.Calls.{stepOf}
+use Rattle.table.specs.Slots.{tableOf}
 use Rattle.sheet.proofs.base.Copying.{Copied, copied-step, copied-end, front}
 use Rattle.unit.specs.declared.Reply.{Reply}
 use Rattle.unit.specs.Numbers.{infoOf, tableIn, tableOut}
@@ -53,22 +57,22 @@ first-set [] x h = absurd (not-suc-le-zero h)
 first-set (y ∷ ys) x h = refl
 
 -- the numbers of a table
-pub table-stores : (t : Table) (xs one two : List ℕ) → 257 ≤ length xs → length (t .trues) ≡ 128 → length (t .falses) ≡ 128
+pub table-stores : (t : Table) (xs one two : List ℕ) → tableNumbers ≤ length xs → length (t .trues) ≡ 128 → length (t .falses) ≡ 128
     → one ≡ paste (set xs 0 (t .count)) 1 (t .trues) (length (t .trues)) → two ≡ paste one 129 (t .falses) (length (t .falses)) → two ≡ tableOut t xs
 unfolding tableOut
 table-stores t xs one two h p q e f =
     let d = set xs 0 (t .count) in
     let l : length d ≡ length xs = length-set xs 0 (t .count) in
     let at : 129 ≡ 1 + length (t .trues) = omega (arith, p) in
-    let end : 1 + length (t .trues) + length (t .falses) ≡ 257 = omega (arith, p, q) in
+    let end : 1 + length (t .trues) + length (t .falses) ≡ tableNumbers = omega (arith, p, q) in
     f ∙ ap₂ (λ (y : List ℕ) (k : ℕ). paste y k (t .falses) (length (t .falses))) e at
     ∙ two-copies d (t .trues) (t .falses) 1 (omega (arith, l, h, end))
     ∙ ap (λ (k : ℕ). take 1 d ++ t .trues ++ t .falses ++ drop k d) end
-    ∙ ap₂ (λ (x y : List ℕ). x ++ t .trues ++ t .falses ++ y) (first-set xs (t .count) (omega (arith, h))) (drop-set-lt 257 xs 0 (t .count) (omega arith))
-    ∙ ap (λ (x : List ℕ). t .count ∷ x) (append-assoc (t .trues) (t .falses) (drop 257 xs))
+    ∙ ap₂ (λ (x y : List ℕ). x ++ t .trues ++ t .falses ++ y) (first-set xs (t .count) (omega (arith, h))) (drop-set-lt tableNumbers xs 0 (t .count) (omega arith))
+    ∙ ap (λ (x : List ℕ). t .count ∷ x) (append-assoc (t .trues) (t .falses) (drop tableNumbers xs))
 
 -- a table that is read and written back
-pub table-back : (xs : List ℕ) → 257 ≤ length xs → xs ≡ tableOut (tableIn xs) xs
+pub table-back : (xs : List ℕ) → tableNumbers ≤ length xs → xs ≡ tableOut (tableIn xs) xs
 unfolding tableOut tableIn
 table-back [] h = absurd (not-suc-le-zero h)
 table-back (x ∷ ys) h =
@@ -83,3 +87,19 @@ pub numbers-step : (s xs : List ℕ) (m k : ℕ) (r : Stepped) (us gs : List ℕ
 unfolding tableIn
 numbers-step s xs m k r us gs e q =
     subst (λ (j : ℕ). stepAnswer (lent j (take 128 (drop 1 xs)) (take 128 (drop 129 xs))) r us gs ≡ stepOf (sheetOf s) (lent j (take 128 (drop 1 xs)) (take 128 (drop 129 xs))) m) e q
+
+-- ---- what a start or a step gave, f of it: it is known to be x
+module _ {A : Type 0} (f : A → TableAnswer) {r x : A} (e : r ≡ x) where
+  pub answer-by : f x .answer ≡ f r .answer
+  answer-by = ap (λ (y : A). f y .answer) (sym e)
+
+  pub table-by : (xs after : List ℕ) → after ≡ tableOut (f x .table) xs → after ≡ tableOut (f r .table) xs
+  table-by xs after q = q ∙ ap (λ (y : A). tableOut (f y .table) xs) (sym e)
+
+  pub count-by : f r .table .count < 2 ^ 32 → f x .table .count < 2 ^ 32
+  count-by h = subst (λ (y : A). f y .table .count < 2 ^ 32) e h
+
+-- no entry, in arrays of zeros
+pub zeros-table : lent 0 (replicate 128 0) (replicate 128 0) ≡ tableOf []
+unfolding tableOf pad
+zeros-table = refl

@@ -10,8 +10,6 @@ use Rattle.sheet.specs.declared.Answer.the-variants as answer
 use Rattle.sheet.specs.Calls.{numberOf, positionOf}
 use Rattle.table.specs.declared.Table.{Table}
 use Rattle.table.specs.Moves.{lent}
-use Rattle.table.specs.declared.steps.Stepped.{Stepped}
-use Rattle.table.specs.declared.steps.Stepped.the-variants as stepped
 use Rattle.plan.specs.declared.Row.{Row}
 use Rattle.plan.specs.declared.Verdict.{Verdict}
 use Rattle.plan.specs.declared.Verdict.the-variants as verdict
@@ -21,15 +19,10 @@ use Rattle.plan.specs.Cases.{verdictAnswer, verdictPlace, verdictNumber, kindAn
 use Rattle.unit.specs.declared.Reply.{Reply}
 
 -- ---- answers
--- the answer of a step over arrays
-unfoldable pub steppedAnswer : Stepped → Answer
-steppedAnswer (stepped.To k) = answer.Accepted
-steppedAnswer (stepped.Refused number position) = answer.Refused number position
-
 -- a number that an accepted call has, 0 for a refused one
 unfoldable pub ifAccepted : Answer → ℕ → ℕ
-ifAccepted answer.Accepted n = n
-ifAccepted (answer.Refused number position) n = 0
+ifAccepted answer.Accepted extra = extra
+ifAccepted (answer.Refused number position) extra = 0
 
 -- an answer by its number and position; `extra` is the second number of info if it is accepted
 abbrev pub answerReply : Answer → ℕ → Reply
@@ -76,9 +69,9 @@ kindReply k size =
 unfoldable pub infoOf : Reply → List ℕ → List ℕ
 infoOf t info = t .position ∷ t .kind ∷ t .place ∷ t .detail ∷ drop 4 info
 
--- a slice of fewer than n numbers, or an info of fewer than 4
+-- a slice of fewer numbers than `size`, or an info of fewer than 4
 unfoldable pub tooShort : ℕ → List ℕ → List ℕ → Bool
-tooShort n xs info = ltb (length xs) n || ltb (length info) 4
+tooShort size xs info = ltb (length xs) size || ltb (length info) 4
 
 -- ---- tables
 -- the table in the first 257 numbers: the count, the masks of true propositions, those of false ones

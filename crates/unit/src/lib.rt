@@ -52,11 +52,11 @@ pub extern "C" fn krepuskilo_start(sheet: &[u8], table: &mut [u32], info: &mut [
     if info.len() < 4 {
         return 255;
     }
-    let started = table::start(sheet);
-    let answer = started.answer;
-    let first = started.table;
+    let mut trues = [0u32; ENTRIES];
+    let mut falses = [0u32; ENTRIES];
+    let started = table::start_lent(sheet, &mut trues, &mut falses);
+    let answer = numbers::write_start(table, started, &mut trues, &mut falses);
     let reply = numbers::answer_reply(answer, 0);
-    numbers::write_table(table, first);
     numbers::write_info(info, reply);
     reply.answer
 }
@@ -108,8 +108,8 @@ pub extern "C" fn krepuskilo_step(
     let mut trues = [0u32; ENTRIES];
     let mut falses = [0u32; ENTRIES];
     let stepped = numbers::step_numbers(sheet, table, index as usize, &mut trues, &mut falses);
-    let reply = numbers::answer_reply(numbers::step_answer(stepped), 0);
-    numbers::write_step(table, stepped, &trues, &falses);
+    let answer = numbers::write_step(table, stepped, &trues, &falses);
+    let reply = numbers::answer_reply(answer, 0);
     numbers::write_info(info, reply);
     reply.answer
 }

@@ -10,6 +10,7 @@ use sheet::limits::PLACES;
 use sheet::packed::wide;
 use table::Table;
 use table::slots::copy_masks;
+use table::starts::Started;
 use table::step_lent;
 use table::steps::Stepped;
 ghost use mathlib.Core.Path.{_≡_};
@@ -20,10 +21,11 @@ ghost use Rattle.sheet.specs.Lists.{collect};
 ghost use Rattle.sheet.specs.Format.{sheetOf};
 ghost use Rattle.table.specs.Calls.{stepOf};
 ghost use Rattle.table.specs.Moves.{lent, stepAnswer};
+ghost use Rattle.table.specs.Reads.{startAnswer};
 ghost use Rattle.table.specs.Slots.{Fresh};
 ghost use Rattle.plan.specs.Course.{countsIn};
 ghost use Rattle.plan.specs.Rows.{rowsIn};
-ghost use Rattle.unit.specs.Numbers.{steppedAnswer, answerReply, verdictReply, kindReply, infoOf, tableIn, tableOut, rowNumbers};
+ghost use Rattle.unit.specs.Numbers.{answerReply, verdictReply, kindReply, infoOf, tableIn, tableOut, rowNumbers};
 ghost use Rattle.sheet.specs.Limits.{mostPlaces, tableNumbers};
 
 // The numbers of a table, and where its masks begin.
@@ -52,16 +54,6 @@ pub(crate) fn answer_reply(answer: Answer, extra: u64) -> Reply
             place: 0,
             detail: 0,
         },
-    }
-}
-
-// The answer of a step over arrays.
-pub(crate) fn step_answer(stepped: Stepped) -> Answer
-    ensures { λ r. ⌜ r ≡ steppedAnswer stepped ⌝ }
-{
-    match stepped {
-        Stepped::To(_) => Answer::Accepted,
-        Stepped::Refused(number, position) => Answer::Refused(number, position),
     }
 }
 
@@ -199,22 +191,38 @@ pub(crate) fn write_entries<'a, 'b>(
     copy_masks(numbers, FALSES, falses);
 }
 
-// A table as 257 numbers. The others are kept.
-pub(crate) fn write_table(numbers: &mut [u32], table: Table)
-    requires { ⌜ (tableNumbers ≤ length (now numbers)) × (table .count < 2 ^ 32) ⌝ }
-    ensures { λ r. ⌜ now (numbers .exit) ≡ tableOut table (now (numbers .entry)) ⌝ }
+// What a start gave, written as the 257 numbers of a table; zeros for a refusal. The result is its answer.
+pub(crate) fn write_start<'a, 'b, 'c>(
+    numbers: &'a mut [u32],
+    started: Started,
+    trues: &'b mut [u32; ENTRIES],
+    falses: &'c mut [u32; ENTRIES],
+) -> Answer
+    requires { ⌜ (tableNumbers ≤ length (now numbers)) × (startAnswer started (now trues) (now falses) .table .count < 2 ^ 32) ⌝ }
+    ensures { λ r. ⌜ r ≡ startAnswer started (now (trues .entry)) (now (falses .entry)) .answer ⌝ }
+    ensures { λ r. ⌜ now (numbers .exit) ≡ tableOut (startAnswer started (now (trues .entry)) (now (falses .entry)) .table) (now (numbers .entry)) ⌝ }
 {
-    let count = table.count;
-    write_entries(numbers, count, &table.trues, &table.falses);
+    match started {
+        Started::To(count) => {
+            write_entries(numbers, count, trues, falses);
+            Answer::Accepted
+        }
+        Started::Refused(number, position) => {
+            *trues = [0u32; ENTRIES];
+            *falses = [0u32; ENTRIES];
+            write_entries(numbers, 0, trues, falses);
+            Answer::Refused(number, position)
+        }
+    }
 }
 
 // The step of a table in 257 numbers, into arrays of zeros.
-pub(crate) fn step_numbers<'a, 'b, 'c>(
+pub(crate) fn step_numbers<'a, 'b, 'c, 'd>(
     sheet: &'a [u8],
     numbers: &'b [u32],
     index: usize,
-    to_trues: &'c mut [u32],
-    to_falses: &'c mut [u32],
+    to_trues: &'c mut [u32; ENTRIES],
+    to_falses: &'d mut [u32; ENTRIES],
 ) -> Stepped
     requires { ⌜ tableNumbers ≤ length (now numbers) ⌝ }
     requires { ⌜ Fresh (now «to_trues») (now «to_falses») ⌝ }
@@ -231,19 +239,23 @@ pub(crate) fn step_numbers<'a, 'b, 'c>(
     )
 }
 
-// What a step gave, written over the 257 numbers of its table; a refusal leaves them.
+// What a step gave, written over the 257 numbers of its table; a refusal leaves them. The result is its answer.
 pub(crate) fn write_step<'a, 'b>(
     numbers: &'a mut [u32],
     stepped: Stepped,
     trues: &'b [u32; ENTRIES],
     falses: &'b [u32; ENTRIES],
-)
+) -> Answer
     requires { ⌜ (tableNumbers ≤ length (now numbers)) × (stepAnswer (tableIn (now numbers)) stepped (now trues) (now falses) .table .count < 2 ^ 32) ⌝ }
+    ensures { λ r. ⌜ r ≡ stepAnswer (tableIn (now (numbers .entry))) stepped (now (trues .entry)) (now (falses .entry)) .answer ⌝ }
     ensures { λ r. ⌜ now (numbers .exit) ≡ tableOut (stepAnswer (tableIn (now (numbers .entry))) stepped (now (trues .entry)) (now (falses .entry)) .table) (now (numbers .entry)) ⌝ }
 {
     match stepped {
-        Stepped::To(count) => write_entries(numbers, count, trues, falses),
-        Stepped::Refused(_, _) => {}
+        Stepped::To(count) => {
+            write_entries(numbers, count, trues, falses);
+            Answer::Accepted
+        }
+        Stepped::Refused(number, position) => Answer::Refused(number, position),
     }
 }
 

@@ -4,12 +4,6 @@ use borrow.Author.Needs.{needs}
 use Rattle.table.proofs.step.Statement.{statement}
 use Rattle.table.proofs.step.Tie as tie
 
-slice-aggregate-step-lent : tie.Need-slice-aggregate-step-lent
-slice-aggregate-step-lent c = search needs
-
-slice-aggregate-step-lent-2 : tie.Need-slice-aggregate-step-lent-2
-slice-aggregate-step-lent-2 c = search needs
-
 step-lent-requires : tie.Need-step-lent-requires
 step-lent-requires c κs = search needs
 
@@ -20,17 +14,15 @@ enum-known-number : tie.Need-enum-known-number
 enum-known-number c = search needs
 
 returns : tie.Need-returns
-returns c = step-by (c .before .before .before .before .before .before .before .before .before .before .before .before .before .before .args .t2) _ _ _ _ _ (c .before .count .given .1) (c .before .before .before .before .before .step-lent .ensures)
+returns c = step-by (c .before .before .before .before .before .before .before .before .before .before .before .before .args .t2) _ _ _ _ _ (c .before .count .given .1) (c .before .before .before .step-lent .ensures)
 
 returns-2 : tie.Need-returns-2
-returns-2 c = step-by (c .before .before .before .before .before .before .before .before .before .before .before .before .before .before .args .t2) _ _ _ _ _ (c .before .number .given .1) (c .before .before .before .before .before .step-lent .ensures)
+returns-2 c = step-by (c .before .before .before .before .before .before .before .before .before .before .before .before .args .t2) _ _ _ _ _ (c .before .number .given .1) (c .before .before .before .step-lent .ensures)
 
 pub step-spec : {M : Type 1} → statement M
 step-spec =
     tie.close
     (tie.spec
-    slice-aggregate-step-lent
-    slice-aggregate-step-lent-2
     step-lent-requires
     enum-known-count
     enum-known-number

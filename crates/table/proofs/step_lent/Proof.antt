@@ -32,34 +32,25 @@ returns-2 c =
 step-at-requires : tie.Need-step-at-requires
 unfolding entries
 step-at-requires c κs =
-    let t = lent (c .before .before .before .before .before .before .before .before .before .before .before .before .before .before .before .before .before .before .args .count) (c .before .before .before .before .before .before .before .before .before .before .before .before .before .before .before .before .before .before .args .trues .now) (c .before .before .before .before .before .before .before .before .before .before .before .before .before .before .before .before .before .before .args .falses .now) in
+    let t = lent (c .before .before .before .before .before .before .before .before .before .before .before .before .before .before .before .before .args .count) (c .before .before .before .before .before .before .before .before .before .before .before .before .before .before .before .before .args .trues .now) (c .before .before .before .before .before .before .before .before .before .before .before .before .before .before .before .before .args .falses .now) in
     let e = c .before .before .before .before .before .before .before .before .before .before .before .decode .ensures .0 in
     let a = c .before .before .before .before .before .before .before .before .before .enum-told .given .1 in
     let lt = c .before .before .before .before .before .before .if1 .left in
     let f = its-fits _ _ _ e t _ a lt (sym (c .before .before .before .before .before .described .ensures) ∙ not-false _ (c .before .before .before .before .if2 .left)) in
     record {
-      long = search needs;
-      move-most = its-most _ _ _ e t _ a lt;
-      effects-few = its-count _ _ _ e t _ a lt;
-      fits = f;
-      room = record { trues = omega (arith, f .entries-most, c .before .before .before .before .before .before .before .before .before .before .before .before .before .before .before .before .before .before .pre .0 .trues); falses = omega (arith, f .entries-most, c .before .before .before .before .before .before .before .before .before .before .before .before .before .before .before .before .before .before .pre .0 .falses) };
-      fresh = c .before .before .before .before .before .before .before .before .before .before .before .before .before .before .before .before .before .before .pre .1;
+      move = record { long = search needs; move-most = its-most _ _ _ e t _ a lt; effects-few = its-count _ _ _ e t _ a lt; fits = f };
+      room = record { trues = omega (arith, f .entries-most, c .before .before .before .before .before .before .before .before .before .before .before .before .before .before .before .before .pre .0 .trues); falses = omega (arith, f .entries-most, c .before .before .before .before .before .before .before .before .before .before .before .before .before .before .before .before .pre .0 .falses) };
+      fresh = c .before .before .before .before .before .before .before .before .before .before .before .before .before .before .before .before .pre .1;
     }
 
 returns-3 : tie.Need-returns-3
 returns-3 c = call-fault _ _ _ (c .before .before .before .decode .ensures .0) _ _ _ _ (c .before .answer .given .1)
 
-same-length : tie.Need-same-length
-same-length c = search needs
-
-same-length-2 : tie.Need-same-length-2
-same-length-2 c = search needs
-
 returns-4 : tie.Need-returns-4
 unfolding entries
 returns-4 c =
-    c .before .before .before .before .step-at .ensures
-    ∙ known-step _ _ _ (c .before .before .before .before .before .before .before .before .before .before .before .before .before .before .before .before .decode .ensures .0) _ _ (c .before .before .before .before .before .before .before .before .before .before .before .before .before .before .enum-told .given .1) (c .before .before .before .before .before .before .before .before .before .before .before .if1 .left) (sym (c .before .before .before .before .before .before .before .before .before .before .described .ensures) ∙ not-false _ (c .before .before .before .before .before .before .before .before .before .if2 .left))
+    c .step-at .ensures
+    ∙ known-step _ _ _ (c .before .before .before .before .before .before .before .before .before .before .before .before .decode .ensures .0) _ _ (c .before .before .before .before .before .before .before .before .before .before .enum-told .given .1) (c .before .before .before .before .before .before .before .if1 .left) (sym (c .before .before .before .before .before .before .described .ensures) ∙ not-false _ (c .before .before .before .before .before .if2 .left))
 
 pub step-lent-spec : {M : Type 1} → statement M
 step-lent-spec =
@@ -73,6 +64,4 @@ step-lent-spec =
     returns-2
     step-at-requires
     returns-3
-    same-length
-    same-length-2
     returns-4)

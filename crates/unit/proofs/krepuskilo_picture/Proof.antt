@@ -1,6 +1,7 @@
 -- `krepuskilo_picture` meets its contract: the answer of `picture` in numbers and its buffer, or 255. Assumes nothing.
 use mathlib.Core.Path.{ap, _∙_}
 use borrow.Author.Needs.{needs}
+use Rattle.sheet.specs.Limits.{tableNumbers}
 use Rattle.sheet.specs.Format.{sheetOf}
 use Rattle.table.specs.declared.Table.{Table}
 use Rattle.table.specs.PictureCalls.{bufferOf}
@@ -12,13 +13,13 @@ use Rattle.unit.proofs.krepuskilo_picture.Tie as tie
 returns : tie.Need-returns
 returns c =
     let a = c .before .before .before .before .before .args in
-    let e = lacks-first 257 (a .table .now) (a .info .now) (c .if1 .taken) in
+    let e = lacks-first tableNumbers (a .table .now) (a .info .now) (c .if1 .taken) in
     (cond-true _ _ e, (cond-true _ _ e, cond-true _ _ e))
 
 returns-2 : tie.Need-returns-2
 returns-2 c =
     let a = c .before .before .before .before .before .before .args in
-    let e = lacks-info 257 (a .table .now) (a .info .now) (c .before .if1 .left) (c .if2 .taken) in
+    let e = lacks-info tableNumbers (a .table .now) (a .info .now) (c .before .if1 .left) (c .if2 .taken) in
     (cond-true _ _ e, (cond-true _ _ e, cond-true _ _ e))
 
 table-in-requires : tie.Need-table-in-requires
@@ -44,7 +45,7 @@ returns-3 c =
     let r = c .before .before .before .before .before .before .before in
     let g = r .before .before .before in
     let a = g .before .before .before .before .before .before .args in
-    let e = lacks-none 257 (a .table .now) (a .info .now) (g .before .if1 .left) (g .if2 .left) in
+    let e = lacks-none tableNumbers (a .table .now) (a .info .now) (g .before .if1 .left) (g .if2 .left) in
     let given = r .before .before .table-in .ensures in
     let same = picture-told _ _ _ _ _ _ given (r .picture .ensures .0) (c .before .before .before .before .answer-reply .ensures) in
     let drawn = r .picture .ensures .1 ∙ ap (λ (t : Table). bufferOf (sheetOf (a .sheet .now)) t (a .buffer .now)) given in

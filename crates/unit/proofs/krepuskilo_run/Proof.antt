@@ -1,4 +1,5 @@
 -- `krepuskilo_run` meets its contract: the answer of the run in numbers, its rows and its last table, or 255. Assumes nothing.
+use Rattle.sheet.specs.Limits.{tableNumbers}
 use Rattle.sheet.proofs.base.Bools.{cond-true}
 use Rattle.unit.proofs.Answering.{second, lacks-first, lacks-info, lacks-none, byte, tables, numbers, run-told, run-table}
 use Rattle.unit.proofs.Sizes.{run-fits}
@@ -10,13 +11,13 @@ use Rattle.unit.proofs.krepuskilo_run.Tie as tie
 returns : tie.Need-returns
 returns c =
     let a = c .before .before .before .before .before .args in
-    let e = lacks-first 257 (a .table .now) (a .info .now) (c .if1 .taken) in
+    let e = lacks-first tableNumbers (a .table .now) (a .info .now) (c .if1 .taken) in
     (cond-true _ _ e, (cond-true _ _ e, (cond-true _ _ e, cond-true _ _ e)))
 
 returns-2 : tie.Need-returns-2
 returns-2 c =
     let a = c .before .before .before .before .before .before .args in
-    let e = lacks-info 257 (a .table .now) (a .info .now) (c .before .if1 .left) (c .if2 .taken) in
+    let e = lacks-info tableNumbers (a .table .now) (a .info .now) (c .before .if1 .left) (c .if2 .taken) in
     (cond-true _ _ e, (cond-true _ _ e, (cond-true _ _ e, cond-true _ _ e)))
 
 course-into-requires : tie.Need-course-into-requires
@@ -46,7 +47,7 @@ same-length-3 c = search needs
 returns-3 : tie.Need-returns-3
 returns-3 c =
     let a = c .before .before .before .before .before .before .before .before .before .before .before .before .before .before .before .before .before .before .before .before .before .before .before .before .before .before .before .before .args in
-    let e = lacks-none 257 (a .table .now) (a .info .now) (c .before .before .before .before .before .before .before .before .before .before .before .before .before .before .before .before .before .before .before .before .before .before .before .if1 .left) (c .before .before .before .before .before .before .before .before .before .before .before .before .before .before .before .before .before .before .before .before .before .before .if2 .left) in
+    let e = lacks-none tableNumbers (a .table .now) (a .info .now) (c .before .before .before .before .before .before .before .before .before .before .before .before .before .before .before .before .before .before .before .before .before .before .before .if1 .left) (c .before .before .before .before .before .before .before .before .before .before .before .before .before .before .before .before .before .before .before .before .before .before .if2 .left) in
     let d = c .before .before .before .before .before .before .before .before .before .before .before .before .before .before .before .before .before .course-into in
     let same = run-told _ (a .rows .now) _ _ (d .ensures) (c .before .before .before .before .before .before .before .before .before .before .before .before .before .before .before .before .verdict-reply .ensures) in (
       byte e _ _ same,

@@ -1,6 +1,7 @@
 -- `krepuskilo_start` meets its contract: the answer of `start` in numbers and its table, or 255. Assumes nothing.
 use mathlib.Core.Path.{ap}
 use borrow.Author.Needs.{needs}
+use Rattle.sheet.specs.Limits.{tableNumbers}
 use Rattle.table.specs.declared.TableAnswer.{TableAnswer}
 use Rattle.sheet.proofs.base.Bools.{cond-true}
 use Rattle.unit.proofs.Answering.{lacks-first, lacks-info, lacks-none, byte, tables, numbers, start-told}
@@ -11,23 +12,23 @@ use Rattle.unit.proofs.krepuskilo_start.Tie as tie
 returns : tie.Need-returns
 returns c =
     let a = c .before .before .before .before .args in
-    let e = lacks-first 257 (a .table .now) (a .info .now) (c .if1 .taken) in
+    let e = lacks-first tableNumbers (a .table .now) (a .info .now) (c .if1 .taken) in
     (cond-true _ _ e, (cond-true _ _ e, cond-true _ _ e))
 
 returns-2 : tie.Need-returns-2
 returns-2 c =
     let a = c .before .before .before .before .before .args in
-    let e = lacks-info 257 (a .table .now) (a .info .now) (c .before .if1 .left) (c .if2 .taken) in
+    let e = lacks-info tableNumbers (a .table .now) (a .info .now) (c .before .if1 .left) (c .if2 .taken) in
     (cond-true _ _ e, (cond-true _ _ e, cond-true _ _ e))
 
-start-requires : tie.Need-start-requires
-start-requires c κs = search needs
+start-lent-requires : tie.Need-start-lent-requires
+start-lent-requires c κs = search needs
+
+write-start-requires : tie.Need-write-start-requires
+write-start-requires c κs = (c .before .before .before .before .before .before .before .if1 .left, start-fits _ _ (c .before .before .before .start-lent .ensures))
 
 answer-reply-requires : tie.Need-answer-reply-requires
 answer-reply-requires c κs = search needs
-
-write-table-requires : tie.Need-write-table-requires
-write-table-requires c κs = (c .before .before .before .before .before .if1 .left, start-fits _ _ (c .before .before .before .start .ensures))
 
 write-info-requires : tie.Need-write-info-requires
 write-info-requires c κs = search needs
@@ -40,11 +41,12 @@ same-length-2 c = search needs
 
 returns-3 : tie.Need-returns-3
 returns-3 c =
-    let r = c .before .before .before .before .before .before .before .before .before .before in
-    let a = r .before .before .before .before .before .before .args in
-    let e = lacks-none 257 (a .table .now) (a .info .now) (r .before .before .if1 .left) (r .before .if2 .left) in
-    let same = start-told _ _ _ (r .start .ensures) (c .before .before .before .before .before .before .before .before .answer-reply .ensures) in
-    (byte e _ _ same, (tables e _ _ _ _ (ap (λ (x : TableAnswer). x .table) (r .start .ensures)) (c .before .before .before .before .before .before .write-table .ensures), numbers e _ _ same _ _ (c .before .before .write-info .ensures)))
+    let a = c .before .before .before .before .before .before .before .before .before .before .before .before .before .before .before .before .before .before .before .args in
+    let e = lacks-none tableNumbers (a .table .now) (a .info .now) (c .before .before .before .before .before .before .before .before .before .before .before .before .before .before .before .if1 .left) (c .before .before .before .before .before .before .before .before .before .before .before .before .before .before .if2 .left) in
+    let d = c .before .before .before .before .before .before .before .before .before .before .before .start-lent .ensures in
+    let w = c .before .before .before .before .before .before .before .write-start .ensures in
+    let same = start-told (a .sheet .now) _ _ _ d (w .0) (c .before .before .before .before .answer-reply .ensures) in
+    (byte e _ _ same, (tables e _ _ _ _ (ap (λ (x : TableAnswer). x .table) d) (w .1), numbers e _ _ same _ _ (c .before .before .write-info .ensures)))
 
 pub krepuskilo-start-spec : {M : Type 1} → statement M
 krepuskilo-start-spec =
@@ -52,9 +54,9 @@ krepuskilo-start-spec =
     (tie.spec
     returns
     returns-2
-    start-requires
+    start-lent-requires
+    write-start-requires
     answer-reply-requires
-    write-table-requires
     write-info-requires
     same-length
     same-length-2

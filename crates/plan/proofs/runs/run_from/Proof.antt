@@ -11,17 +11,17 @@ use Rattle.table.specs.Slots.{entries as tableEntries}
 use Rattle.table.specs.Moves.{lent}
 use Rattle.plan.specs.Course.{countsIn, courseFrom}
 use Rattle.plan.proofs.Courses.{ready-count}
-use Rattle.plan.proofs.Beginning.{slots-room, can-step}
+use Rattle.plan.proofs.Beginning.{slots-room, move-fits}
 use Rattle.plan.proofs.PlanRuns.{left, Going, going-start, going-room, going-end, number-below, going-on, going-halt, no-rows}
 use Rattle.plan.proofs.runs.run_from.Statement.{statement}
 use Rattle.plan.proofs.runs.run_from.Tie as tie
 
 abbrev Inv-loop : tie.InvT-loop
-Inv-loop packed trues₀ falses₀ count entries₀ clauses₀ plan length size₀ i₀ trues falses entries clauses size i =
-    Going plan packed (courseFrom (setsIn (goalIn packed)) [] 0 (left plan packed 0) (tableEntries (lent count trues₀ falses₀))) i (lent size trues falses) (countsIn i entries clauses)
+Inv-loop packed trues₀ falses₀ count entries₀ clauses₀ plan length filled₀ i₀ trues falses entries clauses filled i =
+    Going plan packed (courseFrom (setsIn (goalIn packed)) [] 0 (left plan packed 0) (tableEntries (lent count trues₀ falses₀))) i (lent filled trues falses) (countsIn i entries clauses)
 
 abbrev μ-loop : tie.MeasureT-loop
-μ-loop packed trues₀ falses₀ count entries₀ clauses₀ plan length size₀ i₀ trues falses entries clauses size i = length - i
+μ-loop packed trues₀ falses₀ count entries₀ clauses₀ plan length filled₀ i₀ trues falses entries clauses filled i = length - i
 
 loop-holds : tie.Need-loop-holds Inv-loop μ-loop
 loop-holds c =
@@ -49,10 +49,10 @@ step-here-requires c κs =
     let v = c .before .before .before .before .before .before .before .before .before .before .before .loop .inv in
     let h = v .can .fits in
     let l = number-below (v .can) (v .long) (c .before .before .before .before .before .before .before .before .before .before .loop-test .taken) in
-    record { long = h .long; most = omega (arith, l, h .most); effects-few = h .effects-most _ l; fits = can-step h l }
+    move-fits h l
 
-enum-known-k : tie.Need-enum-known-k Inv-loop μ-loop
-enum-known-k c = search needs
+enum-known-grown : tie.Need-enum-known-grown Inv-loop μ-loop
+enum-known-grown c = search needs
 
 enum-known-number : tie.Need-enum-known-number Inv-loop μ-loop
 enum-known-number c = search needs
@@ -72,7 +72,7 @@ loop-less c = search needs
 
 loop-again : tie.Need-loop-again Inv-loop μ-loop
 unfolding tableEntries
-loop-again c = going-on (c .before .before .before .before .before .before .before .before .before .before .before .before .before .before .before .loop .inv) (c .before .before .before .before .before .before .before .before .before .before .before .before .before .before .loop-test .taken) _ _ _ (c .before .before .before .step-here .ensures) (c .before .before .before .before .before .before .before .note .ensures) (c .before .k .given .1)
+loop-again c = going-on (c .before .before .before .before .before .before .before .before .before .before .before .before .before .before .before .loop .inv) (c .before .before .before .before .before .before .before .before .before .before .before .before .before .before .loop-test .taken) _ _ _ (c .before .before .before .step-here .ensures) (c .before .before .before .before .before .before .before .note .ensures) (c .before .grown .given .1)
 
 note-requires-2 : tie.Need-note-requires-2 Inv-loop μ-loop
 note-requires-2 c κs =
@@ -110,7 +110,7 @@ run-from-spec =
     element-copy-out-index
     cast-index
     step-here-requires
-    enum-known-k
+    enum-known-grown
     enum-known-number
     halt-requires
     returns

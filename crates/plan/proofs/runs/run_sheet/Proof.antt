@@ -35,7 +35,7 @@ returns-2 c =
     let a = c .before .before .before .before .before .before .before .before .before .before .before .args in
     in-zeros (c .refuse-run .result) (record { trues = refl; falses = refl }) (c .before .before .before .before .before .before .before .before .before .before .before .pre .fresh-rows)
     ∙ c .refuse-run .ensures
-    ∙ run-stops (a .sheet) (a .packed .now) (c .before .before .before .before .before .before .before .before .before .before .before .pre .filled) _ _ _ (c .before .before .before .before .before .before .first-into .ensures) _ (c .before .before .before .before .number .given .1)
+    ∙ run-stops (a .sheet) (a .packed .now) (c .before .before .before .before .before .before .before .before .before .before .before .pre .filled) _ _ _ (c .before .before .before .before .before .before .first-into .ensures) _ _ (c .before .before .before .before .number .given .1)
 
 pub run-sheet-spec : {M : Type 1} → statement M
 run-sheet-spec =

@@ -7,46 +7,35 @@ use borrow.Author.Needs.{needs}
 use Rattle.plan.proofs.runs.step_here.Statement.{statement}
 use Rattle.plan.proofs.runs.step_here.Tie as tie
 
-slice-aggregate-step-at : tie.Need-slice-aggregate-step-at
-slice-aggregate-step-at c = search needs
-
-slice-aggregate-step-at-2 : tie.Need-slice-aggregate-step-at-2
-slice-aggregate-step-at-2 c = search needs
-
 step-at-requires : tie.Need-step-at-requires
 step-at-requires c κs =
     let h = c .before .before .before .before .before .before .before .pre in
     let k : length (c .before .before .before .before .before .before .before .args .trues .now) ≡ 128 = search needs in
     let l : length (c .before .before .before .before .before .before .before .args .falses .now) ≡ 128 = search needs in
     record {
-      long = h .long;
-      move-most = h .most;
-      effects-few = h .effects-few;
-      fits = h .fits;
+      move = h;
       room = record { trues = omega (arith, k, h .fits .entries-most); falses = omega (arith, l, h .fits .entries-most) };
       fresh = record { trues = refl; falses = refl };
     }
 
-enum-known-k : tie.Need-enum-known-k
-enum-known-k c = search needs
+enum-known-filled : tie.Need-enum-known-filled
+enum-known-filled c = search needs
 
 enum-known-number : tie.Need-enum-known-number
 enum-known-number c = search needs
 
 returns : tie.Need-returns
-returns c = step-as _ _ _ (c .before .before .before .before .before .step-at .ensures) (c .before .k .given .1)
+returns c = step-as _ _ _ (c .before .before .before .step-at .ensures) (c .before .filled .given .1)
 
 returns-2 : tie.Need-returns-2
-returns-2 c = step-as _ _ _ (c .before .before .before .before .before .step-at .ensures) (c .before .number .given .1)
+returns-2 c = step-as _ _ _ (c .before .before .before .step-at .ensures) (c .before .number .given .1)
 
 pub step-here-spec : {M : Type 1} → statement M
 step-here-spec =
     tie.close
     (tie.spec
-    slice-aggregate-step-at
-    slice-aggregate-step-at-2
     step-at-requires
-    enum-known-k
+    enum-known-filled
     enum-known-number
     returns
     returns-2)

@@ -11,7 +11,7 @@ use Rattle.plan.specs.Search.{nothing}
 use Rattle.plan.specs.Walks.{firstBy}
 use Rattle.plan.proofs.FirstAnswers.{firstBelow}
 use Rattle.plan.proofs.Walking.{no-answer, at-goal, at-short, not-yet, found-now, none-at-all}
-use Rattle.plan.proofs.Beginning.{slots-room, storable, can-step, ready-after, quiet-next, begun-same, begun-ended, begun-not, begun-full, begun-stopped}
+use Rattle.plan.proofs.Beginning.{trues-long, falses-long, slots-room, storable, move-fits, ready-after, quiet-next, begun-same, begun-ended, begun-not, begun-full, begun-stopped}
 use Rattle.plan.specs.Memory.{Remembers}
 use Rattle.plan.proofs.Remembering.{skip, entered, tried}
 use lib.ListN.{length}
@@ -85,63 +85,57 @@ try-plans-claims t = (
   is-end-reads.Learnt,
 )
 
-try-move-slice-aggregate-step-at : (t : ℕ) → try-move-lts.Need-slice-aggregate-step-at (try-move-claims t) (try-move-at t) try-move.Post
-try-move-slice-aggregate-step-at t c = search needs
-
-try-move-slice-aggregate-step-at-2 : (t : ℕ) → try-move-lts.Need-slice-aggregate-step-at-2 (try-move-claims t) (try-move-at t) try-move.Post
-try-move-slice-aggregate-step-at-2 t c = search needs
-
 try-move-step-at-requires : (t : ℕ) → try-move-lts.Need-step-at-requires (try-move-claims t) (try-move-at t) try-move.Post
 try-move-step-at-requires t c κs =
-    let h = c .before .before .before .before .before .before .pre .1 .0 .can in
-    let l = c .before .before .before .before .before .before .pre .1 .1 .1 in
-    record { long = h .long; move-most = omega (arith, l, h .most); effects-few = h .effects-most _ l; fits = can-step h l; room = slots-room h; fresh = record { trues = refl; falses = refl } }
+    let h = c .before .before .before .before .before .before .pre .1 .underway .can in
+    let l = c .before .before .before .before .before .before .pre .1 .below in
+    record { move = move-fits h l; room = slots-room h; fresh = record { trues = refl; falses = refl } }
 
 try-move-sub-left : (t : ℕ) → try-move-lts.Need-sub-left (try-move-claims t) (try-move-at t) try-move.Post
-try-move-sub-left t c = omega (arith, c .before .before .before .before .before .before .before .before .before .before .pre .1 .1 .0)
+try-move-sub-left t c = omega (arith, c .before .before .before .before .before .before .before .before .pre .1 .some-left)
 
 try-move-enum-known-stepped : (t : ℕ) → try-move-lts.Need-enum-known-stepped (try-move-claims t) (try-move-at t) try-move.Post
 try-move-enum-known-stepped t c = search needs
 
 try-move-slice-aggregate-same : (t : ℕ) → try-move-lts.Need-slice-aggregate-same (try-move-claims t) (try-move-at t) try-move.Post
-try-move-slice-aggregate-same t c = search needs
+try-move-slice-aggregate-same t c = let h = c .before .before .before .before .before .before .before .before .before .before .before .before .pre .1 in sym (trues-long (ready-after (h .underway .can) (h .below) _ _ _ (c .before .before .before .before .before .step-at .ensures) (c .before .before .stepped .given .1)))
 
 try-move-slice-aggregate-same-2 : (t : ℕ) → try-move-lts.Need-slice-aggregate-same-2 (try-move-claims t) (try-move-at t) try-move.Post
-try-move-slice-aggregate-same-2 t c = search needs
+try-move-slice-aggregate-same-2 t c = let h = c .before .before .before .before .before .before .before .before .before .before .before .before .before .pre .1 in sym (falses-long (ready-after (h .underway .can) (h .below) _ _ _ (c .before .before .before .before .before .before .step-at .ensures) (c .before .before .before .stepped .given .1)))
 
 try-move-same-requires : (t : ℕ) → try-move-lts.Need-same-requires (try-move-claims t) (try-move-at t) try-move.Post
 try-move-same-requires t c κs =
-    let h = c .before .before .before .before .before .before .before .before .before .before .before .before .before .before .before .pre .1 .0 .can in
-    (slots-room (ready-after h (c .before .before .before .before .before .before .before .before .before .before .before .before .before .before .before .pre .1 .1 .1) _ _ _ (c .before .before .before .before .before .before .before .before .step-at .ensures) (c .before .before .before .stepped .given .1)), slots-room h)
+    let h = c .before .before .before .before .before .before .before .before .before .before .before .before .before .pre .1 .underway .can in
+    (slots-room (ready-after h (c .before .before .before .before .before .before .before .before .before .before .before .before .before .pre .1 .below) _ _ _ (c .before .before .before .before .before .before .step-at .ensures) (c .before .before .before .stepped .given .1)), slots-room h)
 
 try-move-none-requires : (t : ℕ) → try-move-lts.Need-none-requires (try-move-claims t) (try-move-at t) try-move.Post
 try-move-none-requires t c κs = search needs
 
 try-move-returns : (t : ℕ) → try-move-lts.Need-returns (try-move-claims t) (try-move-at t) try-move.Post
 try-move-returns t c =
-    let d = c .before .before .before .before .before .before .before .before .before .before .before .before .before .before .before .before .before .before .args .depth in
-    (begun-same (c .before .before .before .before .before .before .before .before .before .before .before .before .before .before .before .before .before .before .pre .1 .0 .can) (c .before .before .before .before .before .before .before .before .before .before .before .before .before .before .before .before .before .before .pre .1 .1 .1) _ _ _ (c .before .before .before .before .before .before .before .before .before .before .before .step-at .ensures) (c .before .before .before .before .before .before .stepped .given .1) (d .at) (d .left - 1) (λ p i l. c .before .before .before .before .before .before .before .before .before .before .before .before .before .before .before .before .before .before .pre .1 .0 .no-shorter p i (omega (arith, l, c .before .before .before .before .before .before .before .before .before .before .before .before .before .before .before .before .before .before .pre .1 .1 .0))) (c .before .before .same .ensures (c .before .if1 .taken)) (c .none .ensures), c .before .before .before .before .before .before .before .before .before .before .before .before .before .before .before .before .before .before .pre .1 .0 .remembers)
+    let d = c .before .before .before .before .before .before .before .before .before .before .before .before .before .before .before .before .args .depth in
+    (begun-same (c .before .before .before .before .before .before .before .before .before .before .before .before .before .before .before .before .pre .1 .underway .can) (c .before .before .before .before .before .before .before .before .before .before .before .before .before .before .before .before .pre .1 .below) _ _ _ (c .before .before .before .before .before .before .before .before .before .step-at .ensures) (c .before .before .before .before .before .before .stepped .given .1) (d .at) (d .left - 1) (λ p i l. c .before .before .before .before .before .before .before .before .before .before .before .before .before .before .before .before .pre .1 .underway .no-shorter p i (omega (arith, l, c .before .before .before .before .before .before .before .before .before .before .before .before .before .before .before .before .pre .1 .some-left))) (c .before .before .same .ensures (c .before .if1 .taken)) (c .none .ensures), c .before .before .before .before .before .before .before .before .before .before .before .before .before .before .before .before .pre .1 .underway .remembers)
 
-try-move-add-t27 : (t : ℕ) → try-move-lts.Need-add-t27 (try-move-claims t) (try-move-at t) try-move.Post
-try-move-add-t27 t c = omega (arith, c .before .before .before .before .before .before .before .before .before .before .before .before .before .before .before .before .before .pre .1 .0 .most, c .before .before .before .before .before .before .before .before .before .before .before .before .before .before .before .before .before .pre .1 .1 .0)
+try-move-add-t25 : (t : ℕ) → try-move-lts.Need-add-t25 (try-move-claims t) (try-move-at t) try-move.Post
+try-move-add-t25 t c = let z = c .before .before .before .before .before .before .before .before .before .before .before .before .before .before .before in omega (arith, z .pre .1 .underway .most, z .pre .1 .some-left)
 
 try-move-slice-aggregate-try-plans : (t : ℕ) → try-move-lts.Need-slice-aggregate-try-plans (try-move-claims t) (try-move-at t) try-move.Post
-try-move-slice-aggregate-try-plans t c = search needs
+try-move-slice-aggregate-try-plans t c = let h = c .before .before .before .before .before .before .before .before .before .before .before .before .before .before .before .before .pre .1 in sym (trues-long (ready-after (h .underway .can) (h .below) _ _ _ (c .before .before .before .before .before .before .before .before .before .step-at .ensures) (c .before .before .before .before .before .before .stepped .given .1)))
 
 try-move-slice-aggregate-try-plans-2 : (t : ℕ) → try-move-lts.Need-slice-aggregate-try-plans-2 (try-move-claims t) (try-move-at t) try-move.Post
-try-move-slice-aggregate-try-plans-2 t c = search needs
+try-move-slice-aggregate-try-plans-2 t c = let h = c .before .before .before .before .before .before .before .before .before .before .before .before .before .before .before .before .before .pre .1 in sym (falses-long (ready-after (h .underway .can) (h .below) _ _ _ (c .before .before .before .before .before .before .before .before .before .before .step-at .ensures) (c .before .before .before .before .before .before .before .stepped .given .1)))
 
 try-move-try-plans-requires : (t : ℕ) → try-move-lts.Need-try-plans-requires (try-move-claims t) (try-move-at t) try-move.Post
 try-move-try-plans-requires t c κs =
-    let d = c .before .before .before .before .before .before .before .before .before .before .before .before .before .before .before .before .before .before .before .before .args .depth in
-    let h = c .before .before .before .before .before .before .before .before .before .before .before .before .before .before .before .before .before .before .before .before .pre .1 .0 .can in
-    let l = c .before .before .before .before .before .before .before .before .before .before .before .before .before .before .before .before .before .before .before .before .pre .1 .1 .1 in (
-      omega (arith, c .before .before .before .before .before .before .before .before .before .before .before .before .before .before .before .before .before .before .before .before .pre .1 .1 .0),
+    let d = c .before .before .before .before .before .before .before .before .before .before .before .before .before .before .before .before .before .before .args .depth in
+    let h = c .before .before .before .before .before .before .before .before .before .before .before .before .before .before .before .before .before .before .pre .1 .underway .can in
+    let l = c .before .before .before .before .before .before .before .before .before .before .before .before .before .before .before .before .before .before .pre .1 .below in (
+      omega (arith, c .before .before .before .before .before .before .before .before .before .before .before .before .before .before .before .before .before .before .pre .1 .some-left),
       record {
-        can = ready-after h l _ _ _ (c .before .before .before .before .before .before .before .before .before .before .before .before .before .step-at .ensures) (c .before .before .before .before .before .before .before .before .stepped .given .1);
-        most = omega (arith, c .before .before .before .before .before .before .before .before .before .before .before .before .before .before .before .before .before .before .before .before .pre .1 .0 .most, c .before .before .before .before .before .before .before .before .before .before .before .before .before .before .before .before .before .before .before .before .pre .1 .1 .0);
-        no-shorter = quiet-next h l _ _ _ (c .before .before .before .before .before .before .before .before .before .before .before .before .before .step-at .ensures) (c .before .before .before .before .before .before .before .before .stepped .given .1) (d .at) (d .left - 1) (λ p i l. c .before .before .before .before .before .before .before .before .before .before .before .before .before .before .before .before .before .before .before .before .pre .1 .0 .no-shorter p i (omega (arith, l, c .before .before .before .before .before .before .before .before .before .before .before .before .before .before .before .before .before .before .before .before .pre .1 .1 .0)));
-        remembers = c .before .before .before .before .before .before .before .before .before .before .before .before .before .before .before .before .before .before .before .before .pre .1 .0 .remembers;
+        can = ready-after h l _ _ _ (c .before .before .before .before .before .before .before .before .before .before .before .step-at .ensures) (c .before .before .before .before .before .before .before .before .stepped .given .1);
+        most = omega (arith, c .before .before .before .before .before .before .before .before .before .before .before .before .before .before .before .before .before .before .pre .1 .underway .most, c .before .before .before .before .before .before .before .before .before .before .before .before .before .before .before .before .before .before .pre .1 .some-left);
+        no-shorter = quiet-next h l _ _ _ (c .before .before .before .before .before .before .before .before .before .before .before .step-at .ensures) (c .before .before .before .before .before .before .before .before .stepped .given .1) (d .at) (d .left - 1) (λ p i l. c .before .before .before .before .before .before .before .before .before .before .before .before .before .before .before .before .before .before .pre .1 .underway .no-shorter p i (omega (arith, l, c .before .before .before .before .before .before .before .before .before .before .before .before .before .before .before .before .before .before .pre .1 .some-left)));
+        remembers = c .before .before .before .before .before .before .before .before .before .before .before .before .before .before .before .before .before .before .pre .1 .underway .remembers;
       },
     )
 
@@ -149,21 +143,21 @@ try-move-is-end-requires : (t : ℕ) → try-move-lts.Need-is-end-requires (try-
 try-move-is-end-requires t c κs = search needs
 
 try-move-cast-r : (t : ℕ) → try-move-lts.Need-cast-r (try-move-claims t) (try-move-at t) try-move.Post
-try-move-cast-r t c = omega (arith, c .before .before .before .before .before .before .before .before .before .before .before .before .before .before .before .before .before .before .before .before .before .before .before .before .before .pre .1 .1 .1, c .before .before .before .before .before .before .before .before .before .before .before .before .before .before .before .before .before .before .before .before .before .before .before .before .before .pre .1 .0 .can .most)
+try-move-cast-r t c = omega (arith, c .before .before .before .before .before .before .before .before .before .before .before .before .before .before .before .before .before .before .before .before .before .before .before .pre .1 .below, c .before .before .before .before .before .before .before .before .before .before .before .before .before .before .before .before .before .before .before .before .before .before .before .pre .1 .underway .can .most)
 
 try-move-element-write-r : (t : ℕ) → try-move-lts.Need-element-write-r (try-move-claims t) (try-move-at t) try-move.Post
-try-move-element-write-r t c = omega (arith, c .before .before .before .before .before .before .before .before .before .before .before .before .before .before .before .before .before .before .before .before .before .before .before .before .before .pre .1 .0 .most, c .before .before .before .before .before .before .before .before .before .before .before .before .before .before .before .before .before .before .before .before .before .before .before .before .before .pre .1 .1 .0)
+try-move-element-write-r t c = omega (arith, c .before .before .before .before .before .before .before .before .before .before .before .before .before .before .before .before .before .before .before .before .before .before .before .pre .1 .underway .most, c .before .before .before .before .before .before .before .before .before .before .before .before .before .before .before .before .before .before .before .before .before .before .before .pre .1 .some-left)
 
 try-move-enum-known-stepped-2 : (t : ℕ) → try-move-lts.Need-enum-known-stepped-2 (try-move-claims t) (try-move-at t) try-move.Post
 try-move-enum-known-stepped-2 t c = search needs
 
 try-move-full-requires : (t : ℕ) → try-move-lts.Need-full-requires (try-move-claims t) (try-move-at t) try-move.Post
-try-move-full-requires t c κs = (omega (arith, c .before .before .before .before .before .before .before .before .before .before .before .before .before .before .pre .1 .0 .most, c .before .before .before .before .before .before .before .before .before .before .before .before .before .before .pre .1 .1 .0), omega (arith, c .before .before .before .before .before .before .before .before .before .before .before .before .before .before .pre .1 .1 .1, c .before .before .before .before .before .before .before .before .before .before .before .before .before .before .pre .1 .0 .can .most))
+try-move-full-requires t c κs = (omega (arith, c .before .before .before .before .before .before .before .before .before .before .before .before .pre .1 .underway .most, c .before .before .before .before .before .before .before .before .before .before .before .before .pre .1 .some-left), omega (arith, c .before .before .before .before .before .before .before .before .before .before .before .before .pre .1 .below, c .before .before .before .before .before .before .before .before .before .before .before .before .pre .1 .underway .can .most))
 
 try-move-returns-2 : (t : ℕ) → try-move-lts.Need-returns-2 (try-move-claims t) (try-move-at t) try-move.Post
 try-move-returns-2 t c =
-    let d = c .before .before .before .before .before .before .before .before .before .before .before .before .before .before .before .args .depth in
-    (begun-full (c .before .before .before .before .before .before .before .before .before .before .before .before .before .before .before .pre .1 .0 .can) (c .before .before .before .before .before .before .before .before .before .before .before .before .before .before .before .pre .1 .1 .1) _ _ _ (c .before .before .before .before .before .before .before .before .step-at .ensures) (c .before .before .before .stepped2 .given .1) (d .at) (d .left - 1) (c .before .if3 .taken) (c .full .ensures), c .before .before .before .before .before .before .before .before .before .before .before .before .before .before .before .pre .1 .0 .remembers)
+    let d = c .before .before .before .before .before .before .before .before .before .before .before .before .before .args .depth in
+    (begun-full (c .before .before .before .before .before .before .before .before .before .before .before .before .before .pre .1 .underway .can) (c .before .before .before .before .before .before .before .before .before .before .before .before .before .pre .1 .below) _ _ _ (c .before .before .before .before .before .before .step-at .ensures) (c .before .before .before .stepped2 .given .1) (d .at) (d .left - 1) (c .before .if3 .taken) (c .full .ensures), c .before .before .before .before .before .before .before .before .before .before .before .before .before .pre .1 .underway .remembers)
 
 try-move-none-requires-2 : (t : ℕ) → try-move-lts.Need-none-requires-2 (try-move-claims t) (try-move-at t) try-move.Post
 try-move-none-requires-2 t c κs = search needs
@@ -173,21 +167,21 @@ try-move-same-length t c = search needs
 
 try-move-returns-3 : (t : ℕ) → try-move-lts.Need-returns-3 (try-move-claims t) (try-move-at t) try-move.Post
 try-move-returns-3 t c =
-    let d = c .before .before .before .before .before .before .before .before .before .before .before .before .before .before .before .before .before .before .before .before .before .before .before .before .before .args .depth in
-    (begun-ended (c .before .before .before .before .before .before .before .before .before .before .before .before .before .before .before .before .before .before .before .before .before .before .before .before .before .pre .1 .0 .can) (c .before .before .before .before .before .before .before .before .before .before .before .before .before .before .before .before .before .before .before .before .before .before .before .before .before .pre .1 .1 .1) _ _ _ (c .before .before .before .before .before .before .before .before .before .before .before .before .before .before .before .before .before .before .step-at .ensures) (c .before .before .before .before .before .before .before .before .before .before .before .before .before .stepped .given .1) (d .at) (d .left - 1) (c .before .before .before .before .try-plans .ensures .0) (sym (c .before .is-end .ensures) ∙ c .if2 .taken), c .before .before .before .before .try-plans .ensures .1)
+    let d = c .before .before .before .before .before .before .before .before .before .before .before .before .before .before .before .before .before .before .before .before .before .before .before .args .depth in
+    (begun-ended (c .before .before .before .before .before .before .before .before .before .before .before .before .before .before .before .before .before .before .before .before .before .before .before .pre .1 .underway .can) (c .before .before .before .before .before .before .before .before .before .before .before .before .before .before .before .before .before .before .before .before .before .before .before .pre .1 .below) _ _ _ (c .before .before .before .before .before .before .before .before .before .before .before .before .before .before .before .before .step-at .ensures) (c .before .before .before .before .before .before .before .before .before .before .before .before .before .stepped .given .1) (d .at) (d .left - 1) (c .before .before .before .before .try-plans .ensures .0) (sym (c .before .is-end .ensures) ∙ c .if2 .taken), c .before .before .before .before .try-plans .ensures .1)
 
 try-move-same-length-2 : (t : ℕ) → try-move-lts.Need-same-length-2 (try-move-claims t) (try-move-at t) try-move.Post
 try-move-same-length-2 t c = search needs
 
 try-move-returns-4 : (t : ℕ) → try-move-lts.Need-returns-4 (try-move-claims t) (try-move-at t) try-move.Post
 try-move-returns-4 t c =
-    let d = c .before .before .before .before .before .before .before .before .before .before .before .before .before .before .before .before .before .before .before .before .before .before .before .before .before .args .depth in
-    (begun-not (c .before .before .before .before .before .before .before .before .before .before .before .before .before .before .before .before .before .before .before .before .before .before .before .before .before .pre .1 .0 .can) (c .before .before .before .before .before .before .before .before .before .before .before .before .before .before .before .before .before .before .before .before .before .before .before .before .before .pre .1 .1 .1) _ _ _ (c .before .before .before .before .before .before .before .before .before .before .before .before .before .before .before .before .before .before .step-at .ensures) (c .before .before .before .before .before .before .before .before .before .before .before .before .before .stepped .given .1) (d .at) (d .left - 1) (c .before .before .before .before .try-plans .ensures .0) (sym (c .before .is-end .ensures) ∙ c .if2 .left), c .before .before .before .before .try-plans .ensures .1)
+    let d = c .before .before .before .before .before .before .before .before .before .before .before .before .before .before .before .before .before .before .before .before .before .before .before .args .depth in
+    (begun-not (c .before .before .before .before .before .before .before .before .before .before .before .before .before .before .before .before .before .before .before .before .before .before .before .pre .1 .underway .can) (c .before .before .before .before .before .before .before .before .before .before .before .before .before .before .before .before .before .before .before .before .before .before .before .pre .1 .below) _ _ _ (c .before .before .before .before .before .before .before .before .before .before .before .before .before .before .before .before .step-at .ensures) (c .before .before .before .before .before .before .before .before .before .before .before .before .before .stepped .given .1) (d .at) (d .left - 1) (c .before .before .before .before .try-plans .ensures .0) (sym (c .before .is-end .ensures) ∙ c .if2 .left), c .before .before .before .before .try-plans .ensures .1)
 
 try-move-returns-5 : (t : ℕ) → try-move-lts.Need-returns-5 (try-move-claims t) (try-move-at t) try-move.Post
 try-move-returns-5 t c =
-    let d = c .before .before .before .before .before .before .before .before .before .before .before .before .before .before .before .args .depth in
-    (begun-stopped (c .before .before .before .before .before .before .before .before .before .before .before .before .before .before .before .pre .1 .0 .can) (c .before .before .before .before .before .before .before .before .before .before .before .before .before .before .before .pre .1 .1 .1) _ _ _ (c .before .before .before .before .before .before .before .before .step-at .ensures) (c .before .before .before .stepped2 .given .1) (d .at) (d .left - 1) (c .before .if3 .left) (c .none2 .ensures), c .before .before .before .before .before .before .before .before .before .before .before .before .before .before .before .pre .1 .0 .remembers)
+    let d = c .before .before .before .before .before .before .before .before .before .before .before .before .before .args .depth in
+    (begun-stopped (c .before .before .before .before .before .before .before .before .before .before .before .before .before .pre .1 .underway .can) (c .before .before .before .before .before .before .before .before .before .before .before .before .before .pre .1 .below) _ _ _ (c .before .before .before .before .before .before .step-at .ensures) (c .before .before .before .stepped2 .given .1) (d .at) (d .left - 1) (c .before .if3 .left) (c .none2 .ensures), c .before .before .before .before .before .before .before .before .before .before .before .before .before .pre .1 .underway .remembers)
 
 abbrev try-plans-Inv-loop : try-plans-lts.InvT-loop
 try-plans-Inv-loop packed depth trues falses count memory₀ left move-count index₀ memory index =
@@ -259,8 +253,14 @@ try-plans-loop-holds t c =
 try-plans-try-move-requires : (t : ℕ) → try-plans-lts.Need-try-move-requires (try-plans-claims t) (try-plans-at t) try-plans.Post try-plans-Inv-loop try-plans-μ-loop
 try-plans-try-move-requires t c κs =
     let h = c .before .before .before .before .before .before .before .before .before .before .before .before .before .before .before .pre .1 in
-    let n = c .before .before .before .before .before .before .before .before .before .before .if1 .left in
-    (omega (arith, n), (record { can = h .can; most = h .most; no-shorter = h .no-shorter; remembers = c .before .before .loop .inv .3 }, (omega (arith, n), omega arith)))
+    let n = c .before .before .before .before .before .before .before .before .before .before .if1 .left in (
+      omega (arith, n),
+      record {
+        underway = record { can = h .can; most = h .most; no-shorter = h .no-shorter; remembers = c .before .before .loop .inv .3 };
+        some-left = omega (arith, n);
+        below = omega arith;
+      },
+    )
 
 try-plans-is-end-requires : (t : ℕ) → try-plans-lts.Need-is-end-requires (try-plans-claims t) (try-plans-at t) try-plans.Post try-plans-Inv-loop try-plans-μ-loop
 try-plans-is-end-requires t c κs = search needs
@@ -320,8 +320,6 @@ pub +try-move+try-plans-spec : {M : Type 1} → statement M
 +try-move+try-plans-spec = close μ-try-move μ-try-plans (λ t. try-move-lts.spec (try-move-claims t)
     (try-move-at t)
     try-move.Post
-    (try-move-slice-aggregate-step-at t)
-    (try-move-slice-aggregate-step-at-2 t)
     (try-move-step-at-requires t)
     (try-move-sub-left t)
     (try-move-enum-known-stepped t)
@@ -330,7 +328,7 @@ pub +try-move+try-plans-spec : {M : Type 1} → statement M
     (try-move-same-requires t)
     (try-move-none-requires t)
     (try-move-returns t)
-    (try-move-add-t27 t)
+    (try-move-add-t25 t)
     (try-move-slice-aggregate-try-plans t)
     (try-move-slice-aggregate-try-plans-2 t)
     (try-move-try-plans-requires t)

@@ -17,7 +17,7 @@ use Rattle.sheet.proofs.masks.next.Reads as next-reads
 use Rattle.table.specs.declared.slots.Grown.the-variants as grown
 use Rattle.sheet.specs.Packed.{setsAt}
 use Rattle.table.specs.Start.{falsify}
-use Rattle.table.proofs.Pads.{holds-trues-long, holds-falses-long, held-own}
+use Rattle.table.proofs.Pads.{held-own}
 use Rattle.table.proofs.Growing.{puts-is, Going, going-start, going-on, going-full, going-end}
 use Rattle.sheet.proofs.PackedLaws.{sets-step}
 use Rattle.table.proofs.Choosing.{chosen-all, puts-later, Free, free-start, free-on, chosen-steady, choicesOf, choices-start, choices-step, choices-less, choices-end}
@@ -30,14 +30,14 @@ use Rattle.sheet.proofs.masks.minus.Reads as minus-reads
 use Rattle.table.proofs.starts.+choose.{statement}
 use Rattle.table.proofs.starts.+choose.Tie.{close}
 
-abbrev μ-choose : Measures 2 choose-kinds.ps ℕ
+abbrev μ-choose : Measures 3 choose-kinds.ps ℕ
 μ-choose κs a = a .1 .0 - a .1 .1 .0
 
-abbrev choose-at : ℕ → In 2 choose-kinds.ps
-choose-at t = and 2 choose-kinds.ps (is 2 choose-kinds.ps μ-choose t) choose.Pre
+abbrev choose-at : ℕ → In 3 choose-kinds.ps
+choose-at t = and 3 choose-kinds.ps (is 3 choose-kinds.ps μ-choose t) choose.Pre
 
-abbrev choose-below : ℕ → In 2 choose-kinds.ps
-choose-below t = and 2 choose-kinds.ps (falls 2 choose-kinds.ps _<_ μ-choose t) choose.Pre
+abbrev choose-below : ℕ → In 3 choose-kinds.ps
+choose-below t = and 3 choose-kinds.ps (falls 3 choose-kinds.ps _<_ μ-choose t) choose.Pre
 
 abbrev claims : ℕ → choose-lts.Claims
 claims t = (offer-by-newest-reads.Asked, offer-by-newest-reads.Learnt, set-from-reads.Asked, set-from-reads.Learnt, minus-reads.Asked, minus-reads.Learnt, next-reads.Asked, next-reads.Learnt, literal-reads.Asked, literal-reads.Learnt, flip-reads.Asked, flip-reads.Learnt, join-reads.Asked, join-reads.Learnt, choose-below t, choose.Post)
@@ -52,18 +52,12 @@ abbrev choose-μ-loop : choose-lts.MeasureT-loop
 choose-μ-loop laid size at piece to-trues₀ to-falses₀ count after rest₀ filled₀ l₀ to-trues to-falses rest filled l = length (L.members rest 0)
 
 choose-offer-by-newest-requires : (t : ℕ) → choose-lts.Need-offer-by-newest-requires (claims t) (choose-at t) choose.Post choose-Inv-loop choose-μ-loop
-choose-offer-by-newest-requires t c κs = c .before .before .before .before .before .pre .1 .1 .1
-
-choose-same-length : (t : ℕ) → choose-lts.Need-same-length (claims t) (choose-at t) choose.Post choose-Inv-loop choose-μ-loop
-choose-same-length t c = search needs
-
-choose-same-length-2 : (t : ℕ) → choose-lts.Need-same-length-2 (claims t) (choose-at t) choose.Post choose-Inv-loop choose-μ-loop
-choose-same-length-2 t c = search needs
+choose-offer-by-newest-requires t c κs = c .before .before .before .pre .1 .held
 
 choose-returns : (t : ℕ) → choose-lts.Need-returns (claims t) (choose-at t) choose.Post choose-Inv-loop choose-μ-loop
 choose-returns t c =
-    let s = c .before .before .before .before .before .before .before .before .before .before in
-    puts-is _ _ _ _ _ _ _ _ (chosen-all (s .args .size) (s .args .laid .now) (s .args .at) _ (omega arith) (s .pre .1 .1 .0)) (c .before .before .before .before .offer-by-newest .ensures)
+    let s = c .before .before .before .before in
+    puts-is _ _ _ _ _ _ _ _ (chosen-all (s .args .size) (s .args .laid .now) (s .args .at) _ (omega arith) (s .pre .1 .steady)) (c .offer-by-newest .ensures)
 
 choose-add-after : (t : ℕ) → choose-lts.Need-add-after (claims t) (choose-at t) choose.Post choose-Inv-loop choose-μ-loop
 choose-add-after t c = omega arith
@@ -82,8 +76,8 @@ choose-next-requires t c κs = search needs
 
 choose-loop-holds : (t : ℕ) → choose-lts.Need-loop-holds (claims t) (choose-at t) choose.Post choose-Inv-loop choose-μ-loop
 choose-loop-holds t c =
-    let s = c .before .before .before .before .before .before .before in (
-      going-start _ _ _ _ _ (choices-start _ _ _ _ _ (s .pre .1 .1 .0) (sets-step (s .args .size) (s .args .laid .now) (s .args .at) _ (omega arith) (c .before .before .set-from .ensures)) (c .before .minus .ensures)) (s .pre .1 .1 .1),
+    let s = c .before .before .before .before .before in (
+      going-start _ _ _ _ _ (choices-start _ _ _ _ _ (s .pre .1 .steady) (sets-step (s .args .size) (s .args .laid .now) (s .args .at) _ (omega arith) (c .before .before .set-from .ensures)) (c .before .minus .ensures)) (s .pre .1 .held),
       c .next .ensures,
       free-start _ _ _ (c .before .minus .ensures),
     )
@@ -99,10 +93,16 @@ choose-join-requires t c κs = search needs
 
 choose-choose-requires : (t : ℕ) → choose-lts.Need-choose-requires (claims t) (choose-at t) choose.Post choose-Inv-loop choose-μ-loop
 choose-choose-requires t c κs =
-    let s = c .before .before .before .before .before .before .before .before .before .before .before .before .before .before .before in
+    let s = c .before .before .before .before .before .before .before .before .before .before .before .before .before in
     let o = c .before .before .before in
-    let w = o .before .before .before .before .loop .inv in
-    (omega arith, (s .pre .1 .0, (chosen-steady _ _ _ _ _ _ (s .pre .1 .1 .0) (w .2) (w .1) (o .before .before .before .loop-test .taken) (o .before .before .literal .ensures) (o .before .flip .ensures) (o .join .ensures), held-own _ _ _ _ (w .0 .held))))
+    let w = o .before .before .before .before .loop .inv in (
+      omega arith,
+      record {
+        room = s .pre .1 .room;
+        steady = chosen-steady _ _ _ _ _ _ (s .pre .1 .steady) (w .2) (w .1) (o .before .before .before .loop-test .taken) (o .before .before .literal .ensures) (o .before .flip .ensures) (o .join .ensures);
+        held = held-own _ _ _ _ (w .0 .held);
+      },
+    )
 
 choose-enum-known-grown : (t : ℕ) → choose-lts.Need-enum-known-grown (claims t) (choose-at t) choose.Post choose-Inv-loop choose-μ-loop
 choose-enum-known-grown t c = search needs
@@ -110,18 +110,12 @@ choose-enum-known-grown t c = search needs
 choose-enum-told : (t : ℕ) → choose-lts.Need-enum-told (claims t) (choose-at t) choose.Post choose-Inv-loop choose-μ-loop
 choose-enum-told t c = search needs
 
-choose-same-length-3 : (t : ℕ) → choose-lts.Need-same-length-3 (claims t) (choose-at t) choose.Post choose-Inv-loop choose-μ-loop
-choose-same-length-3 t c = c .before .before .before .before .before .before .choose .kept .1 .1 .1 .1 .0 ∙ holds-trues-long _ _ _ _ _ (c .before .before .before .before .before .before .before .before .before .before .before .before .before .before .loop .inv .0 .held)
-
-choose-same-length-4 : (t : ℕ) → choose-lts.Need-same-length-4 (claims t) (choose-at t) choose.Post choose-Inv-loop choose-μ-loop
-choose-same-length-4 t c = c .before .before .before .before .before .before .choose .kept .1 .1 .1 .1 .1 .0 ∙ holds-falses-long _ _ _ _ _ (c .before .before .before .before .before .before .before .before .before .before .before .before .before .before .loop .inv .0 .held) ∙ sym (holds-falses-long _ _ _ _ _ (c .before .before .before .before .before .before .before .before .before .before .before .before .before .before .before .before .before .before .before .before .before .before .pre .1 .1 .1))
-
 choose-returns-2 : (t : ℕ) → choose-lts.Need-returns-2 (claims t) (choose-at t) choose.Post choose-Inv-loop choose-μ-loop
 choose-returns-2 t c =
-    let o = c .before .before .before .before .before .before .before .before .before .before in
+    let o = c .before .before .before .before .before .before in
     let w = o .before .before .before .before .loop .inv in
     going-full _ _ _ _ _ _ _ _ _ _ _ _ _ (w .0)
-    (choices-step _ _ _ _ _ _ _ _ (w .1) (o .before .before .before .loop-test .taken) (o .before .before .literal .ensures) (o .before .flip .ensures) (o .join .ensures) refl) (c .before .before .before .before .before .before .choose .ensures) (c .enum-told .given .1)
+    (choices-step _ _ _ _ _ _ _ _ (w .1) (o .before .before .before .loop-test .taken) (o .before .before .literal .ensures) (o .before .flip .ensures) (o .join .ensures) refl) (c .before .before .choose .ensures) (c .enum-told .given .1)
 
 choose-offer-by-newest-requires-2 : (t : ℕ) → choose-lts.Need-offer-by-newest-requires-2 (claims t) (choose-at t) choose.Post choose-Inv-loop choose-μ-loop
 choose-offer-by-newest-requires-2 t c κs = held-own _ _ _ _ (c .before .before .before .before .before .before .before .loop .inv .0 .held)
@@ -132,21 +126,15 @@ choose-enum-known-grown-2 t c = search needs
 choose-enum-told-2 : (t : ℕ) → choose-lts.Need-enum-told-2 (claims t) (choose-at t) choose.Post choose-Inv-loop choose-μ-loop
 choose-enum-told-2 t c = search needs
 
-choose-same-length-5 : (t : ℕ) → choose-lts.Need-same-length-5 (claims t) (choose-at t) choose.Post choose-Inv-loop choose-μ-loop
-choose-same-length-5 t c = c .before .before .before .before .before .before .offer-by-newest2 .kept .0 ∙ holds-trues-long _ _ _ _ _ (c .before .before .before .before .before .before .before .before .before .before .before .before .before .before .loop .inv .0 .held)
-
-choose-same-length-6 : (t : ℕ) → choose-lts.Need-same-length-6 (claims t) (choose-at t) choose.Post choose-Inv-loop choose-μ-loop
-choose-same-length-6 t c = c .before .before .before .before .before .before .offer-by-newest2 .kept .1 .0 ∙ holds-falses-long _ _ _ _ _ (c .before .before .before .before .before .before .before .before .before .before .before .before .before .before .loop .inv .0 .held) ∙ sym (holds-falses-long _ _ _ _ _ (c .before .before .before .before .before .before .before .before .before .before .before .before .before .before .before .before .before .before .before .before .before .before .pre .1 .1 .1))
-
 choose-returns-3 : (t : ℕ) → choose-lts.Need-returns-3 (claims t) (choose-at t) choose.Post choose-Inv-loop choose-μ-loop
 choose-returns-3 t c =
-    let s = c .before .before .before .before .before .before .before .before .before .before .before .before .before .before .before .before .before .before .before .before .before .before in
-    let o = c .before .before .before .before .before .before .before .before .before .before in
+    let s = c .before .before .before .before .before .before .before .before .before .before .before .before .before .before .before .before in
+    let o = c .before .before .before .before .before .before in
     let w = o .before .before .before .before .loop .inv in
-    let steady = chosen-steady _ _ _ _ _ _ (s .pre .1 .1 .0) (w .2) (w .1) (o .before .before .before .loop-test .taken) (o .before .before .literal .ensures) (o .before .flip .ensures) (o .join .ensures) in
-    let q = chosen-all (s .args .size) (s .args .laid .now) (s .args .at + 1) _ (c .before .before .before .before .before .before .before .before .before .if2 .left) steady in
+    let steady = chosen-steady _ _ _ _ _ _ (s .pre .1 .steady) (w .2) (w .1) (o .before .before .before .loop-test .taken) (o .before .before .literal .ensures) (o .before .flip .ensures) (o .join .ensures) in
+    let q = chosen-all (s .args .size) (s .args .laid .now) (s .args .at + 1) _ (c .before .before .before .before .before .if2 .left) steady in
     going-full _ _ _ _ _ _ _ _ _ _ _ _ _ (w .0)
-    (choices-step _ _ _ _ _ _ _ _ (w .1) (o .before .before .before .loop-test .taken) (o .before .before .literal .ensures) (o .before .flip .ensures) (o .join .ensures) refl) (puts-is _ _ _ _ _ _ _ _ q (c .before .before .before .before .before .before .offer-by-newest2 .ensures)) (c .enum-told2 .given .1)
+    (choices-step _ _ _ _ _ _ _ _ (w .1) (o .before .before .before .loop-test .taken) (o .before .before .literal .ensures) (o .before .flip .ensures) (o .join .ensures) refl) (puts-is _ _ _ _ _ _ _ _ q (c .before .before .offer-by-newest2 .ensures)) (c .enum-told2 .given .1)
 
 choose-lacking-requires-2 : (t : ℕ) → choose-lts.Need-minus-requires-2 (claims t) (choose-at t) choose.Post choose-Inv-loop choose-μ-loop
 choose-lacking-requires-2 t c κs = search needs
@@ -161,26 +149,20 @@ choose-loop-less t c =
 
 choose-loop-again : (t : ℕ) → choose-lts.Need-loop-again (claims t) (choose-at t) choose.Post choose-Inv-loop choose-μ-loop
 choose-loop-again t c =
-    let s = c .before .before .before .before .before .before .before .before .before .before .before .before .before .before .before in
+    let s = c .before .before .before .before .before .before .before .before .before .before .before .before .before in
     let o = c .before .before .before in
     let w = o .before .before .before .before .loop .inv in
-    let steady = chosen-steady _ _ _ _ _ _ (s .pre .1 .1 .0) (w .2) (w .1) (o .before .before .before .loop-test .taken) (o .before .before .literal .ensures) (o .before .flip .ensures) (o .join .ensures) in (
+    let steady = chosen-steady _ _ _ _ _ _ (s .pre .1 .steady) (w .2) (w .1) (o .before .before .before .loop-test .taken) (o .before .before .literal .ensures) (o .before .flip .ensures) (o .join .ensures) in (
       going-on _ _ _ _ _ _ _ _ _ _ _ _ _ (w .0)
           (choices-step _ _ _ _ _ _ _ _ (w .1) (o .before .before .before .loop-test .taken) (o .before .before .literal .ensures) (o .before .flip .ensures) (o .join .ensures) (c .before .minus2 .ensures))
           (⊎-elim
-          (λ v. puts-later _ _ _ _ _ _ _ _ _ _ (v .11) (v .12) (ap grown.To (v .13) ∙ sym (v .9 .given .1)) (v .3 .ensures))
-          (λ v. puts-later _ _ _ _ _ _ _ _ _ _ (v .11) (v .12) (ap grown.To (v .13) ∙ sym (v .9 .given .1))
+          (λ v. puts-later _ _ _ _ _ _ _ _ _ _ (v .7) (v .8) (ap grown.To (v .9) ∙ sym (v .5 .given .1)) (v .3 .ensures))
+          (λ v. puts-later _ _ _ _ _ _ _ _ _ _ (v .7) (v .8) (ap grown.To (v .9) ∙ sym (v .5 .given .1))
           (puts-is _ _ _ _ _ _ _ _ (chosen-all (s .args .size) (s .args .laid .now) (s .args .at + 1) _ (v .0 .left) steady) (v .3 .ensures)))
           (c .before .before .if2 .came)) _ refl,
       c .next2 .ensures,
       free-on _ _ _ _ (w .2) (c .before .minus2 .ensures),
     )
-
-choose-same-length-7 : (t : ℕ) → choose-lts.Need-same-length-7 (claims t) (choose-at t) choose.Post choose-Inv-loop choose-μ-loop
-choose-same-length-7 t c = holds-trues-long _ _ _ _ _ (c .before .loop .inv .0 .held)
-
-choose-same-length-8 : (t : ℕ) → choose-lts.Need-same-length-8 (claims t) (choose-at t) choose.Post choose-Inv-loop choose-μ-loop
-choose-same-length-8 t c = holds-falses-long _ _ _ _ _ (c .before .loop .inv .0 .held) ∙ sym (holds-falses-long _ _ _ _ _ (c .before .before .before .before .before .before .before .before .before .pre .1 .1 .1))
 
 choose-returns-4 : (t : ℕ) → choose-lts.Need-returns-4 (claims t) (choose-at t) choose.Post choose-Inv-loop choose-μ-loop
 choose-returns-4 t c = going-end _ _ _ _ _ _ _ _ (c .before .loop .inv .0) (choices-end _ _ _ _ (c .before .loop .inv .1) (c .loop-test .left))
@@ -192,8 +174,6 @@ pub +choose-spec : {M : Type 1} → statement M
     choose-Inv-loop
     choose-μ-loop
     (choose-offer-by-newest-requires t)
-    (choose-same-length t)
-    (choose-same-length-2 t)
     (choose-returns t)
     (choose-add-after t)
     (choose-mul-set-from t)
@@ -207,19 +187,13 @@ pub +choose-spec : {M : Type 1} → statement M
     (choose-choose-requires t)
     (choose-enum-known-grown t)
     (choose-enum-told t)
-    (choose-same-length-3 t)
-    (choose-same-length-4 t)
     (choose-returns-2 t)
     (choose-offer-by-newest-requires-2 t)
     (choose-enum-known-grown-2 t)
     (choose-enum-told-2 t)
-    (choose-same-length-5 t)
-    (choose-same-length-6 t)
     (choose-returns-3 t)
     (choose-lacking-requires-2 t)
     (choose-next-requires-2 t)
     (choose-loop-less t)
     (choose-loop-again t)
-    (choose-same-length-7 t)
-    (choose-same-length-8 t)
     (choose-returns-4 t)

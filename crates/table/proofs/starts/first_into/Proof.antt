@@ -1,8 +1,6 @@
 -- `table::starts::first_into` meets its contract. Assumes nothing.
-use mathlib.Core.Path.{_≡_, ap, _∙_}
+use mathlib.Core.Path.{ap, _∙_}
 use mathlib.Core.List.{[], map}
-use native.Mathlib.Omega.{arith}
-use lib.ListN.{length, length-set}
 use Rattle.sheet.specs.Packed.{orsIn, oneofsIn, clausesAt}
 use Rattle.sheet.specs.Decoded.{problemIn}
 use Rattle.table.specs.Start.{orOf, oneOf, startClauses, startTable}
@@ -12,12 +10,6 @@ use Rattle.table.proofs.Started.{first-held, first-grown, first-on, fir
 use borrow.Author.Needs.{needs}
 use Rattle.table.proofs.starts.first_into.Statement.{statement}
 use Rattle.table.proofs.starts.first_into.Tie as tie
-
-slice-write-to-trues : tie.Need-slice-write-to-trues
-slice-write-to-trues c = let l : length (c .before .before .before .before .args .to-trues .now) ≡ 128 = ap length (c .before .before .before .before .pre .1 .trues) in omega arith
-
-slice-write-to-falses : tie.Need-slice-write-to-falses
-slice-write-to-falses c = let l : length (c .before .before .before .before .args .to-falses .now) ≡ 128 = ap length (c .before .before .before .before .pre .1 .falses) in omega arith
 
 sub-ors : tie.Need-sub-ors
 sub-ors c = search needs
@@ -29,7 +21,7 @@ part-ors-end : tie.Need-part-ors-end
 part-ors-end c = search needs
 
 grow-all-requires : tie.Need-grow-all-requires
-grow-all-requires c κs = (ors-fit _ _ (c .before .before .before .before .before .before .before .pre .0), first-held (c .before .before .before .before .before .before .before .args .sheet .known) _ _ (c .before .before .before .before .before .before .before .pre .1))
+grow-all-requires c κs = (ors-fit _ _ (c .before .before .before .before .before .pre .0), first-held (c .before .before .before .before .before .args .sheet .known) _ _ (c .before .before .before .before .before .pre .1))
 
 enum-known-count : tie.Need-enum-known-count
 enum-known-count c = search needs
@@ -45,51 +37,45 @@ part-oneofs-end c = search needs
 
 grow-all-requires-2 : tie.Need-grow-all-requires-2
 grow-all-requires-2 c κs =
-    let x = c .before .before .before .before .before .before .before .before .before .before .before .before .before .before .before .before .before .before .args .sheet in
-    let packed = c .before .before .before .before .before .before .before .before .before .before .before .before .before .before .before .before .before .before .args .packed .now in
+    let x = c .before .before .before .before .before .before .before .before .before .before .before .before .args .sheet in
+    let packed = c .before .before .before .before .before .before .before .before .before .before .before .before .args .packed .now in
     let cs = map orOf (clausesAt (x .ors) (orsIn packed)) in
     let ds = map oneOf (clausesAt (x .oneofs) (oneofsIn packed)) in
-    (oneofs-fit _ _ (c .before .before .before .before .before .before .before .before .before .before .before .before .before .before .before .before .before .before .pre .0), first-grown (x .known) _ _ (c .before .before .before .before .before .before .before .before .before .before .before .before .before .before .before .before .before .before .pre .1) cs ds _ _ _ (c .before .before .before .before .before .before .before .before .before .before .grow-all .ensures) _ (c .before .before .before .before .count .given .1))
+    (oneofs-fit _ _ (c .before .before .before .before .before .before .before .before .before .before .before .before .pre .0), first-grown (x .known) _ _ (c .before .before .before .before .before .before .before .before .before .before .before .before .pre .1) cs ds _ _ _ (c .before .before .before .before .before .before .grow-all .ensures) _ (c .before .before .before .before .count .given .1))
 
 enum-known-number : tie.Need-enum-known-number
 enum-known-number c = search needs
 
-same-length : tie.Need-same-length
-same-length c = c .before .before .before .before .grow-all2 .kept .1 .1 .1 .0 ∙ c .before .before .before .before .before .before .before .before .before .before .before .before .before .before .before .grow-all .kept .1 .1 .1 .0 ∙ simp length-set
-
-same-length-2 : tie.Need-same-length-2
-same-length-2 c = c .before .before .before .before .grow-all2 .kept .1 .1 .1 .1 .0 ∙ c .before .before .before .before .before .before .before .before .before .before .before .before .before .before .before .grow-all .kept .1 .1 .1 .1 .0 ∙ simp length-set
-
 returns : tie.Need-returns
 unfolding startTable startClauses problemIn
 returns c =
-    let x = c .before .before .before .before .before .before .before .before .before .before .before .before .before .before .before .before .before .before .before .before .before .before .before .args .sheet in
-    let packed = c .before .before .before .before .before .before .before .before .before .before .before .before .before .before .before .before .before .before .before .before .before .before .before .args .packed .now in
+    let x = c .before .before .before .before .before .before .before .before .before .before .before .before .before .args .sheet in
+    let packed = c .before .before .before .before .before .before .before .before .before .before .before .before .before .args .packed .now in
     let cs = map orOf (clausesAt (x .ors) (orsIn packed)) in
     let ds = map oneOf (clausesAt (x .oneofs) (oneofsIn packed)) in
-    c .before .before .before .before .grow-all2 .ensures ∙ ap (orGiven (tableOf [])) (first-on (x .known) _ _ (c .before .before .before .before .before .before .before .before .before .before .before .before .before .before .before .before .before .before .before .before .before .before .before .pre .1) cs ds _ _ _ (c .before .before .before .before .before .before .before .before .before .before .before .before .before .before .before .grow-all .ensures) _ (c .before .before .before .before .before .before .before .before .before .count .given .1))
-
-same-length-3 : tie.Need-same-length-3
-same-length-3 c = c .before .before .before .before .before .before .before .grow-all .kept .1 .1 .1 .0 ∙ simp length-set
-
-same-length-4 : tie.Need-same-length-4
-same-length-4 c = c .before .before .before .before .before .before .before .grow-all .kept .1 .1 .1 .1 .0 ∙ simp length-set
+    c .grow-all2 .ensures ∙ ap (orGiven (tableOf [])) (first-on (x .known) _ _ (c .before .before .before .before .before .before .before .before .before .before .before .before .before .pre .1) cs ds _ _ _ (c .before .before .before .before .before .before .before .grow-all .ensures) _ (c .before .before .before .before .before .count .given .1))
 
 returns-2 : tie.Need-returns-2
 unfolding startTable startClauses problemIn
 returns-2 c =
-    let x = c .before .before .before .before .before .before .before .before .before .before .before .before .before .before .before .args .sheet in
-    let packed = c .before .before .before .before .before .before .before .before .before .before .before .before .before .before .before .args .packed .now in
+    let x = c .before .before .before .before .before .before .before .before .before .args .sheet in
+    let packed = c .before .before .before .before .before .before .before .before .before .args .packed .now in
     let cs = map orOf (clausesAt (x .ors) (orsIn packed)) in
     let ds = map oneOf (clausesAt (x .oneofs) (oneofsIn packed)) in
-    first-refused (x .known) _ _ (c .before .before .before .before .before .before .before .before .before .before .before .before .before .before .before .pre .1) cs ds _ _ _ (c .before .before .before .before .before .before .before .grow-all .ensures) _ (c .before .number .given .1)
+    first-refused (x .known) _ _ (c .before .before .before .before .before .before .before .before .before .pre .1) cs ds _ _ _ (c .before .before .before .grow-all .ensures) _ _ (c .before .number .given .1)
+
+element-write-to-trues : tie.Need-element-write-to-trues
+element-write-to-trues c = search needs
+
+element-write-to-falses : tie.Need-element-write-to-falses
+element-write-to-falses c = search needs
 
 pub first-into-spec : {M : Type 1} → statement M
 first-into-spec =
     tie.close
     (tie.spec
-    slice-write-to-trues
-    slice-write-to-falses
+    element-write-to-trues
+    element-write-to-falses
     sub-ors
     part-ors-start
     part-ors-end
@@ -100,9 +86,5 @@ first-into-spec =
     part-oneofs-end
     grow-all-requires-2
     enum-known-number
-    same-length
-    same-length-2
     returns
-    same-length-3
-    same-length-4
     returns-2)

@@ -1,5 +1,5 @@
 -- `table::starts::grow_all` meets its contract. The invariant: the clauses from i on give the whole. Assumes nothing.
-use mathlib.Core.Path.{refl, sym, ap, _∙_}
+use mathlib.Core.Path.{refl, ap}
 use mathlib.Core.List.{map}
 use Prim.Native.Nat.{_≤_, _-_}
 use native.Mathlib.Omega.{arith}
@@ -9,7 +9,6 @@ use Rattle.sheet.specs.Packed.{clausesAt}
 use Rattle.table.specs.Start.{growAll}
 use Rattle.table.specs.Slots.{entriesOf}
 use Rattle.table.specs.Reads.{clauseOf}
-use Rattle.table.proofs.Pads.{holds-trues-long, holds-falses-long}
 use Rattle.table.proofs.PackedClauses.{clause-is, clause-fits}
 use Rattle.sheet.specs.Packed.{setsIn}
 use Rattle.sheet.proofs.PackedLaws.{items-step, items-end}
@@ -26,7 +25,7 @@ abbrev μ-loop : tie.MeasureT-loop
 μ-loop exclusive clauses size trues₀ falses₀ count filled₀ i₀ trues falses filled i = size - i
 
 loop-holds : tie.Need-loop-holds Inv-loop μ-loop
-loop-holds c = (omega arith, record { held = c .before .before .before .pre .1; onwards = refl })
+loop-holds c = (omega arith, record { held = c .before .pre .1; onwards = refl })
 
 mul-at : tie.Need-mul-at Inv-loop μ-loop
 mul-at c = omega arith
@@ -48,7 +47,7 @@ part-grow-end c = omega arith
 
 grow-requires : tie.Need-grow-requires Inv-loop μ-loop
 grow-requires c κs =
-    let s = c .before .before .before .before .before .before .before .before in
+    let s = c .before .before .before .before .before .before in
     (clause-fits (s .args .size) (s .args .clauses .now) (c .before .before .before .before .loop .i) (s .pre .0) (c .before .before .before .loop-test .taken), c .before .before .before .before .loop .inv .1 .held)
 
 enum-known-grown : tie.Need-enum-known-grown Inv-loop μ-loop
@@ -57,17 +56,11 @@ enum-known-grown c = search needs
 enum-known-number : tie.Need-enum-known-number Inv-loop μ-loop
 enum-known-number c = search needs
 
-same-length : tie.Need-same-length Inv-loop μ-loop
-same-length c = c .before .before .before .before .before .before .before .grow .kept .1 .1 .0 ∙ holds-trues-long _ _ _ _ _ (c .before .before .before .before .before .before .before .before .before .before .before .before .loop .inv .1 .held) ∙ sym (holds-trues-long _ _ _ _ _ (c .before .before .before .before .before .before .before .before .before .before .before .before .before .before .before .before .pre .1))
-
-same-length-2 : tie.Need-same-length-2 Inv-loop μ-loop
-same-length-2 c = c .before .before .before .before .before .before .before .grow .kept .1 .1 .1 .0 ∙ holds-falses-long _ _ _ _ _ (c .before .before .before .before .before .before .before .before .before .before .before .before .loop .inv .1 .held) ∙ sym (holds-falses-long _ _ _ _ _ (c .before .before .before .before .before .before .before .before .before .before .before .before .before .before .before .before .pre .1))
-
 returns : tie.Need-returns Inv-loop μ-loop
 returns c =
-    let s = c .before .before .before .before .before .before .before .before .before .before .before .before .before .before .before .before in
-    let q = ap (map (clauseOf (s .args .exclusive))) (items-step 17 setsIn (s .args .size) (s .args .clauses .now) (c .before .before .before .before .before .before .before .before .before .before .before .before .loop .i) _ (c .before .before .before .before .before .before .before .before .before .before .before .loop-test .taken) (clause-is (s .args .clauses .now) (c .before .before .before .before .before .before .before .before .before .before .before .before .loop .i))) in
-    sections-refused _ _ _ _ _ _ _ (c .before .before .before .before .before .before .before .before .before .before .before .before .loop .inv .1) q _ _ _ (c .before .before .before .before .before .before .before .grow .ensures) _ (c .before .number .given .1)
+    let s = c .before .before .before .before .before .before .before .before .before .before in
+    let q = ap (map (clauseOf (s .args .exclusive))) (items-step 17 setsIn (s .args .size) (s .args .clauses .now) (c .before .before .before .before .before .before .before .before .loop .i) _ (c .before .before .before .before .before .before .before .loop-test .taken) (clause-is (s .args .clauses .now) (c .before .before .before .before .before .before .before .before .loop .i))) in
+    sections-refused _ _ _ _ _ _ _ (c .before .before .before .before .before .before .before .before .loop .inv .1) q _ _ _ (c .before .before .before .grow .ensures) _ _ (c .before .number .given .1)
 
 add-i : tie.Need-add-i Inv-loop μ-loop
 add-i c = search needs
@@ -77,19 +70,13 @@ loop-less c = search needs
 
 loop-again : tie.Need-loop-again Inv-loop μ-loop
 loop-again c =
-    let s = c .before .before .before .before .before .before .before .before .before .before .before .before .before .before .before .before in
-    let q = ap (map (clauseOf (s .args .exclusive))) (items-step 17 setsIn (s .args .size) (s .args .clauses .now) (c .before .before .before .before .before .before .before .before .before .before .before .before .loop .i) _ (c .before .before .before .before .before .before .before .before .before .before .before .loop-test .taken) (clause-is (s .args .clauses .now) (c .before .before .before .before .before .before .before .before .before .before .before .before .loop .i))) in
-    (omega arith, sections-on _ _ _ _ _ _ _ (c .before .before .before .before .before .before .before .before .before .before .before .before .loop .inv .1) q _ _ _ (c .before .before .before .before .before .before .before .grow .ensures) _ (c .before .grown .given .1))
-
-same-length-3 : tie.Need-same-length-3 Inv-loop μ-loop
-same-length-3 c = holds-trues-long _ _ _ _ _ (c .before .loop .inv .1 .held) ∙ sym (holds-trues-long _ _ _ _ _ (c .before .before .before .before .before .pre .1))
-
-same-length-4 : tie.Need-same-length-4 Inv-loop μ-loop
-same-length-4 c = holds-falses-long _ _ _ _ _ (c .before .loop .inv .1 .held) ∙ sym (holds-falses-long _ _ _ _ _ (c .before .before .before .before .before .pre .1))
+    let s = c .before .before .before .before .before .before .before .before .before .before in
+    let q = ap (map (clauseOf (s .args .exclusive))) (items-step 17 setsIn (s .args .size) (s .args .clauses .now) (c .before .before .before .before .before .before .before .before .loop .i) _ (c .before .before .before .before .before .before .before .loop-test .taken) (clause-is (s .args .clauses .now) (c .before .before .before .before .before .before .before .before .loop .i))) in
+    (omega arith, sections-on _ _ _ _ _ _ _ (c .before .before .before .before .before .before .before .before .loop .inv .1) q _ _ _ (c .before .before .before .grow .ensures) _ (c .before .grown .given .1))
 
 returns-2 : tie.Need-returns-2 Inv-loop μ-loop
 returns-2 c =
-    let s = c .before .before .before .before .before in
+    let s = c .before .before .before in
     sections-end _ _ _ _ _ (c .before .loop .inv .1) (ap (map (clauseOf (s .args .exclusive))) (items-end 17 setsIn (s .args .size) (s .args .clauses .now) (c .before .loop .i) (c .loop-test .left)))
 
 pub grow-all-spec : {M : Type 1} → statement M
@@ -108,12 +95,8 @@ grow-all-spec =
     grow-requires
     enum-known-grown
     enum-known-number
-    same-length
-    same-length-2
     returns
     add-i
     loop-less
     loop-again
-    same-length-3
-    same-length-4
     returns-2)

@@ -1,8 +1,8 @@
 -- `table::starts::widen_all` meets its contract. The invariant: the entries from i on give the whole. Assumes nothing.
-use mathlib.Core.Path.{refl, sym, _∙_}
-use Prim.Native.Nat.{_+_, _<_, _≤_, _-_}
+use mathlib.Core.Path.{refl}
+use Prim.Native.Nat.{_+_, _≤_, _-_}
 use native.Mathlib.Omega.{arith}
-use lib.ListN.{length, drop, getD}
+use lib.ListN.{drop, getD}
 use borrow.Author.Needs.{needs}
 use Rattle.sheet.specs.Lists.{collect, keep}
 use Rattle.sheet.specs.Literals as L
@@ -11,7 +11,7 @@ use Rattle.table.specs.Slots.{entriesOf}
 use Rattle.table.specs.Start.{candidates}
 use Rattle.table.specs.Reads.{clauseOf}
 use Rattle.table.specs.Moves.{slot}
-use Rattle.table.proofs.Pads.{length-entriesOf, holds-trues-long, holds-falses-long, held-own}
+use Rattle.table.proofs.Pads.{held-own}
 use Rattle.table.proofs.Choosing.{collect-step, collect-end}
 use Rattle.table.proofs.Turns.{entries-next, entries-done}
 use Rattle.table.proofs.Growing.{Going, going-start, going-on, going-full, going-end}
@@ -28,7 +28,7 @@ abbrev μ-loop : tie.MeasureT-loop
 μ-loop exclusive alts trues falses count to-trues₀ to-falses₀ filled₀ i₀ to-trues to-falses filled i = count - i
 
 loop-holds : tie.Need-loop-holds Inv-loop μ-loop
-loop-holds c = (omega arith, going-start _ _ _ _ _ refl (c .before .before .before .before .before .pre .1 .1))
+loop-holds c = (omega arith, going-start _ _ _ _ _ refl (c .before .before .before .pre .held))
 
 mul-t13 : tie.Need-mul-t13 Inv-loop μ-loop
 mul-t13 c = omega arith
@@ -43,7 +43,7 @@ shared-slice-read-t18 : tie.Need-shared-slice-read-t18 Inv-loop μ-loop
 shared-slice-read-t18 c = omega arith
 
 widen-requires : tie.Need-widen-requires Inv-loop μ-loop
-widen-requires c κs = (c .before .before .before .before .before .before .before .before .before .before .before .pre .0, held-own _ _ _ _ (c .before .before .before .before .before .loop .inv .1 .held))
+widen-requires c κs = record { sets = c .before .before .before .before .before .before .before .before .before .pre .sets; held = held-own _ _ _ _ (c .before .before .before .before .before .loop .inv .1 .held) }
 
 enum-known-grown : tie.Need-enum-known-grown Inv-loop μ-loop
 enum-known-grown c = search needs
@@ -51,19 +51,13 @@ enum-known-grown c = search needs
 enum-told : tie.Need-enum-told Inv-loop μ-loop
 enum-told c = search needs
 
-same-length : tie.Need-same-length Inv-loop μ-loop
-same-length c = c .before .before .before .before .before .before .widen .kept .1 .1 .1 .0 ∙ holds-trues-long _ _ _ _ _ (c .before .before .before .before .before .before .before .before .before .before .before .before .loop .inv .1 .held)
-
-same-length-2 : tie.Need-same-length-2 Inv-loop μ-loop
-same-length-2 c = c .before .before .before .before .before .before .widen .kept .1 .1 .1 .1 .0 ∙ holds-falses-long _ _ _ _ _ (c .before .before .before .before .before .before .before .before .before .before .before .before .loop .inv .1 .held) ∙ sym (holds-falses-long _ _ _ _ _ (c .before .before .before .before .before .before .before .before .before .before .before .before .before .before .before .before .before .before .pre .1 .1))
-
 returns : tie.Need-returns Inv-loop μ-loop
 unfolding slot
 returns c =
-    let s = c .before .before .before .before .before .before .before .before .before .before .before .before .before .before .before .before .before .before in
-    let i = c .before .before .before .before .before .before .before .before .before .before .before .before .loop .i in
-    let q = collect-step (candidates (clauseOf (s .args .exclusive) (setsIn (s .args .alts .now)))) _ _ _ (entries-next (s .args .count) (s .args .trues .now) (s .args .falses .now) i (record { trues = getD (s .args .trues .now) i 0; falses = getD (s .args .falses .now) i 0 }) (c .before .before .before .before .before .before .before .before .before .before .before .loop-test .taken) refl) in
-    going-full _ _ _ _ _ _ _ _ _ _ _ _ _ (c .before .before .before .before .before .before .before .before .before .before .before .before .loop .inv .1) q (c .before .before .before .before .before .before .widen .ensures) (c .enum-told .given .1)
+    let s = c .before .before .before .before .before .before .before .before .before .before .before .before in
+    let i = c .before .before .before .before .before .before .before .before .loop .i in
+    let q = collect-step (candidates (clauseOf (s .args .exclusive) (setsIn (s .args .alts .now)))) _ _ _ (entries-next (s .args .count) (s .args .trues .now) (s .args .falses .now) i (record { trues = getD (s .args .trues .now) i 0; falses = getD (s .args .falses .now) i 0 }) (c .before .before .before .before .before .before .before .loop-test .taken) refl) in
+    going-full _ _ _ _ _ _ _ _ _ _ _ _ _ (c .before .before .before .before .before .before .before .before .loop .inv .1) q (c .before .before .widen .ensures) (c .enum-told .given .1)
 
 add-i : tie.Need-add-i Inv-loop μ-loop
 add-i c = search needs
@@ -74,21 +68,15 @@ loop-less c = search needs
 loop-again : tie.Need-loop-again Inv-loop μ-loop
 unfolding slot
 loop-again c =
-    let s = c .before .before .before .before .before .before .before .before .before .before .before .before .before .before .before .before .before .before .before in
-    let i = c .before .before .before .before .before .before .before .before .before .before .before .before .before .loop .i in
-    let q = collect-step (candidates (clauseOf (s .args .exclusive) (setsIn (s .args .alts .now)))) _ _ _ (entries-next (s .args .count) (s .args .trues .now) (s .args .falses .now) i (record { trues = getD (s .args .trues .now) i 0; falses = getD (s .args .falses .now) i 0 }) (c .before .before .before .before .before .before .before .before .before .before .before .before .loop-test .taken) refl) in
+    let s = c .before .before .before .before .before .before .before .before .before .before .before .before .before in
+    let i = c .before .before .before .before .before .before .before .before .before .loop .i in
+    let q = collect-step (candidates (clauseOf (s .args .exclusive) (setsIn (s .args .alts .now)))) _ _ _ (entries-next (s .args .count) (s .args .trues .now) (s .args .falses .now) i (record { trues = getD (s .args .trues .now) i 0; falses = getD (s .args .falses .now) i 0 }) (c .before .before .before .before .before .before .before .before .loop-test .taken) refl) in
     let le : i + 1 ≤ s .args .count = omega arith in
-    (le, going-on _ _ _ _ _ _ _ _ _ _ _ _ _ (c .before .before .before .before .before .before .before .before .before .before .before .before .before .loop .inv .1) q (c .before .before .before .before .before .before .before .widen .ensures) _ (c .before .grown .given .1))
-
-same-length-3 : tie.Need-same-length-3 Inv-loop μ-loop
-same-length-3 c = holds-trues-long _ _ _ _ _ (c .before .loop .inv .1 .held)
-
-same-length-4 : tie.Need-same-length-4 Inv-loop μ-loop
-same-length-4 c = holds-falses-long _ _ _ _ _ (c .before .loop .inv .1 .held) ∙ sym (holds-falses-long _ _ _ _ _ (c .before .before .before .before .before .before .before .pre .1 .1))
+    (le, going-on _ _ _ _ _ _ _ _ _ _ _ _ _ (c .before .before .before .before .before .before .before .before .before .loop .inv .1) q (c .before .before .before .widen .ensures) _ (c .before .grown .given .1))
 
 returns-2 : tie.Need-returns-2 Inv-loop μ-loop
 returns-2 c =
-    let s = c .before .before .before .before .before .before .before in
+    let s = c .before .before .before .before .before in
     going-end _ _ _ _ _ _ _ _ (c .before .loop .inv .1) (collect-end _ _ (entries-done (s .args .count) (s .args .trues .now) (s .args .falses .now) (c .before .loop .i) (c .loop-test .left)))
 
 pub widen-all-spec : {M : Type 1} → statement M
@@ -105,12 +93,8 @@ widen-all-spec =
     widen-requires
     enum-known-grown
     enum-told
-    same-length
-    same-length-2
     returns
     add-i
     loop-less
     loop-again
-    same-length-3
-    same-length-4
     returns-2)

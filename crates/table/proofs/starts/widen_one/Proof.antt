@@ -32,9 +32,9 @@ consistent-requires c κs = search needs
 
 returns : tie.Need-returns
 returns c =
-    let s = c .before .before .before .before .before .before .before in
-    let e = picked _ _ _ _ _ (s .pre .0 .1) (c .before .before .before .set-at .ensures) (c .before .before .join .ensures) in
-    nothing-put _ _ _ _ (cut (others (s .args .i) 0 (setsIn (s .args .alts .now))) _ (ap L.consistent (sym e) ∙ sym (c .before .consistent .ensures) ∙ not-true _ (c .if1 .taken))) (s .pre .1)
+    let s = c .before .before .before .before .before in
+    let e = picked _ _ _ _ _ (s .pre .1) (c .before .before .before .set-at .ensures) (c .before .before .join .ensures) in
+    nothing-put _ _ _ _ (cut (others (s .args .i) 0 (setsIn (s .args .alts .now))) _ (ap L.consistent (sym e) ∙ sym (c .before .consistent .ensures) ∙ not-true _ (c .if1 .taken))) (s .pre .0 .held)
 
 slice-aggregate-lay-others : tie.Need-slice-aggregate-lay-others
 slice-aggregate-lay-others c = search needs
@@ -43,18 +43,17 @@ lay-others-requires : tie.Need-lay-others-requires
 lay-others-requires c κs = search needs
 
 choose-requires : tie.Need-choose-requires
-choose-requires c κs = (c .before .before .before .before .lay-others .ensures .0, (sym (c .before .before .before .before .before .before .before .consistent .ensures) ∙ not-false _ (c .before .before .before .before .before .before .if1 .left), c .before .before .before .before .before .before .before .before .before .before .before .before .before .pre .1))
-
-same-length : tie.Need-same-length
-same-length c = search needs
-
-same-length-2 : tie.Need-same-length-2
-same-length-2 c = search needs
+choose-requires c κs =
+    record {
+      room = c .before .before .before .before .lay-others .ensures .0;
+      steady = sym (c .before .before .before .before .before .before .before .consistent .ensures) ∙ not-false _ (c .before .before .before .before .before .before .if1 .left);
+      held = c .before .before .before .before .before .before .before .before .before .before .before .pre .0 .held;
+    }
 
 returns-2 : tie.Need-returns-2
 returns-2 c =
-    let e = picked _ _ _ _ _ (c .before .before .before .before .before .before .before .before .before .before .before .before .before .before .before .before .before .before .pre .0 .1) (c .before .before .before .before .before .before .before .before .before .before .before .before .before .before .set-at .ensures) (c .before .before .before .before .before .before .before .before .before .before .before .before .before .join .ensures) in
-    puts-is _ _ _ _ _ _ _ _ (ap₂ (λ (x : List Literals) (d : Literals). keep L.consistent (falsify x d)) (c .before .before .before .before .before .before .before .before .before .lay-others .ensures .1) e) (c .before .before .before .before .choose .ensures)
+    let e = picked _ _ _ _ _ (c .before .before .before .before .before .before .before .before .before .before .before .before .pre .1) (c .before .before .before .before .before .before .before .before .before .before .set-at .ensures) (c .before .before .before .before .before .before .before .before .before .join .ensures) in
+    puts-is _ _ _ _ _ _ _ _ (ap₂ (λ (x : List Literals) (d : Literals). keep L.consistent (falsify x d)) (c .before .before .before .before .before .lay-others .ensures .1) e) (c .choose .ensures)
 
 pub widen-one-spec : {M : Type 1} → statement M
 widen-one-spec =
@@ -67,6 +66,4 @@ widen-one-spec =
     slice-aggregate-lay-others
     lay-others-requires
     choose-requires
-    same-length
-    same-length-2
     returns-2)

@@ -1,5 +1,4 @@
 -- `table::starts::widen_oneof` meets its contract. The invariant: the alternatives from i on give the whole. Assumes nothing.
-use mathlib.Core.Path.{sym, _∙_}
 use Prim.Native.Nat.{_≤_, _-_}
 use native.Mathlib.Omega.{arith}
 use borrow.Author.Needs.{needs}
@@ -9,7 +8,7 @@ use Rattle.sheet.specs.Packed.{setsIn}
 use Rattle.table.specs.Start.{candidates, oneOf}
 use Rattle.table.proofs.PackedClauses.{length-alts, alts-end}
 use Rattle.table.proofs.Choosing.{waysFrom, ways-start, ways-step, ways-end}
-use Rattle.table.proofs.Pads.{holds-trues-long, holds-falses-long, held-own}
+use Rattle.table.proofs.Pads.{held-own}
 use Rattle.table.proofs.Growing.{Going, going-start, going-on, going-full, going-end}
 use Rattle.table.proofs.starts.widen_oneof.Statement.{statement}
 use Rattle.table.proofs.starts.widen_oneof.Tie as tie
@@ -26,10 +25,10 @@ count-of-requires : tie.Need-count-of-requires Inv-loop μ-loop
 count-of-requires c κs = search needs
 
 loop-holds : tie.Need-loop-holds Inv-loop μ-loop
-loop-holds c = (omega arith, going-start _ _ _ _ _ (ways-start _ _) (c .before .before .before .before .pre .1))
+loop-holds c = (omega arith, going-start _ _ _ _ _ (ways-start _ _) (c .before .before .pre .held))
 
 widen-one-requires : tie.Need-widen-one-requires Inv-loop μ-loop
-widen-one-requires c κs = ((c .before .before .before .before .before .before .before .before .pre .0, omega arith), held-own _ _ _ _ (c .before .before .before .loop .inv .1 .held))
+widen-one-requires c κs = (record { sets = c .before .before .before .before .before .before .pre .sets; held = held-own _ _ _ _ (c .before .before .before .loop .inv .1 .held) }, omega arith)
 
 enum-known-grown : tie.Need-enum-known-grown Inv-loop μ-loop
 enum-known-grown c = search needs
@@ -37,14 +36,8 @@ enum-known-grown c = search needs
 enum-told : tie.Need-enum-told Inv-loop μ-loop
 enum-told c = search needs
 
-same-length : tie.Need-same-length Inv-loop μ-loop
-same-length c = c .before .before .before .before .before .before .widen-one .kept .1 .1 .1 .0 ∙ holds-trues-long _ _ _ _ _ (c .before .before .before .before .before .before .before .before .before .before .loop .inv .1 .held)
-
-same-length-2 : tie.Need-same-length-2 Inv-loop μ-loop
-same-length-2 c = c .before .before .before .before .before .before .widen-one .kept .1 .1 .1 .1 .0 ∙ holds-falses-long _ _ _ _ _ (c .before .before .before .before .before .before .before .before .before .before .loop .inv .1 .held) ∙ sym (holds-falses-long _ _ _ _ _ (c .before .before .before .before .before .before .before .before .before .before .before .before .before .before .before .pre .1))
-
 returns : tie.Need-returns Inv-loop μ-loop
-returns c = going-full _ _ _ _ _ _ _ _ _ _ _ _ _ (c .before .before .before .before .before .before .before .before .before .before .loop .inv .1) (ways-step _ _ _ (omega (arith, length-alts (c .before .before .before .before .before .before .before .before .before .before .before .before .before .before .before .args .alts .now)))) (c .before .before .before .before .before .before .widen-one .ensures) (c .enum-told .given .1)
+returns c = going-full _ _ _ _ _ _ _ _ _ _ _ _ _ (c .before .before .before .before .before .before .loop .inv .1) (ways-step _ _ _ (omega (arith, length-alts (c .before .before .before .before .before .before .before .before .before .args .alts .now)))) (c .before .before .widen-one .ensures) (c .enum-told .given .1)
 
 add-i : tie.Need-add-i Inv-loop μ-loop
 add-i c = search needs
@@ -53,13 +46,7 @@ loop-less : tie.Need-loop-less Inv-loop μ-loop
 loop-less c = search needs
 
 loop-again : tie.Need-loop-again Inv-loop μ-loop
-loop-again c = (omega arith, going-on _ _ _ _ _ _ _ _ _ _ _ _ _ (c .before .before .before .before .before .before .before .before .before .before .before .loop .inv .1) (ways-step _ _ _ (omega (arith, length-alts (c .before .before .before .before .before .before .before .before .before .before .before .before .before .before .before .before .args .alts .now)))) (c .before .before .before .before .before .before .before .widen-one .ensures) _ (c .before .grown .given .1))
-
-same-length-3 : tie.Need-same-length-3 Inv-loop μ-loop
-same-length-3 c = holds-trues-long _ _ _ _ _ (c .before .loop .inv .1 .held)
-
-same-length-4 : tie.Need-same-length-4 Inv-loop μ-loop
-same-length-4 c = holds-falses-long _ _ _ _ _ (c .before .loop .inv .1 .held) ∙ sym (holds-falses-long _ _ _ _ _ (c .before .before .before .before .before .before .pre .1))
+loop-again c = (omega arith, going-on _ _ _ _ _ _ _ _ _ _ _ _ _ (c .before .before .before .before .before .before .before .loop .inv .1) (ways-step _ _ _ (omega (arith, length-alts (c .before .before .before .before .before .before .before .before .before .before .args .alts .now)))) (c .before .before .before .widen-one .ensures) _ (c .before .grown .given .1))
 
 returns-2 : tie.Need-returns-2 Inv-loop μ-loop
 returns-2 c = going-end _ _ _ _ _ _ _ _ (c .before .loop .inv .1) (ways-end _ _ _ (alts-end _ _ _ (c .before .before .count-of .ensures) (c .loop-test .left)))
@@ -75,12 +62,8 @@ widen-oneof-spec =
     widen-one-requires
     enum-known-grown
     enum-told
-    same-length
-    same-length-2
     returns
     add-i
     loop-less
     loop-again
-    same-length-3
-    same-length-4
     returns-2)

@@ -1,5 +1,5 @@
 -- `table::starts::widen_or` meets its contract. The invariant: the alternatives from i on give the whole. Assumes nothing.
-use mathlib.Core.Path.{refl, sym, _∙_}
+use mathlib.Core.Path.{refl}
 use mathlib.Core.List.{map}
 use Prim.Native.Nat.{_≤_, _-_}
 use native.Mathlib.Omega.{arith}
@@ -10,7 +10,7 @@ use Rattle.sheet.specs.Lists.{keep}
 use Rattle.sheet.specs.Packed.{setsIn}
 use Rattle.table.proofs.PackedClauses.{alts-step, alts-end}
 use Rattle.table.proofs.Choosing.{or-step, or-end}
-use Rattle.table.proofs.Pads.{holds-trues-long, holds-falses-long, held-own}
+use Rattle.table.proofs.Pads.{held-own}
 use Rattle.table.proofs.Growing.{Going, going-start, going-on, going-full, going-end}
 use Rattle.table.proofs.starts.widen_or.Statement.{statement}
 use Rattle.table.proofs.starts.widen_or.Tie as tie
@@ -28,7 +28,7 @@ count-of-requires : tie.Need-count-of-requires Inv-loop μ-loop
 count-of-requires c κs = search needs
 
 loop-holds : tie.Need-loop-holds Inv-loop μ-loop
-loop-holds c = (omega arith, going-start _ _ _ _ _ refl (c .before .before .before .before .pre .1))
+loop-holds c = (omega arith, going-start _ _ _ _ _ refl (c .before .before .pre .held))
 
 set-at-requires : tie.Need-set-at-requires Inv-loop μ-loop
 set-at-requires c κs = search needs
@@ -45,16 +45,10 @@ enum-known-grown c = search needs
 enum-told : tie.Need-enum-told Inv-loop μ-loop
 enum-told c = search needs
 
-same-length : tie.Need-same-length Inv-loop μ-loop
-same-length c = c .before .before .before .before .before .before .admit .kept .0 ∙ holds-trues-long _ _ _ _ _ (c .before .before .before .before .before .before .before .before .before .before .before .before .loop .inv .1 .held)
-
-same-length-2 : tie.Need-same-length-2 Inv-loop μ-loop
-same-length-2 c = c .before .before .before .before .before .before .admit .kept .1 .0 ∙ holds-falses-long _ _ _ _ _ (c .before .before .before .before .before .before .before .before .before .before .before .before .loop .inv .1 .held) ∙ sym (holds-falses-long _ _ _ _ _ (c .before .before .before .before .before .before .before .before .before .before .before .before .before .before .before .before .before .pre .1))
-
 returns : tie.Need-returns Inv-loop μ-loop
 returns c =
-    going-full _ _ _ _ _ _ _ _ _ _ _ _ _ (c .before .before .before .before .before .before .before .before .before .before .before .before .loop .inv .1)
-    (or-step _ _ _ _ _ (alts-step _ _ _ (c .before .before .before .before .before .before .before .before .before .before .before .before .before .count-of .ensures) _ (c .before .before .before .before .before .before .before .before .before .before .before .loop-test .taken) (c .before .before .before .before .before .before .before .before .before .before .set-at .ensures)) (c .before .before .before .before .before .before .before .join .ensures)) (c .before .before .before .before .before .before .admit .ensures) (c .enum-told .given .1)
+    going-full _ _ _ _ _ _ _ _ _ _ _ _ _ (c .before .before .before .before .before .before .before .before .loop .inv .1)
+    (or-step _ _ _ _ _ (alts-step _ _ _ (c .before .before .before .before .before .before .before .before .before .count-of .ensures) _ (c .before .before .before .before .before .before .before .loop-test .taken) (c .before .before .before .before .before .before .set-at .ensures)) (c .before .before .before .join .ensures)) (c .before .before .admit .ensures) (c .enum-told .given .1)
 
 add-i : tie.Need-add-i Inv-loop μ-loop
 add-i c = search needs
@@ -65,15 +59,9 @@ loop-less c = search needs
 loop-again : tie.Need-loop-again Inv-loop μ-loop
 loop-again c = (
   omega arith,
-  going-on _ _ _ _ _ _ _ _ _ _ _ _ _ (c .before .before .before .before .before .before .before .before .before .before .before .before .before .loop .inv .1)
-      (or-step _ _ _ _ _ (alts-step _ _ _ (c .before .before .before .before .before .before .before .before .before .before .before .before .before .before .count-of .ensures) _ (c .before .before .before .before .before .before .before .before .before .before .before .before .loop-test .taken) (c .before .before .before .before .before .before .before .before .before .before .before .set-at .ensures)) (c .before .before .before .before .before .before .before .before .join .ensures)) (c .before .before .before .before .before .before .before .admit .ensures) _ (c .before .grown .given .1),
+  going-on _ _ _ _ _ _ _ _ _ _ _ _ _ (c .before .before .before .before .before .before .before .before .before .loop .inv .1)
+      (or-step _ _ _ _ _ (alts-step _ _ _ (c .before .before .before .before .before .before .before .before .before .before .count-of .ensures) _ (c .before .before .before .before .before .before .before .before .loop-test .taken) (c .before .before .before .before .before .before .before .set-at .ensures)) (c .before .before .before .before .join .ensures)) (c .before .before .before .admit .ensures) _ (c .before .grown .given .1),
 )
-
-same-length-3 : tie.Need-same-length-3 Inv-loop μ-loop
-same-length-3 c = holds-trues-long _ _ _ _ _ (c .before .loop .inv .1 .held)
-
-same-length-4 : tie.Need-same-length-4 Inv-loop μ-loop
-same-length-4 c = holds-falses-long _ _ _ _ _ (c .before .loop .inv .1 .held) ∙ sym (holds-falses-long _ _ _ _ _ (c .before .before .before .before .before .before .pre .1))
 
 returns-2 : tie.Need-returns-2 Inv-loop μ-loop
 returns-2 c = going-end _ _ _ _ _ _ _ _ (c .before .loop .inv .1) (or-end _ _ (alts-end _ _ _ (c .before .before .count-of .ensures) (c .loop-test .left)))
@@ -91,12 +79,8 @@ widen-or-spec =
     admit-requires
     enum-known-grown
     enum-told
-    same-length
-    same-length-2
     returns
     add-i
     loop-less
     loop-again
-    same-length-3
-    same-length-4
     returns-2)

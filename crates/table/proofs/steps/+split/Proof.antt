@@ -1,5 +1,5 @@
 -- The cycle {split}: the measure is the number of conditions left. The invariant: the parts from turn t on give what is left. Assumes nothing.
-use mathlib.Core.Path.{_≡_, refl, sym, _∙_, subst}
+use mathlib.Core.Path.{_≡_, refl, sym, subst}
 use mathlib.Core.List.{_∷_, map, _++_}
 use mathlib.Core.Logic.{⊎-elim}
 use native.Mathlib.Omega.{arith}
@@ -12,7 +12,7 @@ use Rattle.sheet.specs.Packed.{effectsAt}
 use Rattle.table.specs.Carry.{Splits}
 use Rattle.table.proofs.Carrying.{settles-puts, settles-leaf, past-part}
 use Rattle.sheet.proofs.PackedLaws.{effects-step, effects-end}
-use Rattle.table.proofs.Pads.{holds-trues-long, holds-falses-long, held-own}
+use Rattle.table.proofs.Pads.{held-own}
 use Rattle.table.proofs.Growing.{Going, going-start, going-on, going-full, going-end}
 use Rattle.table.proofs.Walks.{going-at, Turn, turn-start, turn-on, turn-less, turn-most, partsFrom, parts-start, parts-turn, parts-end}
 use Prim.Native.Nat.{ℕ, _≤_, _<_, _-_, _+_}
@@ -32,14 +32,14 @@ use Rattle.table.proofs.steps.skip_decided.Reads as skip-decided-reads
 use Rattle.table.proofs.steps.+split.{statement}
 use Rattle.table.proofs.steps.+split.Tie.{close}
 
-abbrev μ-split : Measures 2 split-kinds.ps ℕ
+abbrev μ-split : Measures 3 split-kinds.ps ℕ
 μ-split κs a = a .1 .0 - a .1 .1 .0 .at
 
-abbrev split-at : ℕ → In 2 split-kinds.ps
-split-at t = and 2 split-kinds.ps (is 2 split-kinds.ps μ-split t) split.Pre
+abbrev split-at : ℕ → In 3 split-kinds.ps
+split-at t = and 3 split-kinds.ps (is 3 split-kinds.ps μ-split t) split.Pre
 
-abbrev split-below : ℕ → In 2 split-kinds.ps
-split-below t = and 2 split-kinds.ps (falls 2 split-kinds.ps _<_ μ-split t) split.Pre
+abbrev split-below : ℕ → In 3 split-kinds.ps
+split-below t = and 3 split-kinds.ps (falls 3 split-kinds.ps _<_ μ-split t) split.Pre
 
 abbrev claims : ℕ → split-lts.Claims
 claims t = (effect-at-reads.Asked, effect-at-reads.Learnt, minus-reads.Asked, minus-reads.Learnt, part-reads.Asked, part-reads.Learnt, carried-reads.Asked, carried-reads.Learnt, skip-decided-reads.Asked, skip-decided-reads.Learnt, split-below t, split.Post, replace-reads.Asked, replace-reads.Learnt, offer-by-newest-reads.Asked, offer-by-newest-reads.Learnt, next-reads.Asked, next-reads.Learnt)
@@ -55,17 +55,17 @@ split-μ-loop effects size piece to-trues₀ to-falses₀ count at results e con
 
 -- the condition at hand is the first that is left
 here : (t : ℕ) (c : split-lts.After-effect-at (claims t) (split-at t) split.Post split-Inv-loop split-μ-loop)
-    → let a = c .before .before .before .before .before .args in
+    → let a = c .before .before .before .args in
     let es = effectsAt (a .size) (a .effects .now) in
     drop (a .undecided .at) es ≡ c .effect-at .result ∷ drop (a .undecided .at + 1) es
-here t c = let o = c .before .before .before .before .before in effects-step (o .args .size) (o .args .effects .now) (o .args .undecided .at) _ (o .pre .1 .below) (c .effect-at .ensures)
+here t c = let o = c .before .before .before in effects-step (o .args .size) (o .args .effects .now) (o .args .undecided .at) _ (o .pre .1 .below) (c .effect-at .ensures)
 
-splits : (t : ℕ) (c : split-lts.After-effect-at (claims t) (split-at t) split.Post split-Inv-loop split-μ-loop) → Splits (c .effect-at .result .condition) (c .before .before .before .before .before .args .piece)
-splits t c = let o = c .before .before .before .before .before in subst (λ (e : Effect). Splits (e .condition) (o .args .piece)) (sym (c .effect-at .ensures)) (o .pre .1 .splits)
+splits : (t : ℕ) (c : split-lts.After-effect-at (claims t) (split-at t) split.Post split-Inv-loop split-μ-loop) → Splits (c .effect-at .result .condition) (c .before .before .before .args .piece)
+splits t c = let o = c .before .before .before in subst (λ (e : Effect). Splits (e .condition) (o .args .piece)) (sym (c .effect-at .ensures)) (o .pre .1 .splits)
 
 -- the part of this turn comes first, and then those from the next turn on
 turned : (t : ℕ) (c : split-lts.After-skip-decided (claims t) (split-at t) split.Post split-Inv-loop split-μ-loop) (n : ℕ)
-    → let a = c .before .before .before .before .before .before .before .before .before .before .before .before .args in
+    → let a = c .before .before .before .before .before .before .before .before .before .before .args in
     let es = effectsAt (a .size) (a .effects .now) in
     let hs = drop (a .undecided .at + 1) es in
     let d = c .before .before .before .before .before .before .before .effect-at .result .condition in
@@ -86,7 +86,7 @@ split-add-next t c = search needs
 
 split-loop-holds : (t : ℕ) → split-lts.Need-loop-holds (claims t) (split-at t) split.Post split-Inv-loop split-μ-loop
 split-loop-holds t c =
-    let o = c .before .before .before .before .before .before .before in
+    let o = c .before .before .before .before .before in
     let s = splits t (c .before .before) in
     (turn-start _, going-start _ _ _ _ _ (parts-start (effectsAt (o .args .size) (o .args .effects .now)) _ _ _ (o .args .piece) (here t (c .before .before)) _ (rw (s .lacking, s .apart)) (c .minus .ensures)) (o .pre .1 .held))
 
@@ -98,7 +98,7 @@ split-carried-requires t c κs = search needs
 
 split-skip-decided-requires : (t : ℕ) → split-lts.Need-skip-decided-requires (claims t) (split-at t) split.Post split-Inv-loop split-μ-loop
 split-skip-decided-requires t c κs =
-    let o = c .before .before .before .before .before .before .before .before .before .before .before in
+    let o = c .before .before .before .before .before .before .before .before .before in
     let v = c .before .before .before .loop in (
       o .pre .1 .effects-room,
       past-part _ _ _ _ (here t (c .before .before .before .before .before .before)) _ _ (o .pre .1 .carried) _ (c .before .before .before .before .minus .ensures) (splits t (c .before .before .before .before .before .before) .apart) (v .t) (c .before .before .loop-test .taken) (v .inv .0) _ _ (c .before .part .ensures) (c .carried .ensures),
@@ -106,7 +106,7 @@ split-skip-decided-requires t c κs =
 
 split-split-requires : (t : ℕ) → split-lts.Need-split-requires (claims t) (split-at t) split.Post split-Inv-loop split-μ-loop
 split-split-requires t c κs =
-    let o = c .before .before .before .before .before .before .before .before .before .before .before .before .before .before .before .before in
+    let o = c .before .before .before .before .before .before .before .before .before .before .before .before .before .before in
     let s = c .before .before .before .before .skip-decided .ensures in
     let h : c .before .before .before .before .skip-decided .result .at < o .args .size = omega arith in (
       omega (arith, s .0 .upto, o .pre .0, o .pre .1 .below),
@@ -125,19 +125,10 @@ split-enum-known-grown t c = search needs
 split-enum-told : (t : ℕ) → split-lts.Need-enum-told (claims t) (split-at t) split.Post split-Inv-loop split-μ-loop
 split-enum-told t c = search needs
 
-split-same-length : (t : ℕ) → split-lts.Need-same-length (claims t) (split-at t) split.Post split-Inv-loop split-μ-loop
-split-same-length t c = c .before .before .before .before .before .before .split .kept .1 .1 .1 .1 .0 ∙ holds-trues-long _ _ _ _ _ (c .before .before .before .before .before .before .before .before .before .before .before .before .before .before .before .loop .inv .1 .held)
-
-split-same-length-2 : (t : ℕ) → split-lts.Need-same-length-2 (claims t) (split-at t) split.Post split-Inv-loop split-μ-loop
-split-same-length-2 t c =
-    c .before .before .before .before .before .before .split .kept .1 .1 .1 .1 .1 .0
-    ∙ holds-falses-long _ _ _ _ _ (c .before .before .before .before .before .before .before .before .before .before .before .before .before .before .before .loop .inv .1 .held)
-    ∙ sym (holds-falses-long _ _ _ _ _ (c .before .before .before .before .before .before .before .before .before .before .before .before .before .before .before .before .before .before .before .before .before .before .before .pre .1 .held))
-
 split-returns : (t : ℕ) → split-lts.Need-returns (claims t) (split-at t) split.Post split-Inv-loop split-μ-loop
 split-returns t c =
-    let s = c .before .before .before .before .before .before .before .before .before .before .before in
-    going-full _ _ _ _ _ _ _ _ _ _ _ _ _ (s .before .before .before .before .loop .inv .1) (turned t s _ refl) (settles-puts _ _ _ _ (s .skip-decided .ensures .0) _ _ _ _ _ _ (c .before .before .before .before .before .before .split .ensures)) (c .enum-told .given .1)
+    let s = c .before .before .before .before .before .before .before in
+    going-full _ _ _ _ _ _ _ _ _ _ _ _ _ (s .before .before .before .before .loop .inv .1) (turned t s _ refl) (settles-puts _ _ _ _ (s .skip-decided .ensures .0) _ _ _ _ _ _ (c .before .before .split .ensures)) (c .enum-told .given .1)
 
 split-replace-requires : (t : ℕ) → split-lts.Need-replace-requires (claims t) (split-at t) split.Post split-Inv-loop split-μ-loop
 split-replace-requires t c κs = search needs
@@ -151,21 +142,12 @@ split-enum-known-grown-2 t c = search needs
 split-enum-told-2 : (t : ℕ) → split-lts.Need-enum-told-2 (claims t) (split-at t) split.Post split-Inv-loop split-μ-loop
 split-enum-told-2 t c = search needs
 
-split-same-length-3 : (t : ℕ) → split-lts.Need-same-length-3 (claims t) (split-at t) split.Post split-Inv-loop split-μ-loop
-split-same-length-3 t c = c .before .before .before .before .before .before .offer-by-newest .kept .0 ∙ holds-trues-long _ _ _ _ _ (c .before .before .before .before .before .before .before .before .before .before .before .before .before .before .before .before .loop .inv .1 .held)
-
-split-same-length-4 : (t : ℕ) → split-lts.Need-same-length-4 (claims t) (split-at t) split.Post split-Inv-loop split-μ-loop
-split-same-length-4 t c =
-    c .before .before .before .before .before .before .offer-by-newest .kept .1 .0
-    ∙ holds-falses-long _ _ _ _ _ (c .before .before .before .before .before .before .before .before .before .before .before .before .before .before .before .before .loop .inv .1 .held)
-    ∙ sym (holds-falses-long _ _ _ _ _ (c .before .before .before .before .before .before .before .before .before .before .before .before .before .before .before .before .before .before .before .before .before .before .before .before .pre .1 .held))
-
 split-returns-2 : (t : ℕ) → split-lts.Need-returns-2 (claims t) (split-at t) split.Post split-Inv-loop split-μ-loop
 split-returns-2 t c =
-    let s = c .before .before .before .before .before .before .before .before .before .before .before .before in
-    let a = s .before .before .before .before .before .before .before .before .before .before .before .before .args in
+    let s = c .before .before .before .before .before .before .before .before in
+    let a = s .before .before .before .before .before .before .before .before .before .before .args in
     going-full _ _ _ _ _ _ _ _ _ _ _ _ _ (s .before .before .before .before .loop .inv .1) (turned t s _ refl)
-    (settles-leaf _ _ _ _ (s .skip-decided .ensures .0) (effects-end (a .size) (a .effects .now) (s .skip-decided .result .at) (omega (arith, c .before .before .before .before .before .before .before .before .before .before .if1 .left))) _ (c .before .before .before .before .before .before .before .replace .ensures) _ _ _ _ _ _ (c .before .before .before .before .before .before .offer-by-newest .ensures)) (c .enum-told2 .given .1)
+    (settles-leaf _ _ _ _ (s .skip-decided .ensures .0) (effects-end (a .size) (a .effects .now) (s .skip-decided .result .at) (omega (arith, c .before .before .before .before .before .before .if1 .left))) _ (c .before .before .before .replace .ensures) _ _ _ _ _ _ (c .before .before .offer-by-newest .ensures)) (c .enum-told2 .given .1)
 
 split-next-requires : (t : ℕ) → split-lts.Need-next-requires (claims t) (split-at t) split.Post split-Inv-loop split-μ-loop
 split-next-requires t c κs = search needs
@@ -181,23 +163,17 @@ split-loop-less t c =
 split-loop-again : (t : ℕ) → split-lts.Need-loop-again (claims t) (split-at t) split.Post split-Inv-loop split-μ-loop
 split-loop-again t c =
     let s = c .before .before .before in
-    let a = s .before .before .before .before .before .before .before .before .before .before .before .before .args in
+    let a = s .before .before .before .before .before .before .before .before .before .before .args in
     let v = s .before .before .before .before .loop in (
       turn-on _ (v .t) _ (c .next .ensures),
       ⊎-elim
-          (λ x. going-at _ _ _ _ _ _ _ _ _ _ _ (x .13) (x .11) (x .12)
-          (going-on _ _ _ _ _ _ _ _ _ _ _ _ _ (v .inv .1) (turned t s _ (c .next .ensures)) (settles-puts _ _ _ _ (s .skip-decided .ensures .0) _ _ _ _ _ _ (x .3 .ensures)) _ (x .9 .given .1)))
-          (λ x. going-at _ _ _ _ _ _ _ _ _ _ _ (x .14) (x .12) (x .13)
+          (λ x. going-at _ _ _ _ _ _ _ _ _ _ _ (x .9) (x .7) (x .8)
+          (going-on _ _ _ _ _ _ _ _ _ _ _ _ _ (v .inv .1) (turned t s _ (c .next .ensures)) (settles-puts _ _ _ _ (s .skip-decided .ensures .0) _ _ _ _ _ _ (x .3 .ensures)) _ (x .5 .given .1)))
+          (λ x. going-at _ _ _ _ _ _ _ _ _ _ _ (x .10) (x .8) (x .9)
           (going-on _ _ _ _ _ _ _ _ _ _ _ _ _ (v .inv .1) (turned t s _ (c .next .ensures))
-          (settles-leaf _ _ _ _ (s .skip-decided .ensures .0) (effects-end (a .size) (a .effects .now) (s .skip-decided .result .at) (omega (arith, x .0 .left))) _ (x .3 .ensures) _ _ _ _ _ _ (x .4 .ensures)) _ (x .10 .given .1)))
+          (settles-leaf _ _ _ _ (s .skip-decided .ensures .0) (effects-end (a .size) (a .effects .now) (s .skip-decided .result .at) (omega (arith, x .0 .left))) _ (x .3 .ensures) _ _ _ _ _ _ (x .4 .ensures)) _ (x .6 .given .1)))
           (c .before .if1 .came),
     )
-
-split-same-length-5 : (t : ℕ) → split-lts.Need-same-length-5 (claims t) (split-at t) split.Post split-Inv-loop split-μ-loop
-split-same-length-5 t c = holds-trues-long _ _ _ _ _ (c .before .loop .inv .1 .held)
-
-split-same-length-6 : (t : ℕ) → split-lts.Need-same-length-6 (claims t) (split-at t) split.Post split-Inv-loop split-μ-loop
-split-same-length-6 t c = holds-falses-long _ _ _ _ _ (c .before .loop .inv .1 .held) ∙ sym (holds-falses-long _ _ _ _ _ (c .before .before .before .before .before .before .before .before .before .pre .1 .held))
 
 split-returns-3 : (t : ℕ) → split-lts.Need-returns-3 (claims t) (split-at t) split.Post split-Inv-loop split-μ-loop
 split-returns-3 t c = going-end _ _ _ _ _ _ _ _ (c .before .loop .inv .1) (parts-end _ _ _ _ _ (c .before .loop .t) (c .loop-test .left))
@@ -218,20 +194,14 @@ pub +split-spec : {M : Type 1} → statement M
     (split-split-requires t)
     (split-enum-known-grown t)
     (split-enum-told t)
-    (split-same-length t)
-    (split-same-length-2 t)
     (split-returns t)
     (split-replace-requires t)
     (split-offer-by-newest-requires t)
     (split-enum-known-grown-2 t)
     (split-enum-told-2 t)
-    (split-same-length-3 t)
-    (split-same-length-4 t)
     (split-returns-2 t)
     (split-next-requires t)
     (split-add-t t)
     (split-loop-less t)
     (split-loop-again t)
-    (split-same-length-5 t)
-    (split-same-length-6 t)
     (split-returns-3 t)

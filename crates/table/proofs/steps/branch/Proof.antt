@@ -8,23 +8,17 @@ use Rattle.table.proofs.steps.branch.Statement.{statement}
 use Rattle.table.proofs.steps.branch.Tie as tie
 
 skip-decided-requires : tie.Need-skip-decided-requires
-skip-decided-requires c κs = let o = c .before .before .before in (o .pre .effects-room, carried-start _ _ (o .pre .steady) (o .pre .entry-steady))
+skip-decided-requires c κs = let o = c .before in (o .pre .effects-room, carried-start _ _ (o .pre .steady) (o .pre .entry-steady))
 
 split-requires : tie.Need-split-requires
 split-requires c κs =
-    let o = c .before .before .before .before .before .before .before .before in
+    let o = c .before .before .before .before .before .before in
     let s = c .before .before .before .before .skip-decided .ensures in
     let h : c .before .before .before .before .skip-decided .result .at < o .args .size = omega arith in
     record { effects-room = o .pre .effects-room; below = h; splits = s .1 h; carried = s .0 .carried; held = o .pre .held }
 
-same-length : tie.Need-same-length
-same-length c = search needs
-
-same-length-2 : tie.Need-same-length-2
-same-length-2 c = search needs
-
 returns : tie.Need-returns
-returns c = settles-puts _ 0 _ _ (c .before .before .before .before .before .before .before .before .before .skip-decided .ensures .0) _ _ _ _ _ _ (c .before .before .before .before .split .ensures)
+returns c = settles-puts _ 0 _ _ (c .before .before .before .before .before .skip-decided .ensures .0) _ _ _ _ _ _ (c .split .ensures)
 
 replace-requires : tie.Need-replace-requires
 replace-requires c κs = search needs
@@ -32,17 +26,11 @@ replace-requires c κs = search needs
 offer-requires : tie.Need-offer-requires
 offer-requires c κs = search needs
 
-same-length-3 : tie.Need-same-length-3
-same-length-3 c = search needs
-
-same-length-4 : tie.Need-same-length-4
-same-length-4 c = search needs
-
 returns-2 : tie.Need-returns-2
 returns-2 c =
-    let a = c .before .before .before .before .before .before .before .before .before .before .before .before .before .before .args in
-    let s = c .before .before .before .before .before .before .before .before .before .before .skip-decided in
-    settles-leaf _ 0 _ _ (s .ensures .0) (effects-end (a .size) (a .effects .now) (s .result .at) (omega (arith, c .before .before .before .before .before .before .before .before .if1 .left))) _ (c .before .before .before .before .before .replace .ensures) _ _ _ _ _ _ (c .before .before .before .before .offer .ensures)
+    let a = c .before .before .before .before .before .before .before .before .args in
+    let s = c .before .before .before .before .before .before .skip-decided in
+    settles-leaf _ 0 _ _ (s .ensures .0) (effects-end (a .size) (a .effects .now) (s .result .at) (omega (arith, c .before .before .before .before .if1 .left))) _ (c .before .replace .ensures) _ _ _ _ _ _ (c .offer .ensures)
 
 pub branch-spec : {M : Type 1} → statement M
 branch-spec =
@@ -50,11 +38,7 @@ branch-spec =
     (tie.spec
     skip-decided-requires
     split-requires
-    same-length
-    same-length-2
     returns
     replace-requires
     offer-requires
-    same-length-3
-    same-length-4
     returns-2)

@@ -1,5 +1,5 @@
 -- `table::steps::branch_all` meets its contract. The invariant: the entries from i on give what is left. Assumes nothing.
-use mathlib.Core.Path.{_≡_, refl, sym, ap, _∙_}
+use mathlib.Core.Path.{_≡_, refl, ap}
 use mathlib.Core.Bool.{true}
 use mathlib.Core.List.{List, map}
 use Prim.Native.Nat.{_≤_, _-_}
@@ -12,7 +12,7 @@ use Rattle.sheet.specs.Lists.{collect}
 use Rattle.table.specs.Step.{pieces, image}
 use Rattle.table.specs.Slots.{entriesOf}
 use Rattle.sheet.specs.Packed.{effectsAt}
-use Rattle.table.proofs.Pads.{holds-trues-long, holds-falses-long, held-own}
+use Rattle.table.proofs.Pads.{held-own}
 use Rattle.table.proofs.Growing.{Going, going-start, going-on, going-full, going-end}
 use Rattle.table.proofs.Carrying.{all-here}
 use Rattle.table.proofs.Turns.{entries-next, entries-done}
@@ -30,14 +30,14 @@ abbrev μ-loop : tie.MeasureT-loop
 μ-loop effects size trues falses count to-trues₀ to-falses₀ filled₀ i₀ to-trues to-falses filled i = count - i
 
 loop-holds : tie.Need-loop-holds Inv-loop μ-loop
-loop-holds c = (omega arith, going-start _ _ _ _ _ refl (c .before .before .before .before .before .pre .held))
+loop-holds c = (omega arith, going-start _ _ _ _ _ refl (c .before .before .before .pre .held))
 
 entry-at-requires : tie.Need-entry-at-requires Inv-loop μ-loop
 entry-at-requires c κs = search needs
 
 branch-requires : tie.Need-branch-requires Inv-loop μ-loop
 branch-requires c κs =
-    let o = c .before .before .before .before .before .before .before .before .before .before in
+    let o = c .before .before .before .before .before .before .before .before in
     let a = o .args in
     let v = c .before .before .before .before .loop in
     record {
@@ -53,24 +53,13 @@ enum-known-grown c = search needs
 enum-told : tie.Need-enum-told Inv-loop μ-loop
 enum-told c = search needs
 
-same-length : tie.Need-same-length Inv-loop μ-loop
-same-length c =
-    c .before .before .before .before .before .before .branch .kept .1 .1 .1 .0
-    ∙ holds-trues-long _ _ _ _ _ (c .before .before .before .before .before .before .before .before .before .before .before .loop .inv .1 .held)
-
-same-length-2 : tie.Need-same-length-2 Inv-loop μ-loop
-same-length-2 c =
-    c .before .before .before .before .before .before .branch .kept .1 .1 .1 .1 .0
-    ∙ holds-falses-long _ _ _ _ _ (c .before .before .before .before .before .before .before .before .before .before .before .loop .inv .1 .held)
-    ∙ sym (holds-falses-long _ _ _ _ _ (c .before .before .before .before .before .before .before .before .before .before .before .before .before .before .before .before .before .pre .held))
-
 returns : tie.Need-returns Inv-loop μ-loop
 returns c =
-    let a = c .before .before .before .before .before .before .before .before .before .before .before .before .before .before .before .before .before .args in
-    going-full _ _ _ _ _ _ _ _ _ _ _ _ _ (c .before .before .before .before .before .before .before .before .before .before .before .loop .inv .1)
+    let a = c .before .before .before .before .before .before .before .before .before .before .before .args in
+    going-full _ _ _ _ _ _ _ _ _ _ _ _ _ (c .before .before .before .before .before .before .before .loop .inv .1)
     (entries-ways (effectsAt (a .size) (a .effects .now)) _ _ _
-    (entries-next (a .count) (a .trues .now) (a .falses .now) (c .before .before .before .before .before .before .before .before .before .before .before .loop .i) (c .before .before .before .before .before .before .before .before .before .entry-at .result) (c .before .before .before .before .before .before .before .before .before .before .loop-test .taken) (c .before .before .before .before .before .before .before .before .before .entry-at .ensures)))
-    (c .before .before .before .before .before .before .branch .ensures) (c .enum-told .given .1)
+    (entries-next (a .count) (a .trues .now) (a .falses .now) (c .before .before .before .before .before .before .before .loop .i) (c .before .before .before .before .before .entry-at .result) (c .before .before .before .before .before .before .loop-test .taken) (c .before .before .before .before .before .entry-at .ensures)))
+    (c .before .before .branch .ensures) (c .enum-told .given .1)
 
 add-i : tie.Need-add-i Inv-loop μ-loop
 add-i c = search needs
@@ -80,23 +69,17 @@ loop-less c = search needs
 
 loop-again : tie.Need-loop-again Inv-loop μ-loop
 loop-again c =
-    let a = c .before .before .before .before .before .before .before .before .before .before .before .before .before .before .before .before .before .before .args in (
+    let a = c .before .before .before .before .before .before .before .before .before .before .before .before .args in (
       omega arith,
-      going-on _ _ _ _ _ _ _ _ _ _ _ _ _ (c .before .before .before .before .before .before .before .before .before .before .before .before .loop .inv .1)
+      going-on _ _ _ _ _ _ _ _ _ _ _ _ _ (c .before .before .before .before .before .before .before .before .loop .inv .1)
           (entries-ways (effectsAt (a .size) (a .effects .now)) _ _ _
-          (entries-next (a .count) (a .trues .now) (a .falses .now) (c .before .before .before .before .before .before .before .before .before .before .before .before .loop .i) (c .before .before .before .before .before .before .before .before .before .before .entry-at .result) (c .before .before .before .before .before .before .before .before .before .before .before .loop-test .taken) (c .before .before .before .before .before .before .before .before .before .before .entry-at .ensures)))
-          (c .before .before .before .before .before .before .before .branch .ensures) _ (c .before .grown .given .1),
+          (entries-next (a .count) (a .trues .now) (a .falses .now) (c .before .before .before .before .before .before .before .before .loop .i) (c .before .before .before .before .before .before .entry-at .result) (c .before .before .before .before .before .before .before .loop-test .taken) (c .before .before .before .before .before .before .entry-at .ensures)))
+          (c .before .before .before .branch .ensures) _ (c .before .grown .given .1),
     )
-
-same-length-3 : tie.Need-same-length-3 Inv-loop μ-loop
-same-length-3 c = holds-trues-long _ _ _ _ _ (c .before .loop .inv .1 .held)
-
-same-length-4 : tie.Need-same-length-4 Inv-loop μ-loop
-same-length-4 c = holds-falses-long _ _ _ _ _ (c .before .loop .inv .1 .held) ∙ sym (holds-falses-long _ _ _ _ _ (c .before .before .before .before .before .before .before .pre .held))
 
 returns-2 : tie.Need-returns-2 Inv-loop μ-loop
 returns-2 c =
-    let a = c .before .before .before .before .before .before .before .args in
+    let a = c .before .before .before .before .before .args in
     going-end _ _ _ _ _ _ _ _ (c .before .loop .inv .1)
     (ap (λ (x : List Literals). map (image (effectsAt (a .size) (a .effects .now))) (collect (pieces (effectsAt (a .size) (a .effects .now))) x))
     (entries-done (a .count) (a .trues .now) (a .falses .now) (c .before .loop .i) (c .loop-test .left)))
@@ -112,12 +95,8 @@ branch-all-spec =
     branch-requires
     enum-known-grown
     enum-told
-    same-length
-    same-length-2
     returns
     add-i
     loop-less
     loop-again
-    same-length-3
-    same-length-4
     returns-2)

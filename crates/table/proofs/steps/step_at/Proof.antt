@@ -13,20 +13,20 @@ use Rattle.table.proofs.steps.step_at.Statement.{statement}
 use Rattle.table.proofs.steps.step_at.Tie as tie
 
 -- what was read is the move
-its-move : (c : tie.After-wide) → let a = c .before .before .before .before .before .before .before .before .before .before .args in
+its-move : (c : tie.After-wide) → let a = c .before .before .before .before .before .before .before .before .args in
     actionBy (c .before .before .set-from .result) (c .wide .result) (take 32 (drop 3 (take (a .index * 35 + 35 - a .index * 35) (drop (a .index * 35) (movesIn (a .packed .now))))))
     ≡ actionOf (movesIn (a .packed .now)) (a .index)
-its-move c = let a = c .before .before .before .before .before .before .before .before .before .before .args in action-is (movesIn (a .packed .now)) (a .index) _ _ _ (item-lent 35 (a .index) (movesIn (a .packed .now))) (c .before .before .set-from .ensures) (c .wide .ensures)
+its-move c = let a = c .before .before .before .before .before .before .before .before .args in action-is (movesIn (a .packed .now)) (a .index) _ _ _ (item-lent 35 (a .index) (movesIn (a .packed .now))) (c .before .before .set-from .ensures) (c .wide .ensures)
 
 -- its effects are within its numbers
-its-effects : (c : tie.After-wide) → let a = c .before .before .before .before .before .before .before .before .before .before .args in
+its-effects : (c : tie.After-wide) → let a = c .before .before .before .before .before .before .before .before .args in
     4 * c .wide .result ≤ length (take 32 (drop 3 (take (a .index * 35 + 35 - a .index * 35) (drop (a .index * 35) (movesIn (a .packed .now))))))
 its-effects c =
-    let a = c .before .before .before .before .before .before .before .before .before .before .args in
+    let a = c .before .before .before .before .before .before .before .before .args in
     let moves = movesIn (a .packed .now) in
-    let room = part-long 289 1120 (a .packed .now) (omega (arith, c .before .before .before .before .before .before .before .before .before .before .pre .long)) in
-    let e = ap (λ (x : List ℕ). length (part 3 32 x)) (item-lent 35 (a .index) moves) ∙ effects-room (a .index) moves (omega (arith, room, c .before .before .before .before .before .before .before .before .before .before .pre .move-most)) in
-    omega (arith, e, c .before .before .before .before .before .before .before .before .before .before .pre .effects-few, c .wide .ensures ∙ ap countIn (item-lent 35 (a .index) moves))
+    let room = part-long 289 1120 (a .packed .now) (omega (arith, c .before .before .before .before .before .before .before .before .pre .move .long)) in
+    let e = ap (λ (x : List ℕ). length (part 3 32 x)) (item-lent 35 (a .index) moves) ∙ effects-room (a .index) moves (omega (arith, room, c .before .before .before .before .before .before .before .before .pre .move .move-most)) in
+    omega (arith, e, c .before .before .before .before .before .before .before .before .pre .move .effects-few, c .wide .ensures ∙ ap countIn (item-lent 35 (a .index) moves))
 
 sub-moves : tie.Need-sub-moves
 sub-moves c = search needs
@@ -77,23 +77,23 @@ sure-requires : tie.Need-sure-requires
 sure-requires c κs = search needs
 
 returns : tie.Need-returns
-returns c = lent-unsure _ _ _ _ (c .before .before .before .before .before .before .before .before .before .before .before .before .before .pre .fits) _ (its-move (c .before .before .before)) (sym (c .before .sure .ensures) ∙ not-true _ (c .if1 .taken))
+returns c = lent-unsure _ _ _ _ (c .before .before .before .before .before .before .before .before .before .before .before .pre .move .fits) _ (its-move (c .before .before .before)) (sym (c .before .sure .ensures) ∙ not-true _ (c .if1 .taken))
 
 conflicting-requires : tie.Need-conflicting-requires
-conflicting-requires c κs = (its-effects (c .before .before .before), c .before .before .before .before .before .before .before .before .before .before .before .before .before .pre .room)
+conflicting-requires c κs = (its-effects (c .before .before .before), c .before .before .before .before .before .before .before .before .before .before .before .pre .room)
 
 returns-2 : tie.Need-returns-2
-returns-2 c = lent-conflicting _ _ _ _ (c .before .before .before .before .before .before .before .before .before .before .before .before .before .before .before .pre .fits) _ (its-move (c .before .before .before .before .before)) (sym (c .before .before .before .sure .ensures) ∙ not-false _ (c .before .before .if1 .left)) (sym (c .before .conflicting .ensures) ∙ c .if2 .taken)
+returns-2 c = lent-conflicting _ _ _ _ (c .before .before .before .before .before .before .before .before .before .before .before .before .before .pre .move .fits) _ (its-move (c .before .before .before .before .before)) (sym (c .before .before .before .sure .ensures) ∙ not-false _ (c .before .before .if1 .left)) (sym (c .before .conflicting .ensures) ∙ c .if2 .taken)
 
 branch-all-requires : tie.Need-branch-all-requires
 branch-all-requires c κs =
     let is = its-move (c .before .before .before .before .before .before .before) in
     record {
       effects-room = its-effects (c .before .before .before .before .before .before .before);
-      steady = effects-steady _ _ _ _ (c .before .before .before .before .before .before .before .before .before .before .before .before .before .before .before .before .before .pre .fits) _ is;
-      room = c .before .before .before .before .before .before .before .before .before .before .before .before .before .before .before .before .before .pre .room;
-      entries-steady = entries-steady _ _ _ _ (c .before .before .before .before .before .before .before .before .before .before .before .before .before .before .before .before .before .pre .fits) _ is;
-      held = fresh-held _ _ (c .before .before .before .before .before .before .before .before .before .before .before .before .before .before .before .before .before .pre .fresh);
+      steady = effects-steady _ _ _ _ (c .before .before .before .before .before .before .before .before .before .before .before .before .before .before .before .pre .move .fits) _ is;
+      room = c .before .before .before .before .before .before .before .before .before .before .before .before .before .before .before .pre .room;
+      entries-steady = entries-steady _ _ _ _ (c .before .before .before .before .before .before .before .before .before .before .before .before .before .before .before .pre .move .fits) _ is;
+      held = fresh-held _ _ (c .before .before .before .before .before .before .before .before .before .before .before .before .before .before .before .pre .fresh);
     }
 
 enum-known-filled : tie.Need-enum-known-filled
@@ -102,25 +102,13 @@ enum-known-filled c = search needs
 enum-told : tie.Need-enum-told
 enum-told c = search needs
 
-same-length : tie.Need-same-length
-same-length c = search needs
-
-same-length-2 : tie.Need-same-length-2
-same-length-2 c = search needs
-
 returns-3 : tie.Need-returns-3
 returns-3 c =
-    lent-to _ _ _ _ (c .before .before .before .before .before .before .before .before .before .before .before .before .before .before .before .before .before .before .before .before .before .before .before .before .before .pre .fits) _ (its-move (c .before .before .before .before .before .before .before .before .before .before .before .before .before .before .before)) (sym (c .before .before .before .before .before .before .before .before .before .before .before .before .before .sure .ensures) ∙ not-false _ (c .before .before .before .before .before .before .before .before .before .before .before .before .if1 .left)) (sym (c .before .before .before .before .before .before .before .before .before .before .before .conflicting .ensures) ∙ c .before .before .before .before .before .before .before .before .before .before .if2 .left) _ _ (c .before .before .before .before .before .before .before .before .before .before .before .before .before .before .before .before .before .before .before .before .before .before .before .before .before .pre .fresh) _ _ _ (c .before .before .before .before .before .before .before .branch-all .ensures) _ (c .before .filled .given .1)
-
-same-length-3 : tie.Need-same-length-3
-same-length-3 c = search needs
-
-same-length-4 : tie.Need-same-length-4
-same-length-4 c = search needs
+    lent-to _ _ _ _ (c .before .before .before .before .before .before .before .before .before .before .before .before .before .before .before .before .before .before .before .pre .move .fits) _ (its-move (c .before .before .before .before .before .before .before .before .before .before .before)) (sym (c .before .before .before .before .before .before .before .before .before .sure .ensures) ∙ not-false _ (c .before .before .before .before .before .before .before .before .if1 .left)) (sym (c .before .before .before .before .before .before .before .conflicting .ensures) ∙ c .before .before .before .before .before .before .if2 .left) _ _ (c .before .before .before .before .before .before .before .before .before .before .before .before .before .before .before .before .before .before .before .pre .fresh) _ _ _ (c .before .before .before .branch-all .ensures) _ (c .before .filled .given .1)
 
 returns-4 : tie.Need-returns-4
 returns-4 c =
-    lent-full _ _ _ _ (c .before .before .before .before .before .before .before .before .before .before .before .before .before .before .before .before .before .before .before .before .before .before .before .before .pre .fits) _ (its-move (c .before .before .before .before .before .before .before .before .before .before .before .before .before .before)) (sym (c .before .before .before .before .before .before .before .before .before .before .before .before .sure .ensures) ∙ not-false _ (c .before .before .before .before .before .before .before .before .before .before .before .if1 .left)) (sym (c .before .before .before .before .before .before .before .before .before .before .conflicting .ensures) ∙ c .before .before .before .before .before .before .before .before .before .if2 .left) _ _ (c .before .before .before .before .before .before .before .before .before .before .before .before .before .before .before .before .before .before .before .before .before .before .before .before .pre .fresh) _ _ _ (c .before .before .before .before .before .before .branch-all .ensures) (c .enum-told .given .1)
+    lent-full _ _ _ _ (c .before .before .before .before .before .before .before .before .before .before .before .before .before .before .before .before .before .before .pre .move .fits) _ (its-move (c .before .before .before .before .before .before .before .before .before .before)) (sym (c .before .before .before .before .before .before .before .before .sure .ensures) ∙ not-false _ (c .before .before .before .before .before .before .before .if1 .left)) (sym (c .before .before .before .before .before .before .conflicting .ensures) ∙ c .before .before .before .before .before .if2 .left) _ _ (c .before .before .before .before .before .before .before .before .before .before .before .before .before .before .before .before .before .before .pre .fresh) _ _ _ (c .before .before .branch-all .ensures) (c .enum-told .given .1)
 
 pub step-at-spec : {M : Type 1} → statement M
 step-at-spec =
@@ -148,9 +136,5 @@ step-at-spec =
     branch-all-requires
     enum-known-filled
     enum-told
-    same-length
-    same-length-2
     returns-3
-    same-length-3
-    same-length-4
     returns-4)

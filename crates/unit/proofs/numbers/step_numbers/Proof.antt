@@ -31,14 +31,8 @@ wide-requires c κs = search needs
 step-lent-requires : tie.Need-step-lent-requires
 step-lent-requires c κs = search needs
 
-same-length : tie.Need-same-length
-same-length c = search needs
-
-same-length-2 : tie.Need-same-length-2
-same-length-2 c = search needs
-
 returns : tie.Need-returns
-returns c = numbers-step (c .before .before .before .before .before .before .before .before .before .before .before .before .before .before .before .args .sheet .now) (c .before .before .before .before .before .before .before .before .before .before .before .before .before .before .before .args .numbers .now) (c .before .before .before .before .before .before .before .before .before .before .before .before .before .before .before .args .index) _ (c .before .before .before .before .step-lent .result) _ _ (c .before .before .before .before .before .before .before .wide .ensures) (c .before .before .before .before .step-lent .ensures)
+returns c = numbers-step (c .before .before .before .before .before .before .before .before .before .args .sheet .now) (c .before .before .before .before .before .before .before .before .before .args .numbers .now) (c .before .before .before .before .before .before .before .before .before .args .index) _ (c .step-lent .result) _ _ (c .before .before .before .wide .ensures) (c .step-lent .ensures)
 
 pub step-numbers-spec : {M : Type 1} → statement M
 step-numbers-spec =
@@ -53,6 +47,4 @@ step-numbers-spec =
     shared-slice-read-wide
     wide-requires
     step-lent-requires
-    same-length
-    same-length-2
     returns)

@@ -4,6 +4,7 @@ use Prim.Native.Nat.{_≤_}
 use native.Mathlib.Omega.{arith}
 use lib.ListN.{length, length-take, length-drop}
 use borrow.Author.Needs.{needs}
+use Rattle.sheet.specs.Limits.{tableNumbers}
 use Rattle.sheet.proofs.base.Copying.{whole}
 use Rattle.unit.proofs.Stores.{table-read}
 use Rattle.unit.proofs.numbers.table_in.Statement.{statement}
@@ -48,7 +49,7 @@ cast-t8 c = omega (arith, c .shared-slice-known2 .given 0)
 returns : tie.Need-returns
 returns c =
     let xs = c .before .before .before .before .before .before .before .before .before .before .args .numbers .now in
-    let p : 257 ≤ length xs = c .before .before .before .before .before .before .before .before .before .before .pre in
+    let p : tableNumbers ≤ length xs = c .before .before .before .before .before .before .before .before .before .before .pre in
     table-read xs _ _ (whole _ _ _ (sym (simp (length-take, length-drop) (omega arith))) (c .before .before .before .before .before .before .copy-masks .ensures)) (whole _ _ _ (sym (simp (length-take, length-drop) (omega arith))) (c .before .before .copy-masks2 .ensures))
 
 pub table-in-spec : {M : Type 1} → statement M
