@@ -62,12 +62,12 @@ extern "C" {
 /* The stack that each call takes, in bytes, the frames of all that it calls among it. Measured, not proved, and rounded up to a kibibyte:
  * tests/stack.c runs the calls on sheets that take them as deep as they go, built for x86-64 as `rt staticlib unit` does. */
 #define KREPUSKILO_STACK_JUDGE 7168
-#define KREPUSKILO_STACK_START 11264
-#define KREPUSKILO_STACK_STEP 10240
+#define KREPUSKILO_STACK_START 10240
+#define KREPUSKILO_STACK_STEP 9216
 #define KREPUSKILO_STACK_PICTURE 18432
 #define KREPUSKILO_STACK_RUN 16384
-#define KREPUSKILO_STACK_SEARCH 30720
-#define KREPUSKILO_STACK_SEARCH_WITH 22528
+#define KREPUSKILO_STACK_SEARCH 29696
+#define KREPUSKILO_STACK_SEARCH_WITH 21504
 
 /* Judges a sheet. Answers 0, or 1 to 7 with the position of the first fault. */
 uint8_t krepuskilo_judge(const uint8_t *sheet, size_t sheet_len, uint64_t *info, size_t info_len);
