@@ -39,7 +39,7 @@ planned p plan (Outcome.table t) =
     }
 
 unfoldable pub runOf : Judgement → ℕ → RunAnswer
-runOf (refused k p) rows = refusedRun k p
+runOf (refused number position) rows = refusedRun number position
 runOf (accepted x) rows = cond (ltb rows mostPlaces) (refusedRun 23 0) (planned (x .problem) (x .plan) (startTable mostEntries (x .problem)))
 
 -- the rows to write, from the first on; the others are kept
@@ -48,7 +48,7 @@ plannedRows p plan (Outcome.refused number) = []
 plannedRows p plan (Outcome.table t) = rowsFrom mostEntries 0 (actionsOf p plan) t
 
 unfoldable pub rowsOf : Judgement → ℕ → List Row
-rowsOf (refused k p) rows = []
+rowsOf (refused number position) rows = []
 rowsOf (accepted x) rows = cond (ltb rows mostPlaces) [] (plannedRows (x .problem) (x .plan) (startTable mostEntries (x .problem)))
 
 -- the lent rows once they are written: those of the run, and the others as they were
@@ -78,5 +78,5 @@ searched p limit (Outcome.refused number) = refusedSearch number 0
 searched p limit (Outcome.table t) = answered (searchedFrom p limit t)
 
 unfoldable pub searchOf : Judgement → ℕ → SearchAnswer
-searchOf (refused k p) limit = refusedSearch k p
+searchOf (refused number position) limit = refusedSearch number position
 searchOf (accepted x) limit = cond (ltb 8 limit) (refusedSearch 8 0) (searched (x .problem) limit (startTable mostEntries (x .problem)))

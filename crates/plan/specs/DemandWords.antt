@@ -55,7 +55,7 @@ whenAccepted (Refused number position) t = none
 -- the table after some moves from the table t, by the call step
 abbrev pub stepped : List ℕ → List ℕ → Table → Option Table
 stepped s [] t = some t
-stepped s (m ∷ ms) t = andThen (whenAccepted (stepOf (sheetOf s) t m .answer) (stepOf (sheetOf s) t m .table)) (λ u. stepped s ms u)
+stepped s (index ∷ rest) t = andThen (whenAccepted (stepOf (sheetOf s) t index .answer) (stepOf (sheetOf s) t index .table)) (λ u. stepped s rest u)
 
 -- the table after some moves, by the calls start and step
 abbrev pub arrived : List ℕ → List ℕ → Option Table

@@ -72,9 +72,9 @@ pub record JudgeDemand (s : List ℕ) : Type 0 where
   -- and then they say that statement
   pub says : (x : Statement) → Says s x ↔ (ProperStatement x × (s ≡ encode x))
   -- "with the number of its first fault": else refused with the number and position of the first place where the rule of what is due is broken
-  pub refused : (k p : ℕ) → (judgeOf s ≡ Refused k p) ↔ FirstFault s k p
+  pub refused : (number position : ℕ) → (judgeOf s ≡ Refused number position) ↔ FirstFault s number position
   -- no other number than these seven
-  pub numbers : (k p : ℕ) → judgeOf s ≡ Refused k p → (1 ≤ k) × (k ≤ 7)
+  pub numbers : (number position : ℕ) → judgeOf s ≡ Refused number position → (1 ≤ number) × (number ≤ 7)
   -- "1 the bytes end too early (position: the length)": a byte is due at the end
   pub on-1 : (p : ℕ) → (judgeOf s ≡ Refused 1 p)
       ↔ ((p ≡ length s) × ((rule : ℕ → ℕ) × (next : ℕ → Form Statement) × (due sheet s ≡ some (byte rule next))))
@@ -99,13 +99,13 @@ pub record JudgeDemand (s : List ℕ) : Type 0 where
   pub first-decide : judgeOf (take 4096 s) ≡ judgeOf s
 
 -- ---- every other call on bytes at fault: "The sheet is judged …. After it, for each call …"
-pub record FaultDemand (s : List ℕ) (k p : ℕ) : Type 0 where
+pub record FaultDemand (s : List ℕ) (number position : ℕ) : Type 0 where
   -- the sheet's number and position come first, whatever table, move, length, rows or limit is handed in
-  pub start : startOf (sheetOf s) .answer ≡ Refused k p
-  pub step : (t : Table) (m : ℕ) → stepOf (sheetOf s) t m .answer ≡ Refused k p
-  pub picture : (t : Table) (len : ℕ) → pictureOf (sheetOf s) t len .answer ≡ Refused k p
-  pub run : (rows : ℕ) → runOf (sheetOf s) rows .verdict ≡ ran.Refused k p
-  pub search : (limit : ℕ) → searchOf (sheetOf s) limit .kind ≡ kind.Refused k p
+  pub start : startOf (sheetOf s) .answer ≡ Refused number position
+  pub step : (t : Table) (index : ℕ) → stepOf (sheetOf s) t index .answer ≡ Refused number position
+  pub picture : (t : Table) (len : ℕ) → pictureOf (sheetOf s) t len .answer ≡ Refused number position
+  pub run : (rows : ℕ) → runOf (sheetOf s) rows .verdict ≡ ran.Refused number position
+  pub search : (limit : ℕ) → searchOf (sheetOf s) limit .kind ≡ kind.Refused number position
 
 -- ---- start: "21 or 20, whichever the start meets first"
 pub record StartDemand (s : List ℕ) (x : Statement) : Type 0 where
@@ -126,26 +126,26 @@ pub record StartDemand (s : List ℕ) (x : Statement) : Type 0 where
   pub returned : startOf (sheetOf s) .answer ≡ Accepted → AsDescribed x (startOf (sheetOf s) .table) × ZeroAfter (startOf (sheetOf s) .table)
 
 -- ---- step, of the table t by the move m: the numbers in this order, accepted under none of them
-pub record StepDemand (s : List ℕ) (x : Statement) (t : Table) (m : ℕ) : Type 0 where
+pub record StepDemand (s : List ℕ) (x : Statement) (t : Table) (index : ℕ) : Type 0 where
   -- "7 move number not on the sheet (in a single step: position 0)"
-  pub on-7 : (stepOf (sheetOf s) t m .answer ≡ Refused 7 0) ↔ (OnSheet x m → ⊥)
+  pub on-7 : (stepOf (sheetOf s) t index .answer ≡ Refused 7 0) ↔ (OnSheet x index → ⊥)
   -- "22 table not as described above"
-  pub on-22 : (stepOf (sheetOf s) t m .answer ≡ Refused 22 0) ↔ (OnSheet x m × (AsDescribed x t → ⊥))
+  pub on-22 : (stepOf (sheetOf s) t index .answer ≡ Refused 22 0) ↔ (OnSheet x index × (AsDescribed x t → ⊥))
   -- "24 precondition not sure"
-  pub on-24 : (stepOf (sheetOf s) t m .answer ≡ Refused 24 0) ↔ (OnSheet x m × AsDescribed x t × Unsure x t m)
+  pub on-24 : (stepOf (sheetOf s) t index .answer ≡ Refused 24 0) ↔ (OnSheet x index × AsDescribed x t × Unsure x t index)
   -- "25 contradictory results"
-  pub on-25 : (stepOf (sheetOf s) t m .answer ≡ Refused 25 0) ↔ (OnSheet x m × AsDescribed x t × (Unsure x t m → ⊥) × Contradictory x t m)
+  pub on-25 : (stepOf (sheetOf s) t index .answer ≡ Refused 25 0) ↔ (OnSheet x index × AsDescribed x t × (Unsure x t index → ⊥) × Contradictory x t index)
   -- "21 table … full"; "A contradiction anywhere is reported before a full table"
-  pub on-21 : (stepOf (sheetOf s) t m .answer ≡ Refused 21 0)
-      ↔ (OnSheet x m × AsDescribed x t × (Unsure x t m → ⊥) × (Contradictory x t m → ⊥) × (putImages x t m ≡ none))
+  pub on-21 : (stepOf (sheetOf s) t index .answer ≡ Refused 21 0)
+      ↔ (OnSheet x index × AsDescribed x t × (Unsure x t index → ⊥) × (Contradictory x t index → ⊥) × (putImages x t index ≡ none))
   -- accepted under none of these, with the table of the images as put
-  pub accepted : (stepOf (sheetOf s) t m .answer ≡ Accepted)
-      ↔ (OnSheet x m × AsDescribed x t × (Unsure x t m → ⊥) × (Contradictory x t m → ⊥)
-      × ((u : List Literals) × (putImages x t m ≡ some u) × (stepOf (sheetOf s) t m .table ≡ tableOf u)))
+  pub accepted : (stepOf (sheetOf s) t index .answer ≡ Accepted)
+      ↔ (OnSheet x index × AsDescribed x t × (Unsure x t index → ⊥) × (Contradictory x t index → ⊥)
+      × ((u : List Literals) × (putImages x t index ≡ some u) × (stepOf (sheetOf s) t index .table ≡ tableOf u)))
   -- no other number than these five, each at position 0
-  pub numbers : (k q : ℕ) → stepOf (sheetOf s) t m .answer ≡ Refused k q → (q ≡ 0) × ((k ≡ 7) ⊎ ((k ≡ 22) ⊎ ((k ≡ 24) ⊎ ((k ≡ 25) ⊎ (k ≡ 21)))))
+  pub numbers : (number position : ℕ) → stepOf (sheetOf s) t index .answer ≡ Refused number position → (position ≡ 0) × ((number ≡ 7) ⊎ ((number ≡ 22) ⊎ ((number ≡ 24) ⊎ ((number ≡ 25) ⊎ (number ≡ 21)))))
   -- what an accepted step returns is a table as described, unused slots zero
-  pub returned : stepOf (sheetOf s) t m .answer ≡ Accepted → AsDescribed x (stepOf (sheetOf s) t m .table) × ZeroAfter (stepOf (sheetOf s) t m .table)
+  pub returned : stepOf (sheetOf s) t index .answer ≡ Accepted → AsDescribed x (stepOf (sheetOf s) t index .table) × ZeroAfter (stepOf (sheetOf s) t index .table)
 
 -- ---- picture, of the table t into a buffer of len bytes: the numbers in this order, accepted under none of them
 pub record PictureDemand (s : List ℕ) (x : Statement) (t : Table) : Type 0 where
@@ -161,7 +161,7 @@ pub record PictureDemand (s : List ℕ) (x : Statement) (t : Table) : Type 0 whe
       ↔ (AsDescribed x t × ((c : List Literals) × (picture (entries t) ≡ some c) × (2 + 8 * length c ≤ length buffer)
       × (pictureOf (sheetOf s) t (length buffer) .clauses ≡ length c) × (bufferOf (sheetOf s) t buffer ≡ pictureBytes c ++ drop (2 + 8 * length c) buffer)))
   -- no other number than these three, each at position 0
-  pub numbers : (len k q : ℕ) → pictureOf (sheetOf s) t len .answer ≡ Refused k q → (q ≡ 0) × ((k ≡ 22) ⊎ ((k ≡ 21) ⊎ (k ≡ 23)))
+  pub numbers : (len number position : ℕ) → pictureOf (sheetOf s) t len .answer ≡ Refused number position → (position ≡ 0) × ((number ≡ 22) ⊎ ((number ≡ 21) ⊎ (number ≡ 23)))
   -- "The picture is the table's set of prime implicates", "sorted by first then second mask", "at most 256 clauses"
   pub primes : AsDescribed x t → (c : List Literals) → picture (entries t) ≡ some c
       → Ascending c × (length c ≤ 256) × Exactly (x .problem .n) (In (x .problem .n) (entries t)) c
@@ -171,7 +171,7 @@ pub record RunDemand (s : List ℕ) (x : Statement) : Type 0 where
   -- "23 for rows"
   pub on-23 : (rows : ℕ) → (runOf (sheetOf s) rows .verdict ≡ ran.Refused 23 0) ↔ (rows < 65)
   -- "a start's 20 or 21 refuses the run …"; else it is not refused
-  pub start : (rows : ℕ) → 65 ≤ rows → (k q : ℕ) → (runOf (sheetOf s) rows .verdict ≡ ran.Refused k q) ↔ (startOf (sheetOf s) .answer ≡ Refused k q)
+  pub start : (rows : ℕ) → 65 ≤ rows → (number position : ℕ) → (runOf (sheetOf s) rows .verdict ≡ ran.Refused number position) ↔ (startOf (sheetOf s) .answer ≡ Refused number position)
   -- "A run starts, then steps the plan": reached if every world of the last table is in the goal
   pub reached : (rows : ℕ) → 65 ≤ rows → (runOf (sheetOf s) rows .verdict ≡ ran.Reached)
       ↔ ((u : Table) × (arrived s (x .plan) ≡ some u) × ((w : ℕ) → WorldOf x u w → InGoal (x .problem .n) (x .problem .goal) w))
@@ -199,24 +199,24 @@ pub record SearchDemand (s : List ℕ) (x : Statement) : Type 0 where
   -- "8 search limit above 8 (position 0)"
   pub on-8 : (limit : ℕ) → (searchOf (sheetOf s) limit .kind ≡ kind.Refused 8 0) ↔ (8 < limit)
   -- "a start's 20 or 21 refuses the … search"; else it is not refused
-  pub start : (limit : ℕ) → limit ≤ 8 → (k q : ℕ) → (searchOf (sheetOf s) limit .kind ≡ kind.Refused k q) ↔ (startOf (sheetOf s) .answer ≡ Refused k q)
+  pub start : (limit : ℕ) → limit ≤ 8 → (number position : ℕ) → (searchOf (sheetOf s) limit .kind ≡ kind.Refused number position) ↔ (startOf (sheetOf s) .answer ≡ Refused number position)
 
 -- ---- what comes back, whatever the bytes s are
 pub record BackDemand (s : List ℕ) : Type 0 where
   -- "a refused start … returns a table with count 0 and all slots zero"
-  pub refused-start : (k q : ℕ) → startOf (sheetOf s) .answer ≡ Refused k q → startOf (sheetOf s) .table ≡ tableOf []
+  pub refused-start : (number position : ℕ) → startOf (sheetOf s) .answer ≡ Refused number position → startOf (sheetOf s) .table ≡ tableOf []
   -- "A refused step returns the given table"
-  pub refused-step : (t : Table) (m k q : ℕ) → stepOf (sheetOf s) t m .answer ≡ Refused k q → stepOf (sheetOf s) t m .table ≡ t
+  pub refused-step : (t : Table) (index number position : ℕ) → stepOf (sheetOf s) t index .answer ≡ Refused number position → stepOf (sheetOf s) t index .table ≡ t
   -- "it gives the clause count, 0 if refused"; "every lent byte … untouched"
-  pub refused-picture : (t : Table) (buffer : List ℕ) (k q : ℕ) → pictureOf (sheetOf s) t (length buffer) .answer ≡ Refused k q
+  pub refused-picture : (t : Table) (buffer : List ℕ) (number position : ℕ) → pictureOf (sheetOf s) t (length buffer) .answer ≡ Refused number position
       → (pictureOf (sheetOf s) t (length buffer) .clauses ≡ 0) × (bufferOf (sheetOf s) t buffer ≡ buffer)
   -- "a refused … run returns a table with count 0 and all slots zero"; "every lent … row untouched"
-  pub refused-run : (rows : List Row) (k q : ℕ) → runOf (sheetOf s) (length rows) .verdict ≡ ran.Refused k q
+  pub refused-run : (rows : List Row) (number position : ℕ) → runOf (sheetOf s) (length rows) .verdict ≡ ran.Refused number position
       → (runOf (sheetOf s) (length rows) .table ≡ tableOf []) × (rowsAfter (sheetOf s) rows ≡ rows)
   -- no row is added or lost, whatever the verdict
   pub rows-length : (rows : List Row) → length (rowsAfter (sheetOf s) rows) ≡ length rows
   -- "for … a refusal the length is 0"
-  pub refused-search : (limit k q : ℕ) → searchOf (sheetOf s) limit .kind ≡ kind.Refused k q
+  pub refused-search : (limit number position : ℕ) → searchOf (sheetOf s) limit .kind ≡ kind.Refused number position
       → (searchOf (sheetOf s) limit .plan ≡ replicate 8 0) × (searchOf (sheetOf s) limit .length ≡ 0)
   -- "for none … the length is 0"
   pub nothing-found : (limit : ℕ) → searchOf (sheetOf s) limit .kind ≡ kind.Nothing → searchOf (sheetOf s) limit .length ≡ 0
@@ -224,16 +224,16 @@ pub record BackDemand (s : List ℕ) : Type 0 where
   pub eight-bytes : (limit : ℕ) → let r = searchOf (sheetOf s) limit in (r .length ≤ 8) × (r .plan ≡ pad 8 0 (planFound r))
   -- "unused slots are not read on entry": tables with the same entries give the same answers
   pub unread : (t u : Table) → entries t ≡ entries u
-      → ((m : ℕ) → (stepOf (sheetOf s) t m .answer ≡ stepOf (sheetOf s) u m .answer)
-      × (stepOf (sheetOf s) t m .answer ≡ Accepted → stepOf (sheetOf s) t m .table ≡ stepOf (sheetOf s) u m .table))
+      → ((index : ℕ) → (stepOf (sheetOf s) t index .answer ≡ stepOf (sheetOf s) u index .answer)
+      × (stepOf (sheetOf s) t index .answer ≡ Accepted → stepOf (sheetOf s) t index .table ≡ stepOf (sheetOf s) u index .table))
       × ((len : ℕ) → pictureOf (sheetOf s) t len ≡ pictureOf (sheetOf s) u len) × ((buffer : List ℕ) → bufferOf (sheetOf s) t buffer ≡ bufferOf (sheetOf s) u buffer)
 
 pub record Demand1 : Type 0 where
   pub masks : MaskDemand
   pub judge : (s : List ℕ) → JudgeDemand s
-  pub fault : (s : List ℕ) (k p : ℕ) → judgeOf s ≡ Refused k p → FaultDemand s k p
+  pub fault : (s : List ℕ) (number position : ℕ) → judgeOf s ≡ Refused number position → FaultDemand s number position
   pub start : (s : List ℕ) (x : Statement) → Says s x → StartDemand s x
-  pub step : (s : List ℕ) (x : Statement) → Says s x → (t : Table) (m : ℕ) → StepDemand s x t m
+  pub step : (s : List ℕ) (x : Statement) → Says s x → (t : Table) (index : ℕ) → StepDemand s x t index
   pub picture : (s : List ℕ) (x : Statement) → Says s x → (t : Table) → PictureDemand s x t
   pub run : (s : List ℕ) (x : Statement) → Says s x → RunDemand s x
   pub search : (s : List ℕ) (x : Statement) → Says s x → SearchDemand s x
@@ -264,18 +264,18 @@ pub record PaperDemand : Type 0 where
 -- ---- tables
 pub record TableWorlds (s : List ℕ) (x : Statement) : Type 0 where
   -- "A move turns a table into one for exactly the worlds got by stepping each world alone"
-  pub step : (t : Table) (m : ℕ) → stepOf (sheetOf s) t m .answer ≡ Accepted → (v : ℕ)
-      → WorldOf x (stepOf (sheetOf s) t m .table) v ↔ ((w : ℕ) × WorldOf x t w × (stepWorld (x .problem .n) (actionAt (x .problem) m) w ≡ some v))
+  pub step : (t : Table) (index : ℕ) → stepOf (sheetOf s) t index .answer ≡ Accepted → (v : ℕ)
+      → WorldOf x (stepOf (sheetOf s) t index .table) v ↔ ((w : ℕ) × WorldOf x t w × (stepWorld (x .problem .n) (actionAt (x .problem) index) w ≡ some v))
   -- "and is undefined exactly when some world can't take it"
-  pub step-undefined : (t : Table) (m : ℕ) → OnSheet x m → AsDescribed x t
-      → ((stepOf (sheetOf s) t m .answer ≡ Refused 24 0) ⊎ (stepOf (sheetOf s) t m .answer ≡ Refused 25 0)) ↔ Untaken x t m
+  pub step-undefined : (t : Table) (index : ℕ) → OnSheet x index → AsDescribed x t
+      → ((stepOf (sheetOf s) t index .answer ≡ Refused 24 0) ⊎ (stepOf (sheetOf s) t index .answer ≡ Refused 25 0)) ↔ Untaken x t index
   -- "else it fails only where the new table fills"
-  pub step-else : (t : Table) (m : ℕ) → OnSheet x m → AsDescribed x t → (Untaken x t m → ⊥)
-      → (stepOf (sheetOf s) t m .answer ≡ Accepted) ⊎ ((stepOf (sheetOf s) t m .answer ≡ Refused 21 0) × (putImages x t m ≡ none))
+  pub step-else : (t : Table) (index : ℕ) → OnSheet x index → AsDescribed x t → (Untaken x t index → ⊥)
+      → (stepOf (sheetOf s) t index .answer ≡ Accepted) ⊎ ((stepOf (sheetOf s) t index .answer ≡ Refused 21 0) × (putImages x t index ≡ none))
   -- for tables: the new entries are min of the images of the pieces, as in source 001, Definition 4; but the pieces are document 01's, without
   -- the min that 001 takes between conditions
-  pub step-least : (t : Table) (m : ℕ) → stepOf (sheetOf s) t m .answer ≡ Accepted → (d : Literals)
-      → List·Memᴰ d (entries (stepOf (sheetOf s) t m .table)) ↔ Least (images x t m) d
+  pub step-least : (t : Table) (index : ℕ) → stepOf (sheetOf s) t index .answer ≡ Accepted → (d : Literals)
+      → List·Memᴰ d (entries (stepOf (sheetOf s) t index .table)) ↔ Least (images x t index) d
   -- the first table stands for exactly the starting worlds
   pub start : startOf (sheetOf s) .answer ≡ Accepted → (w : ℕ) → WorldOf x (startOf (sheetOf s) .table) w ↔ Starts (x .problem) w
   -- and where there is one, the start fails only where a table fills

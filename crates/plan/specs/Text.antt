@@ -22,16 +22,16 @@ ascii (c then s) = code c ∷ ascii s
 
 -- the decimal digits of a number that has at most k of them, without zeros in front
 abbrev pub digitsOf : ℕ → ℕ → List ℕ
-digitsOf zero n = []
-digitsOf (suc k) n = let higher = digitsOf k (n / 10) in cond (ltb n 10) [] higher ++ ((48 + n % 10) ∷ [])
+digitsOf zero x = []
+digitsOf (suc k) x = let higher = digitsOf k (x / 10) in cond (ltb x 10) [] higher ++ ((48 + x % 10) ∷ [])
 
 -- a number in decimal: no number has more digits than one above itself
 unfoldable pub decimal : ℕ → List ℕ
-decimal n = digitsOf (suc n) n
+decimal x = digitsOf (suc x) x
 
 -- "A full picture prints `-` as clauses"
 unfoldable pub clausesText : ℕ → List ℕ
-clausesText n = cond (eqb n fullPicture) (ascii "-") (decimal n)
+clausesText x = cond (eqb x fullPicture) (ascii "-") (decimal x)
 
 -- "place, entries, clauses"
 unfoldable pub rowText : Row → List ℕ
