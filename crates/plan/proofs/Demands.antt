@@ -10,26 +10,26 @@ use Rattle.sheet.specs.Faults.{Says}
 use Rattle.sheet.proofs.Demands as sheets
 use Rattle.table.specs.declared.Table.{Table}
 use Rattle.table.proofs.Demands as tables
-use Rattle.table.proofs.CallDemands as tabled
-use Rattle.table.proofs.CallTables as returned
-use Rattle.table.proofs.PaperWorlds as paper
-use Rattle.table.proofs.Unread as unread
+use Rattle.table.proofs.laws.answers.CallDemands as tabled
+use Rattle.table.proofs.laws.answers.CallTables as returned
+use Rattle.table.proofs.laws.steps.PaperWorlds as paper
+use Rattle.table.proofs.laws.answers.UnreadSlots as unread
 use Rattle.plan.specs.Run.{reached, short, stopped}
 use Rattle.plan.specs.Calls.{verdictOf}
 use Rattle.plan.specs.Demand3.{SamePlanSheet}
 use Rattle.plan.specs.Demands.{MaskDemand, JudgeDemand, StartDemand, StepDemand, PictureDemand, RunDemand, SearchDemand, BackDemand, Demand1, PaperDemand, TableWorlds, RunWorlds, SearchFinds, Demand2, ExchangeDemand, FinalDemand, TwoPlans, Demand3, RequestW2}
-use Rattle.plan.proofs.CallAnswers as answers
-use Rattle.plan.proofs.RunAnswers as ran
-use Rattle.plan.proofs.CallDemands as called
-use Rattle.plan.proofs.RunPlaces as places
-use Rattle.plan.proofs.RunDemands as runs
-use Rattle.plan.proofs.SearchDemands as searches
-use Rattle.plan.proofs.Commuting as commuting
-use Rattle.plan.proofs.Touching as touching
-use Rattle.plan.proofs.ExchangeDemands as exchanges
-use Rattle.plan.proofs.ExchangeMet as example
-use Rattle.plan.proofs.PaperRuns as printed
-use Rattle.plan.proofs.TextExamples as text
+use Rattle.plan.proofs.laws.runs.CallAnswers as answers
+use Rattle.plan.proofs.laws.runs.RunAnswers as ran
+use Rattle.plan.proofs.laws.runs.CallDemands as called
+use Rattle.plan.proofs.laws.runs.RunPlaces as places
+use Rattle.plan.proofs.laws.runs.RunDemands as runs
+use Rattle.plan.proofs.laws.searches.SearchDemands as searches
+use Rattle.plan.proofs.laws.exchanges.CommutingMoves as commuting
+use Rattle.plan.proofs.laws.exchanges.TouchingMoves as touching
+use Rattle.plan.proofs.laws.exchanges.ExchangeDemands as exchanges
+use Rattle.plan.proofs.laws.examples.LampExample as example
+use Rattle.plan.proofs.laws.examples.PaperSheet as printed
+use Rattle.plan.proofs.laws.examples.TextExamples as text
 
 -- ---- the groups of demand 1
 masks : MaskDemand

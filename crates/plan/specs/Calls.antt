@@ -11,7 +11,7 @@ use Rattle.sheet.specs.Problem.{Problem}
 use Rattle.sheet.specs.Format.{Judgement, accepted, refused}
 use Rattle.table.specs.Minimal.{Outcome}
 use Rattle.table.specs.Start.{startTable}
-use Rattle.table.specs.Slots.{tableOf}
+use Rattle.table.specs.Entries.{tableOf}
 use Rattle.plan.specs.declared.Row.{Row}
 use Rattle.plan.specs.declared.RunAnswer.{RunAnswer}
 use Rattle.plan.specs.declared.Verdict as case

@@ -1,18 +1,14 @@
 -- Demand 3 (document 01, "For demand 3"): full runs, the classes of verdicts, the moves taken, the final picture of a run, sheets alike in
 -- sections 1 to 6.
 use mathlib.Core.Path.{_≡_}
-use mathlib.Core.Bool.{Bool, true, false, cond}
+use mathlib.Core.Bool.{Bool, true, false}
 use mathlib.Core.List.{List, []}
 use mathlib.Core.Option.{Option, none, some}
 use Prim.Native.Nat.{ℕ, _-_}
 use lib.Dec.{eqb}
 use lib.ListN.{take}
-use Rattle.sheet.specs.declared.Literals.{Literals}
 use Rattle.sheet.specs.Problem.{Statement}
 use Rattle.sheet.specs.Format.{accepted, sheetOf}
-use Rattle.table.specs.Worlds.{andThen}
-use Rattle.table.specs.Picture.{picture, pictureBytes}
-use Rattle.table.specs.Slots.{entries}
 use Rattle.plan.specs.declared.RunAnswer.{RunAnswer}
 use Rattle.plan.specs.declared.Verdict as case
 use Rattle.plan.specs.declared.Verdict.the-variants.{Reached, Short, Stopped, Full, Refused}
@@ -59,23 +55,8 @@ runFull r = fullVerdict (r .verdict)
 unfoldable pub runRefused : RunAnswer → Bool
 runRefused r = refusedVerdict (r .verdict)
 
--- the clauses of the returned table's picture: none if it is full (21), or the run is refused
-unfoldable pub finalClauses : RunAnswer → Option (List Literals)
-finalClauses r = cond (runRefused r) none (picture (entries (r .table)))
-
--- their bytes; that the picture call writes just these for the returned table is the law `final-is`
-unfoldable pub finalPicture : RunAnswer → Option (List ℕ)
-finalPicture r = andThen (finalClauses r) (λ s. some (pictureBytes s))
-
 -- ---- two plans on one sheet: two accepted sheets alike in sections 1 to 6
 pub record SamePlanSheet (s₁ s₂ : List ℕ) (x y : Statement) : Type 0 where
   pub first : sheetOf s₁ ≡ accepted x
   pub second : sheetOf s₂ ≡ accepted y
   pub alike : x .problem ≡ y .problem
-
--- ---- two runs end alike: their verdicts are in one class, and unless that is stopped, final pictures that are not full have equal bytes
-pub record SameEnd (r₁ r₂ : RunAnswer) : Type 0 where
-  pub class : Class
-  pub first : classOf (r₁ .verdict) ≡ some class
-  pub second : classOf (r₂ .verdict) ≡ some class
-  pub pictures : (class ≡ isStopped → ⊥) → (b₁ b₂ : List ℕ) → finalPicture r₁ ≡ some b₁ → finalPicture r₂ ≡ some b₂ → b₁ ≡ b₂

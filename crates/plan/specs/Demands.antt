@@ -35,7 +35,7 @@ use Rattle.table.specs.Minimal.{In, Least, table}
 use Rattle.table.specs.Start.{startClauses, growAll}
 use Rattle.table.specs.Picture.{Ascending, picture, pictureBytes}
 use Rattle.table.specs.Prime.{Exactly}
-use Rattle.table.specs.Slots.{entries, tableOf}
+use Rattle.table.specs.Entries.{entries, tableOf}
 use Rattle.table.specs.Calls.{startOf, actionAt, stepOf}
 use Rattle.table.specs.PictureCalls.{pictureOf, bufferOf}
 use Rattle.table.specs.CallWords.{OnSheet, AsDescribed, ZeroAfter, Starts, WorldOf, Unsure, Contradictory, Untaken, StartStops, images, putImages}

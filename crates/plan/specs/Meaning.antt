@@ -11,7 +11,6 @@ use Rattle.sheet.specs.declared.Literals.{Literals}
 use Rattle.sheet.specs.Literals.{within, state}
 use Rattle.sheet.specs.Problem.{Action}
 use Rattle.table.specs.Worlds.{runWorld, InGoal}
-use Rattle.plan.specs.Run.{Verdict, reached, short, stopped, full}
 
 -- how a world's run ends: defined; undefined; at v; in the goal; outside; where the move a lacks its precondition
 abbrev pub Ends : Option ℕ → Type 0
@@ -54,10 +53,3 @@ pub record StopsAt (n : ℕ) (S : ℕ → Type 0) (plan : List Action) (k N : �
   pub taken : Every n S Ends (take before plan)
   pub lost : Some n S Undefined (take k plan)
   pub number : ((N ≡ 24) × Some n S (Lacking n move) (take before plan)) ⊎ ((N ≡ 25) × (Some n S (Lacking n move) (take before plan) → ⊥))
-
--- what a verdict says of the worlds of S; full says nothing of them
-abbrev pub Means : ℕ → List Literals → (ℕ → Type 0) → List Action → Verdict → Type 0
-Means n goal S plan reached = Every n S (Inside n goal) plan
-Means n goal S plan short = Every n S Ends plan × Some n S (Outside n goal) plan
-Means n goal S plan (stopped k N) = StopsAt n S plan k N
-Means n goal S plan (full k) = Unit {0}

@@ -10,8 +10,7 @@ use Rattle.sheet.specs.Lists.{allOf}
 use Rattle.sheet.specs.Problem.{Action, Problem}
 use Rattle.table.specs.Minimal.{Outcome, refused, table}
 use Rattle.table.specs.Step.{stepTable}
-use Rattle.table.specs.Picture.{picture}
-use Rattle.table.specs.Counts.{sizeOf}
+use Rattle.table.specs.Picture.{picture, sizeOf}
 use Rattle.table.specs.Calls.{actionAt}
 use Rattle.plan.specs.declared.Row.{Row}
 
@@ -55,15 +54,6 @@ tableOr (table u) t next = next u
 abbrev pub lastTable : ℕ → List Action → List Literals → List Literals
 lastTable cap [] t = t
 lastTable cap (a ∷ plan) t = tableOr (stepTable cap a t) t (λ u. lastTable cap plan u)
-
--- ---- the moves taken: all of them for reached and short, those before the place for stopped and full
-abbrev pub countOr : Outcome → (List Literals → ℕ) → ℕ
-countOr (refused number) next = 0
-countOr (table u) next = suc (next u)
-
-abbrev pub movesTaken : ℕ → List Action → List Literals → ℕ
-movesTaken cap [] t = 0
-movesTaken cap (a ∷ plan) t = countOr (stepTable cap a t) (λ u. movesTaken cap plan u)
 
 -- ---- the rows of the places arrived at: place, entries, picture clauses (257 if the picture is full)
 unfoldable pub rowOf : ℕ → List Literals → Row

@@ -1,12 +1,11 @@
 -- The text of the program `check` (document 01, "The program `check`"), as ASCII bytes.
-use mathlib.Core.Path.{_≡_}
 use mathlib.Core.Bool.{cond}
 use mathlib.Core.List.{List, [], _∷_, _++_}
 use Prim.Native.Nat.{ℕ, zero, suc, _+_, _/_, _%_}
 use Prim.Native.Char.{code}
 use Prim.Native.String.{String, [] as none, _∷_ as _then_}
 use lib.Dec.{ltb, eqb}
-use lib.ListN.{length, take, drop}
+use lib.ListN.{length, drop}
 use Rattle.sheet.specs.Limits.{fullPicture, mostPlaces, reportLength}
 use Rattle.sheet.specs.Format.{Judgement}
 use Rattle.plan.specs.declared.Row.{Row}
@@ -70,9 +69,3 @@ reportOf sheet lent = cond (ltb lent reportLength) 0 (length (outputOf sheet))
 -- the buffer: the output, and later bytes as they were
 unfoldable pub reportIn : Judgement → List ℕ → List ℕ
 reportIn sheet buffer = cond (ltb (length buffer) reportLength) buffer (outputOf sheet ++ drop (length (outputOf sheet)) buffer)
-
--- ---- bytes in a lent buffer
--- the bytes s stand from `at` on, the others are kept, and r is the place after s
-pub record Wrote (before : List ℕ) (at : ℕ) (s : List ℕ) (r : ℕ) (after : List ℕ) : Type 0 where
-  pub place : r ≡ at + length s
-  pub bytes : after ≡ take at before ++ (s ++ drop (at + length s) before)

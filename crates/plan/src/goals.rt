@@ -7,8 +7,9 @@ use table::tables::entry_at;
 ghost use mathlib.Core.Path.{_≡_};
 ghost use Rattle.sheet.specs.Literals as L;
 ghost use Rattle.sheet.specs.Lists.{allOf};
-ghost use Rattle.sheet.specs.Packed.{setsIn, SetsFit};
-ghost use Rattle.table.specs.Slots.{entriesOf, Room};
+ghost use Rattle.sheet.specs.inner.Packed.{setsIn, SetsFit};
+ghost use Rattle.table.specs.Entries.{entriesOf};
+ghost use Rattle.table.specs.inner.Slots.{Room};
 ghost use Rattle.plan.specs.Run.{inGoal};
 
 // Some literal of the clause c lies in d.

@@ -7,10 +7,11 @@ ghost use mathlib.Core.Bool.{true};
 ghost use Prim.Native.Nat.{ℕ, _+_, _*_, _≤_, _<_};
 ghost use lib.ListN.{length};
 ghost use mathlib.Core.List.{List};
-ghost use Rattle.table.specs.Slots.{entriesOf, Room};
-ghost use Rattle.plan.specs.Walks.{NoShorterFrom};
-ghost use Rattle.plan.specs.Memory.{markIn, tableIn, Storable, Recalls, Remembers};
-ghost use Rattle.sheet.specs.Limits.{memorySlot};
+ghost use Rattle.table.specs.Entries.{entriesOf};
+ghost use Rattle.table.specs.inner.Slots.{Room};
+ghost use Rattle.plan.specs.inner.Searches.{NoShorterFrom};
+ghost use Rattle.plan.specs.inner.Memory.{markIn, tableIn, Storable, Recalls, Remembers};
+ghost use Rattle.sheet.specs.inner.Widths.{memorySlot};
 
 // The numbers of a slot, and where its masks begin.
 const SLOT: usize = 258;

@@ -6,7 +6,7 @@ ghost use mathlib.Core.Path.{_≡_};
 ghost use Prim.Native.Nat.{_<_, _≤_};
 ghost use mathlib.Core.List.{_++_};
 ghost use lib.ListN.{length, set, drop};
-ghost use Rattle.plan.specs.Rows.{rowIn, rowAt, rowsIn};
+ghost use Rattle.plan.specs.inner.Rows.{rowIn, rowAt, rowsIn};
 ghost use Rattle.sheet.specs.Limits.{mostPlaces};
 
 // Writes one row.

@@ -25,18 +25,20 @@ ghost use Prim.Native.Nat.{_+_, _≤_, _<_};
 ghost use lib.Dec.{eqb};
 ghost use lib.ListN.{replicate};
 ghost use Rattle.sheet.specs.Lists.{allOf};
-ghost use Rattle.sheet.specs.Decoded.{planIn, problemIn};
-ghost use Rattle.sheet.specs.Packed.{goalIn, movesIn, setsIn, SetsFit, actionOf};
+ghost use Rattle.sheet.specs.inner.Decoded.{planIn, problemIn};
+ghost use Rattle.sheet.specs.inner.Packed.{goalIn, movesIn, setsIn, SetsFit, actionOf};
 ghost use Rattle.sheet.specs.Format.{sheetOf};
-ghost use Rattle.table.specs.Slots.{entriesOf, Room, Fresh};
+ghost use Rattle.table.specs.Entries.{entriesOf};
+ghost use Rattle.table.specs.inner.Slots.{Room, Fresh};
 ghost use Rattle.table.specs.Start.{startTable};
 ghost use Rattle.table.specs.Step.{stepTable};
 ghost use Rattle.table.specs.Calls.{orGiven};
-ghost use Rattle.table.specs.Moves.{lent, stepAnswer, MoveFits};
+ghost use Rattle.table.specs.Entries.{lent};
+ghost use Rattle.table.specs.inner.Steps.{stepAnswer, MoveFits};
 ghost use Rattle.plan.specs.Run as R;
 ghost use Rattle.plan.specs.Calls.{verdictOf};
-ghost use Rattle.plan.specs.Course as C;
-ghost use Rattle.plan.specs.Walks as W;
+ghost use Rattle.plan.specs.inner.Course as C;
+ghost use Rattle.plan.specs.inner.Searches as W;
 ghost use Rattle.sheet.specs.Limits.{mostEntries, mostPlaces};
 
 // One row more: the entries of a lent table and the clauses of its picture.

@@ -18,15 +18,17 @@ ghost use mathlib.Core.Bool.{true};
 ghost use mathlib.Core.List.{_∷_};
 ghost use Prim.Native.Nat.{_+_, _-_, _≤_, _<_};
 ghost use lib.ListN.{replicate};
-ghost use Rattle.table.specs.Slots.{entriesOf, Room};
-ghost use Rattle.sheet.specs.Decoded.{problemIn, Filled};
+ghost use Rattle.table.specs.Entries.{entriesOf};
+ghost use Rattle.table.specs.inner.Slots.{Room};
+ghost use Rattle.sheet.specs.inner.Decoded.{problemIn, Filled};
 ghost use Rattle.table.specs.Start.{startTable};
-ghost use Rattle.table.specs.Moves as M;
+ghost use Rattle.table.specs.Entries.{lent};
 ghost use Rattle.plan.specs.Search.{fullAt, nothing};
 ghost use Rattle.plan.specs.Calls.{refusedSearch, answered, searched};
-ghost use Rattle.plan.specs.Walks as W;
-ghost use Rattle.plan.specs.Memory.{Remembers, Underway, MoveUnderway};
-ghost use Rattle.sheet.specs.Limits.{mostEntries, mostMoves};
+ghost use Rattle.plan.specs.inner.Searches as W;
+ghost use Rattle.plan.specs.inner.Memory.{Remembers, Underway, MoveUnderway};
+ghost use Rattle.sheet.specs.Limits.{mostEntries};
+ghost use Rattle.sheet.specs.inner.Widths.{mostMoves};
 
 // Where the search stands: how many moves there are to choose from, how many are taken, how many are left.
 pub struct Depth {
@@ -125,8 +127,8 @@ fn try_move<'a, 'b, 'c>(
     count: usize,
     memory: &'c mut [u32],
 ) -> SearchAnswer
-    requires { ⌜ MoveUnderway (now packed) depth index (M.lent count (now trues) (now falses)) (now memory) ⌝ }
-    ensures answers { λ r. ⌜ r ≡ W.moveTried (now (packed .entry)) (depth .moves) (M.lent count (now (trues .entry)) (now (falses .entry))) (depth .at) (depth .left - 1) index ⌝ }
+    requires { ⌜ MoveUnderway (now packed) depth index (lent count (now trues) (now falses)) (now memory) ⌝ }
+    ensures answers { λ r. ⌜ r ≡ W.moveTried (now (packed .entry)) (depth .moves) (lent count (now (trues .entry)) (now (falses .entry))) (depth .at) (depth .left - 1) index ⌝ }
     ensures keeps { λ r. ⌜ Remembers (now (packed .entry)) (depth .moves) (now (memory .exit)) ⌝ }
 {
     let mut to_trues = [0u32; ENTRIES];
@@ -176,8 +178,8 @@ fn try_plans<'a, 'b, 'c>(
     count: usize,
     memory: &'c mut [u32],
 ) -> SearchAnswer
-    requires { ⌜ Underway (now packed) depth (M.lent count (now trues) (now falses)) (now memory) ⌝ }
-    ensures answers { λ r. ⌜ r ≡ W.plansTried (now (packed .entry)) (depth .moves) (M.lent count (now (trues .entry)) (now (falses .entry))) (depth .at) (depth .left) ⌝ }
+    requires { ⌜ Underway (now packed) depth (lent count (now trues) (now falses)) (now memory) ⌝ }
+    ensures answers { λ r. ⌜ r ≡ W.plansTried (now (packed .entry)) (depth .moves) (lent count (now (trues .entry)) (now (falses .entry))) (depth .at) (depth .left) ⌝ }
     ensures keeps { λ r. ⌜ Remembers (now (packed .entry)) (depth .moves) (now (memory .exit)) ⌝ }
 {
     let left = depth.left;
@@ -219,9 +221,9 @@ pub(crate) fn lengths<'a, 'b, 'c>(
     limit: usize,
     memory: &'c mut [u32],
 ) -> SearchAnswer
-    requires { ⌜ W.Searchable (now packed) «move_count» (M.lent count (now trues) (now falses)) ⌝ }
+    requires { ⌜ W.Searchable (now packed) «move_count» (lent count (now trues) (now falses)) ⌝ }
     requires { ⌜ limit ≤ 8 ⌝ }
-    ensures { λ r. ⌜ r ≡ W.searchedBy (now (packed .entry)) «move_count» (M.lent count (now (trues .entry)) (now (falses .entry))) limit ⌝ }
+    ensures { λ r. ⌜ r ≡ W.searchedBy (now (packed .entry)) «move_count» (lent count (now (trues .entry)) (now (falses .entry))) limit ⌝ }
 {
     forget(memory);
     let mut length: usize = 0;

@@ -8,9 +8,10 @@ ghost use mathlib.Core.Path.{_≡_};
 ghost use Prim.Native.Nat.{_+_, _*_, _≤_};
 ghost use lib.ListN.{length};
 ghost use Rattle.plan.specs.Demand3.{refusedVerdict};
-ghost use Rattle.plan.specs.Course.{countsIn};
-ghost use Rattle.plan.specs.Rows.{rowsIn};
-ghost use Rattle.plan.specs.Text.{decimal, clausesText, rowText, rowsText, numberAt, lastLine, textOf, Wrote};
+ghost use Rattle.plan.specs.inner.Course.{countsIn};
+ghost use Rattle.plan.specs.inner.Rows.{rowsIn};
+ghost use Rattle.plan.specs.Text.{decimal, clausesText, rowText, rowsText, numberAt, lastLine, textOf};
+ghost use Rattle.plan.specs.inner.Writing.{Wrote};
 ghost use Rattle.sheet.specs.Limits.{mostPlaces, reportLength};
 
 // The bytes s.

@@ -12,12 +12,12 @@ use Rattle.sheet.specs.Format.{refused, sheetOf}
 use Rattle.sheet.specs.Encoding.{ProperStatement, encode}
 use Rattle.sheet.specs.Calls.{answerOf, judgeOf}
 use Rattle.sheet.specs.Faults.{Says}
-use Rattle.sheet.proofs.Judging as J
-use Rattle.sheet.proofs.Encoded as E
-use Rattle.sheet.proofs.Faults as F
-pub use Rattle.sheet.proofs.Faults.{judge-says, judge-refuses, judge-refused, judge-numbers, judge-1, judge-2, judge-3, judge-4, judge-5, judge-6, judge-7}
-pub use Rattle.sheet.proofs.Alike.{alike}
-pub use Rattle.sheet.proofs.LiteralTests.{within-iff, consistent-iff, meets-iff, state-iff}
+use Rattle.sheet.proofs.laws.format.Judgements as J
+use Rattle.sheet.proofs.laws.format.Encodings as E
+use Rattle.sheet.proofs.laws.format.FaultNumbers as F
+pub use Rattle.sheet.proofs.laws.format.FaultNumbers.{judge-says, judge-refuses, judge-refused, judge-numbers, judge-1, judge-2, judge-3, judge-4, judge-5, judge-6, judge-7}
+pub use Rattle.sheet.proofs.laws.format.AlikeSheets.{alike}
+pub use Rattle.sheet.proofs.laws.literals.LiteralTests.{within-iff, consistent-iff, meets-iff, state-iff}
 
 -- ---- TH1 (a): accepted exactly for the encodings of statements within document 01's ranges and list rules; these are unique, and
 -- no longer than 3,711 bytes. So an accepted sheet's literal sets are consistent and below n, its counts in range, and its plan's

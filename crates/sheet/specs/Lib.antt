@@ -1,14 +1,12 @@
--- The definitions that the contracts and theorems of this crate cite, one file for each notion.
-pub mod Limits
+-- TODO
 pub mod Literals
 pub mod Lists
 pub mod Problem
 pub mod Form
 pub mod Format
-pub mod Encoding
-pub mod Packed
-pub mod Decoded
 pub mod Calls
+pub mod Encoding
 pub mod Faults
+pub mod Limits
 pub mod Printed
-pub mod Marks
+pub mod inner

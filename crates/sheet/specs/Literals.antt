@@ -1,7 +1,7 @@
 -- Sets of literals as two masks, bit p for proposition p. A literal is a sign s (true: p holds) and a proposition p.
 use mathlib.Core.Bool.{Bool, true, false, not, cond, _&&_}
 use mathlib.Core.List.{List, [], _∷_}
-use Prim.Native.Nat.{ℕ, zero, suc, _+_, _-_, _*_, _/_, _%_, _^_, _<_}
+use Prim.Native.Nat.{ℕ, zero, suc, _-_, _/_, _%_, _^_, _<_}
 use lib.Dec.{T, eqb, ltb}
 use lib.Bits.{bitAnd, bitOr}
 use Rattle.sheet.specs.declared.Literals.{Literals}
@@ -39,10 +39,6 @@ consistent a = eqb (bitAnd (a .trues) (a .falses)) 0
 unfoldable pub join : Literals → Literals → Literals
 join a b = record { trues = bitOr (a .trues) (b .trues); falses = bitOr (a .falses) (b .falses) }
 
--- the literals of a that are not in b
-unfoldable pub minus : Literals → Literals → Literals
-minus a b = record { trues = a .trues - bitAnd (a .trues) (b .trues); falses = a .falses - bitAnd (a .falses) (b .falses) }
-
 -- the complement of each literal
 unfoldable pub flip : Literals → Literals
 flip a = record { trues = a .falses; falses = a .trues }
@@ -68,10 +64,6 @@ single false p = record { trues = 0; falses = 2 ^ p }
 unfoldable pub sign : ℕ → Bool
 sign l = eqb (l % 2) 0
 
-unfoldable pub byte : Bool → ℕ → ℕ
-byte true p = 2 * p
-byte false p = 2 * p + 1
-
 unfoldable pub literal : ℕ → Literals
 literal l = single (sign l) (l / 2)
 
@@ -81,10 +73,6 @@ contains a l = mem a (sign l) (l / 2)
 -- the world w < 2 ^ n as the complete set of its literals
 unfoldable pub state : ℕ → ℕ → Literals
 state n w = record { trues = w; falses = (2 ^ n - 1) - w }
-
--- the world that w becomes by the results r
-unfoldable pub overridden : ℕ → Literals → ℕ
-overridden w r = bitOr (w - bitAnd w (r .falses)) (r .trues)
 
 -- some literal of the clause c lies in d
 unfoldable pub meets : Literals → Literals → Bool
@@ -100,19 +88,10 @@ pub record Proper (n : ℕ) (a : Literals) : Type 0 where
   pub trues-below : a .trues < 2 ^ n
   pub falses-below : a .falses < 2 ^ n
 
--- the smallest literal byte of a from l on, among k bytes; l + k where there is none
-unfoldable pub nextFrom : ℕ → Literals → ℕ → ℕ
-nextFrom zero a l = l
-nextFrom (suc k) a l = cond (contains a l) l (nextFrom k a (suc l))
-
 -- the literal bytes of a, ascending, among the k bytes from l on
 unfoldable pub membersFrom : ℕ → Literals → ℕ → List ℕ
 membersFrom zero a l = []
 membersFrom (suc k) a l = cond (contains a l) (l ∷ membersFrom k a (suc l)) (membersFrom k a (suc l))
-
--- the smallest literal byte of a from l on; 64 where there is none
-unfoldable pub next : Literals → ℕ → ℕ
-next a l = nextFrom (64 - l) a l
 
 -- the literal bytes of a from l on, ascending
 unfoldable pub members : Literals → ℕ → List ℕ

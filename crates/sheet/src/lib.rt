@@ -2,7 +2,7 @@
 ghost use mathlib.Core.Path.{_≡_};
 ghost use Rattle.sheet.specs.Format.{sheetOf};
 ghost use Prim.Native.Nat.{_≤_};
-ghost use Rattle.sheet.specs.Decoded.{judgementIn};
+ghost use Rattle.sheet.specs.inner.Decoded.{judgementIn};
 ghost use Rattle.sheet.specs.Calls.{judgeOf};
 
 pub mod limits;

@@ -3,8 +3,9 @@ use crate::Literals;
 use crate::limits::PROPOSITIONS;
 ghost use mathlib.Core.Path.{_≡_};
 ghost use Prim.Native.Nat.{_*_, _<_, _≤_};
-ghost use Rattle.sheet.specs.Limits.{mostPropositions};
+ghost use Rattle.sheet.specs.inner.Widths.{mostPropositions};
 ghost use Rattle.sheet.specs.Literals as L;
+ghost use Rattle.sheet.specs.inner.Masks as K;
 
 // All literals of a lie in b.
 pub fn within(a: Literals, b: Literals) -> bool
@@ -39,7 +40,7 @@ pub fn join(a: Literals, b: Literals) -> Literals
 
 // The literals of a that are not in b.
 pub fn minus(a: Literals, b: Literals) -> Literals
-    ensures { λ r. ⌜ r ≡ L.minus a b ⌝ }
+    ensures { λ r. ⌜ r ≡ K.minus a b ⌝ }
 {
     Literals {
         trues: a.trues & !b.trues,
@@ -103,7 +104,7 @@ pub(crate) fn contains(a: Literals, l: usize) -> bool
 // The smallest literal of a at the propositions from p on; 64 where there is none.
 fn lowest(a: Literals, p: usize) -> usize
     requires { ⌜ p ≤ mostPropositions ⌝ }
-    ensures { λ r. ⌜ r ≡ L.next a (2 * p) ⌝ }
+    ensures { λ r. ⌜ r ≡ K.next a (2 * p) ⌝ }
 {
     if p >= PROPOSITIONS {
         return 64;
@@ -121,7 +122,7 @@ fn lowest(a: Literals, p: usize) -> usize
 
 // The smallest literal of a from `from` on; 64 or more where there is none.
 pub fn next(a: Literals, from: usize) -> usize
-    ensures { λ r. ⌜ r ≡ L.next a from ⌝ }
+    ensures { λ r. ⌜ r ≡ K.next a from ⌝ }
 {
     if from >= 64 {
         return from;

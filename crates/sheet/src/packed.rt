@@ -5,7 +5,7 @@ ghost use mathlib.Core.Path.{_≡_};
 ghost use mathlib.Core.List.{_++_};
 ghost use Prim.Native.Nat.{_≤_, _+_, _*_};
 ghost use lib.ListN.{length, take, drop, getD};
-ghost use Rattle.sheet.specs.Packed as R;
+ghost use Rattle.sheet.specs.inner.Packed as R;
 
 // The numbers of a clause, or of the goal: its count, and two masks to each of eight sets.
 pub const SETS_WIDTH: usize = 17;

@@ -24,12 +24,12 @@ ghost use Prim.Native.Nat.{_≤_};
 ghost use lib.ListN.{length};
 ghost use Rattle.sheet.specs.Form.{judged, times, read};
 ghost use Rattle.sheet.specs.Format as F;
-ghost use Rattle.sheet.specs.Packed as R;
-ghost use Rattle.sheet.specs.Decoded.{planOf, judgementIn};
-ghost use Rattle.sheet.specs.Marks.{ReadsAs, same, literalBefore, factsIn, refusedBy};
+ghost use Rattle.sheet.specs.inner.Packed as R;
+ghost use Rattle.sheet.specs.inner.Decoded.{planOf, judgementIn};
+ghost use Rattle.sheet.specs.inner.Marks.{ReadsAs, same, literalBefore, factsIn, refusedBy};
 ghost use Rattle.sheet.specs.Calls.{answerOf};
 ghost use Rattle.sheet.specs.declared.Answer.the-variants.{Refused};
-ghost use Rattle.sheet.specs.Limits.{mostPropositions, mostMoves, setsWidth, effectsWidth, moveWidth, clausesWidth, movesWidth, packedLength};
+ghost use Rattle.sheet.specs.inner.Widths.{mostPropositions, mostMoves, setsWidth, effectsWidth, moveWidth, clausesWidth, movesWidth, packedLength};
 
 // Where reading stands: at the next position, or at a fault with its number and position.
 pub enum Mark {

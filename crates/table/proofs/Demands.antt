@@ -22,19 +22,19 @@ use Rattle.table.specs.Worlds.{results, stepWorld, Starting}
 use Rattle.table.specs.Minimal.{In, Antichain, Described, described, put, putAll, refused, table}
 use Rattle.table.specs.Start.{startClauses, startTable, Stops}
 use Rattle.table.specs.Step.{pieces, image, stepTable}
-use Rattle.table.specs.Pairs.{contradicts}
-use Rattle.table.specs.Slots.{lastWithin, left, fateOf}
+use Rattle.table.specs.inner.Pairs.{contradicts}
+use Rattle.table.specs.Fates.{lastWithin, left, fateOf}
 use Rattle.table.specs.Demands.{RequestW3}
-use Rattle.table.proofs.Scan as scan
-use Rattle.table.proofs.PutSlots as slots
-use Rattle.table.proofs.PutLaws as putting
-use Rattle.table.proofs.Stepping as stepping
-use Rattle.table.proofs.Starting as starting
-use Rattle.table.proofs.Describing as describing
-use Rattle.table.proofs.PairLaws as pairs
-pub use Rattle.table.proofs.Answers.{start-fault, start-number, start-accepted, start-back, step-fault, step-7, step-22, step-number, step-accepted, step-back}
-pub use Rattle.table.proofs.PictureAnswers.{picture-fault, picture-22, picture-21, picture-23, picture-accepted, picture-back}
-pub use Rattle.table.proofs.Pictures.{union-primes, picture-primes, picture-ascending, picture-worlds, prime-unique, bytes-worlds}
+use Rattle.table.proofs.laws.slots.LastWithin as scan
+use Rattle.table.proofs.laws.slots.PutSlots as slots
+use Rattle.table.proofs.laws.slots.PutLaws as putting
+use Rattle.table.proofs.laws.steps.StepWorlds as stepping
+use Rattle.table.proofs.laws.starts.StartWorlds as starting
+use Rattle.table.proofs.laws.slots.DescribedTables as describing
+use Rattle.table.proofs.laws.steps.OpposedPairs as pairs
+pub use Rattle.table.proofs.laws.answers.StartStepAnswers.{start-fault, start-number, start-accepted, start-back, step-fault, step-7, step-22, step-number, step-accepted, step-back}
+pub use Rattle.table.proofs.laws.answers.PictureAnswers.{picture-fault, picture-22, picture-21, picture-23, picture-accepted, picture-back}
+pub use Rattle.table.proofs.laws.pictures.PictureWorlds.{union-primes, picture-primes, picture-ascending, picture-worlds, prime-unique, bytes-worlds}
 
 -- ---- a table is as described exactly if its test passes
 pub described-iff : (cap n : ℕ) (t : List Literals) → (described cap n t ≡ true) ↔ Described cap n t

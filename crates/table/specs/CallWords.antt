@@ -16,7 +16,7 @@ use Rattle.table.specs.Worlds.{results, stepWorld, Starting}
 use Rattle.table.specs.Minimal.{In, Described, putAll}
 use Rattle.table.specs.Start.{startClauses, Stops}
 use Rattle.table.specs.Step.{pieces, image}
-use Rattle.table.specs.Slots.{entries, tableOf}
+use Rattle.table.specs.Entries.{entries, tableOf}
 use Rattle.table.specs.Calls.{actionAt}
 
 -- the move of a number is on the sheet

@@ -14,7 +14,7 @@ use Rattle.table.specs.declared.TableAnswer.{TableAnswer}
 use Rattle.table.specs.Minimal.{described, Outcome}
 use Rattle.table.specs.Start.{startTable}
 use Rattle.table.specs.Step.{stepTable}
-use Rattle.table.specs.Slots.{entries, tableOf}
+use Rattle.table.specs.Entries.{entries, tableOf}
 
 -- the outcome with the table; a refusal by its number, at position 0, with the table t
 unfoldable pub orGiven : Table → Outcome → TableAnswer

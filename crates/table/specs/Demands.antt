@@ -14,7 +14,7 @@ use Rattle.sheet.specs.Lists.{All}
 use Rattle.table.specs.declared.slots.Found.the-variants.{At, Nothing}
 use Rattle.table.specs.declared.slots.Fate.the-variants.{Dropped}
 use Rattle.table.specs.Minimal.{put}
-use Rattle.table.specs.Slots.{lastWithin, left, fateOf}
+use Rattle.table.specs.Fates.{lastWithin, left, fateOf}
 
 -- ---- W3: "a candidate is tested against the table from the last entry to the first, and this test gets a promise of its own": `last_within`
 -- answers `lastWithin t c`. Any list t and any candidate c: t may be empty, longer than a table, and its entries may lie in each other.

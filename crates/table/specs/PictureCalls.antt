@@ -3,10 +3,10 @@
 use mathlib.Core.Bool.{Bool, cond}
 use mathlib.Core.List.{List, _++_}
 use mathlib.Core.Option.{Option, none, some}
-use Prim.Native.Nat.{ℕ, _+_, _*_, _≤_}
+use Prim.Native.Nat.{ℕ, _+_, _*_}
 use lib.Dec.{ltb}
 use lib.ListN.{length, drop}
-use Rattle.sheet.specs.Limits.{mostClauses, mostEntries}
+use Rattle.sheet.specs.Limits.{mostEntries}
 use Rattle.sheet.specs.declared.Literals.{Literals}
 use Rattle.sheet.specs.declared.Answer.the-variants.{Accepted, Refused}
 use Rattle.sheet.specs.Format.{Judgement, accepted, refused}
@@ -14,15 +14,10 @@ use Rattle.table.specs.declared.Table.{Table}
 use Rattle.table.specs.declared.PictureAnswer.{PictureAnswer}
 use Rattle.table.specs.Minimal.{described}
 use Rattle.table.specs.Picture.{picture, pictureBytes}
-use Rattle.table.specs.Slots.{entries}
+use Rattle.table.specs.Entries.{entries}
 
 unfoldable pub refusal : ℕ → ℕ → PictureAnswer
 refusal number position = record { answer = Refused number position; clauses = 0 }
-
--- the bytes of count clauses fit into the buffer, and count into two bytes
-pub record PictureRoom (count : ℕ) (buffer : List ℕ) : Type 0 where
-  pub few : count ≤ mostClauses
-  pub long : 2 + 8 * count ≤ length buffer
 
 -- the bytes of s do not fit into len
 unfoldable pub tooLong : List Literals → ℕ → Bool

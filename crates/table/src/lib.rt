@@ -8,9 +8,10 @@ ghost use mathlib.Core.Path.{_≡_};
 ghost use lib.ListN.{length};
 ghost use Rattle.sheet.specs.Format.{sheetOf};
 ghost use Rattle.table.specs.Calls.{startOf, stepOf};
-ghost use Rattle.table.specs.Moves.{lent, stepAnswer};
-ghost use Rattle.table.specs.Reads.{startAnswer};
-ghost use Rattle.table.specs.Slots.{TableRoom, Fresh};
+ghost use Rattle.table.specs.Entries.{lent};
+ghost use Rattle.table.specs.inner.Steps.{stepAnswer};
+ghost use Rattle.table.specs.inner.Starts.{startAnswer};
+ghost use Rattle.table.specs.inner.Slots.{TableRoom, Fresh};
 ghost use Rattle.table.specs.PictureCalls.{pictureOf, bufferOf};
 
 mod picture_bytes;

@@ -10,8 +10,10 @@ ghost use Prim.Native.Nat.{_+_, _*_, _≤_};
 ghost use lib.ListN.{length, take, drop};
 ghost use Rattle.table.specs.Minimal as M;
 ghost use Rattle.table.specs.Picture as P;
-ghost use Rattle.table.specs.Slots.{entriesOf, Room, TableRoom};
-ghost use Rattle.table.specs.PictureCalls.{PictureRoom, refusal, given, written};
+ghost use Rattle.table.specs.Entries.{entriesOf};
+ghost use Rattle.table.specs.inner.Slots.{Room, TableRoom};
+ghost use Rattle.table.specs.inner.PictureClauses.{PictureRoom};
+ghost use Rattle.table.specs.PictureCalls.{refusal, given, written};
 ghost use Rattle.sheet.specs.Limits.{mostEntries};
 
 // A mask in four bytes, high byte first.

@@ -17,8 +17,10 @@ ghost use lib.ListN.{length};
 ghost use Rattle.sheet.specs.Literals as L;
 ghost use Rattle.sheet.specs.Lists.{Any, keep};
 ghost use Rattle.table.specs.Picture as P;
-ghost use Rattle.table.specs.Slots.{entriesOf, Room, Holds, Held, Puts};
-ghost use Rattle.table.specs.Counts.{JoinFits, clauseSlots, sizeOf};
+ghost use Rattle.table.specs.Entries.{entriesOf};
+ghost use Rattle.table.specs.inner.Slots.{Room, Holds, Held, Puts};
+ghost use Rattle.table.specs.inner.PictureClauses.{JoinFits, clauseSlots};
+ghost use Rattle.table.specs.Picture.{sizeOf};
 ghost use Rattle.sheet.specs.Limits.{mostClauses};
 
 // The clauses of a table, in the first count slots; none if they are too many.
@@ -141,10 +143,7 @@ pub(crate) fn join_lists<'a, 'b, 'c>(
     let mut filled: usize = 0;
     let mut i: usize = 0;
     while i < count {
-        let clause = Literals {
-            trues: trues[i],
-            falses: falses[i],
-        };
+        let clause = Literals {trues: trues[i], falses: falses[i],};
         let Grown::To(grown) = distribute(
             clause,
             other_trues,

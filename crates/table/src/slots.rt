@@ -11,9 +11,11 @@ ghost use lib.Seq.{paste};
 ghost use lib.ListN.{length};
 ghost use Rattle.sheet.specs.Literals as L;
 ghost use Rattle.sheet.specs.Lists.{anyOf, keep};
-ghost use Rattle.table.specs.Slots.{entriesOf, Room, Holds, Held, lastWithin, left, listAfter, fateOf, Puts};
+ghost use Rattle.table.specs.Entries.{entriesOf};
+ghost use Rattle.table.specs.inner.Slots.{Room, Holds, Held, listAfter, Puts};
+ghost use Rattle.table.specs.Fates.{lastWithin, left, fateOf};
 ghost use Rattle.table.specs.declared.slots.Found.the-variants as found;
-ghost use Rattle.table.specs.Moves.{fourWithin};
+ghost use Rattle.table.specs.inner.Slots.{fourWithin};
 
 // The place of an entry, if there is one.
 pub(crate) enum Found {

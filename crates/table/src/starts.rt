@@ -28,12 +28,13 @@ ghost use lib.ListN.{length, drop, getD};
 ghost use Rattle.sheet.specs.declared.Answer.the-variants.{Refused};
 ghost use Rattle.sheet.specs.Literals as L;
 ghost use Rattle.sheet.specs.Lists.{keep, collect};
-ghost use Rattle.sheet.specs.Packed as R;
-ghost use Rattle.sheet.specs.Decoded.{problemIn, Filled};
+ghost use Rattle.sheet.specs.inner.Packed as R;
+ghost use Rattle.sheet.specs.inner.Decoded.{problemIn, Filled};
 ghost use Rattle.table.specs.Start as spec;
-ghost use Rattle.table.specs.Slots.{entriesOf, Fresh, Held, Puts, tableOf};
+ghost use Rattle.table.specs.Entries.{entriesOf, tableOf};
+ghost use Rattle.table.specs.inner.Slots.{Fresh, Held, Puts};
 ghost use Rattle.table.specs.Calls.{orGiven};
-ghost use Rattle.table.specs.Reads.{clauseOf, others, ClausesFit, WidenFits, WidensFit, ChooseFits, startAnswer};
+ghost use Rattle.table.specs.inner.Starts.{clauseOf, others, ClausesFit, WidenFits, WidensFit, ChooseFits, startAnswer};
 ghost use Rattle.sheet.specs.Limits.{mostEntries};
 
 // What a start gives: so many entries in the lent arrays, or a refusal's number with its position.

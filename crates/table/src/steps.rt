@@ -19,12 +19,13 @@ ghost use Prim.Native.Nat.{_≤_, _<_, _*_};
 ghost use lib.ListN.{length, drop};
 ghost use Rattle.sheet.specs.Literals as L;
 ghost use Rattle.sheet.specs.Lists.{anyOf, allOf, collect};
-ghost use Rattle.sheet.specs.Packed as R;
+ghost use Rattle.sheet.specs.inner.Packed as R;
 ghost use Rattle.table.specs.Step as S;
-ghost use Rattle.table.specs.Slots.{entriesOf, Room, Puts};
-ghost use Rattle.table.specs.Pairs as P;
-ghost use Rattle.table.specs.Moves as M;
-ghost use Rattle.table.specs.Carry.{Carried, Splits, Skips, SplitFits, BranchFits, BranchesFit, partAt, carriedAt};
+ghost use Rattle.table.specs.Entries.{entriesOf, lent};
+ghost use Rattle.table.specs.inner.Slots.{Room, Puts};
+ghost use Rattle.table.specs.inner.Pairs as P;
+ghost use Rattle.table.specs.inner.Steps as M;
+ghost use Rattle.table.specs.inner.Carry.{Carried, Splits, Skips, SplitFits, BranchFits, BranchesFit, partAt, carriedAt};
 ghost use Rattle.table.specs.Calls.{orGiven};
 ghost use Rattle.sheet.specs.Limits.{mostEntries};
 
@@ -309,7 +310,7 @@ pub fn step_at<'a, 'b, 'c, 'd>(
     to_falses: &'d mut [u32; ENTRIES],
 ) -> Stepped
     requires { ⌜ M.StepFits (now packed) index (now trues) (now falses) count (now «to_trues») (now «to_falses») ⌝ }
-    ensures { λ r. ⌜ M.stepAnswer (M.lent count (now (trues .entry)) (now (falses .entry))) r (now («to_trues» .exit)) (now («to_falses» .exit)) ≡ orGiven (M.lent count (now (trues .entry)) (now (falses .entry))) (S.stepTable mostEntries (R.actionOf (R.movesIn (now (packed .entry))) index) (entriesOf count (now (trues .entry)) (now (falses .entry)))) ⌝ }
+    ensures { λ r. ⌜ M.stepAnswer (lent count (now (trues .entry)) (now (falses .entry))) r (now («to_trues» .exit)) (now («to_falses» .exit)) ≡ orGiven (lent count (now (trues .entry)) (now (falses .entry))) (S.stepTable mostEntries (R.actionOf (R.movesIn (now (packed .entry))) index) (entriesOf count (now (trues .entry)) (now (falses .entry)))) ⌝ }
 {
     let moves = &packed[MOVES..LENGTH];
     let at = index * MOVE_WIDTH;

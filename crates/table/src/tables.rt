@@ -8,8 +8,9 @@ ghost use Prim.Native.Nat.{_+_};
 ghost use Rattle.sheet.specs.Literals as L;
 ghost use Rattle.sheet.specs.Lists.{allOf};
 ghost use Rattle.table.specs.Minimal as M;
-ghost use Rattle.table.specs.Slots.{entriesOf, Room, TableRoom};
-ghost use Rattle.table.specs.Moves.{slot};
+ghost use Rattle.table.specs.Entries.{entriesOf};
+ghost use Rattle.table.specs.inner.Slots.{Room, TableRoom};
+ghost use Rattle.table.specs.inner.Slots.{slot};
 ghost use Rattle.sheet.specs.Limits.{mostEntries};
 
 // The set in slot i.

@@ -12,14 +12,14 @@ use Rattle.sheet.specs.declared.Answer.the-variants.{Refused}
 use Rattle.sheet.specs.Lists.{pad, collect}
 use Rattle.sheet.specs.Format.{sheetOf}
 use Rattle.table.specs.declared.Table.{Table}
-use Rattle.table.specs.Slots.{tableOf}
+use Rattle.table.specs.Entries.{tableOf}
 use Rattle.table.specs.Calls.{startOf, stepOf}
 use Rattle.table.proofs.Demands.{start-back, step-back}
 use Rattle.plan.specs.declared.Row.{Row}
 use Rattle.plan.specs.declared.Verdict.the-variants as ran
 use Rattle.plan.specs.declared.Kind.the-variants as kind
 use Rattle.plan.specs.Calls.{runOf, searchOf}
-use Rattle.plan.proofs.CallAnswers.{run-none, run-back, search-back}
+use Rattle.plan.proofs.laws.runs.CallAnswers.{run-none, run-back, search-back}
 use Rattle.unit.specs.Numbers.{tableIn, tableOut, rowNumbers}
 use Rattle.unit.specs.Calls.{runTable, rowsWith, rowsOut}
 

@@ -1,6 +1,6 @@
 -- What the proofs of several functions use, and the laws of the numbers.
-mod Stores
-mod Answering
-mod Sizes
+mod StoredNumbers
+mod ReplyCases
+mod TableSizes
 mod RowNumbers
 mod Demands

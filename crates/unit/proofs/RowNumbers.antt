@@ -12,10 +12,10 @@ use Rattle.plan.specs.declared.Row.{Row}
 use Rattle.plan.specs.declared.Counts.{Counts}
 use Rattle.plan.specs.declared.Course.{Course}
 use Rattle.plan.specs.Calls.{rowsOf}
-use Rattle.plan.specs.Course.{countsOf, courseOf}
-use Rattle.plan.specs.Rows.{rowAt, rowsBelow, rowsIn}
-use Rattle.plan.proofs.Searching.{collect-append}
-use Rattle.plan.proofs.RowCounts.{rows-placed, counts-back}
+use Rattle.plan.specs.inner.Course.{countsOf, courseOf}
+use Rattle.plan.specs.inner.Rows.{rowAt, rowsBelow, rowsIn}
+use Rattle.plan.proofs.laws.searches.PlanOrder.{collect-append}
+use Rattle.plan.proofs.laws.rows.RowCounts.{rows-placed, counts-back}
 use Rattle.unit.specs.Numbers.{rowNumbers}
 use Rattle.unit.specs.Calls.{rowsWith, rowsOut}
 

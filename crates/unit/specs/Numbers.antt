@@ -9,7 +9,7 @@ use Rattle.sheet.specs.declared.Answer.{Answer}
 use Rattle.sheet.specs.declared.Answer.the-variants as answer
 use Rattle.sheet.specs.Calls.{numberOf, positionOf}
 use Rattle.table.specs.declared.Table.{Table}
-use Rattle.table.specs.Moves.{lent}
+use Rattle.table.specs.Entries.{lent}
 use Rattle.plan.specs.declared.Row.{Row}
 use Rattle.plan.specs.declared.Verdict.{Verdict}
 use Rattle.plan.specs.declared.Verdict.the-variants as verdict

@@ -20,11 +20,12 @@ ghost use lib.ListN.{length, drop};
 ghost use Rattle.sheet.specs.Lists.{collect};
 ghost use Rattle.sheet.specs.Format.{sheetOf};
 ghost use Rattle.table.specs.Calls.{stepOf};
-ghost use Rattle.table.specs.Moves.{lent, stepAnswer};
-ghost use Rattle.table.specs.Reads.{startAnswer};
-ghost use Rattle.table.specs.Slots.{Fresh};
-ghost use Rattle.plan.specs.Course.{countsIn};
-ghost use Rattle.plan.specs.Rows.{rowsIn};
+ghost use Rattle.table.specs.Entries.{lent};
+ghost use Rattle.table.specs.inner.Steps.{stepAnswer};
+ghost use Rattle.table.specs.inner.Starts.{startAnswer};
+ghost use Rattle.table.specs.inner.Slots.{Fresh};
+ghost use Rattle.plan.specs.inner.Course.{countsIn};
+ghost use Rattle.plan.specs.inner.Rows.{rowsIn};
 ghost use Rattle.unit.specs.Numbers.{answerReply, verdictReply, kindReply, infoOf, tableIn, tableOut, rowNumbers};
 ghost use Rattle.sheet.specs.Limits.{mostPlaces, tableNumbers};
 

@@ -2,7 +2,7 @@
 use mathlib.Core.Path.{sym}
 use lib.Seq.{length-take-le}
 use borrow.Author.Needs.{needs}
-use Rattle.plan.proofs.Reports.{report-within}
+use Rattle.plan.proofs.laws.text.Reports.{report-within}
 use Rattle.check_main.proofs.main.Statement.{statement}
 use Rattle.check_main.proofs.main.Tie as tie
 

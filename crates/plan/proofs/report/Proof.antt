@@ -1,6 +1,6 @@
 -- `report` meets its contract. Assumes nothing.
 use borrow.Author.Needs.{needs}
-use Rattle.plan.proofs.Reports.{few-rows, reports, no-report}
+use Rattle.plan.proofs.laws.text.Reports.{few-rows, reports, no-report}
 use Rattle.plan.proofs.report.Statement.{statement}
 use Rattle.plan.proofs.report.Tie as tie
 

@@ -44,8 +44,8 @@ use Rattle.plan.specs.declared.Row.{Row}
 use Rattle.plan.specs.declared.Counts.{Counts}
 use Rattle.plan.specs.declared.Course.{Course}
 use Rattle.plan.specs.Calls.{runOf, rowsAfter}
-use Rattle.plan.specs.Course.{courseOf}
-use Rattle.plan.specs.Rows.{rowsIn}
+use Rattle.plan.specs.inner.Course.{courseOf}
+use Rattle.plan.specs.inner.Rows.{rowsIn}
 use Rattle.plan.proofs.Row as T
 use Rattle.plan.proofs.Counts as N
 use Rattle.plan.proofs.Counts.Laws as N′
@@ -53,9 +53,9 @@ use Rattle.plan.proofs.RunAnswer as S
 use Rattle.plan.proofs.RunAnswer.Laws as S′
 use Rattle.plan.proofs.Course as O
 use Rattle.plan.proofs.Course.Laws as O′
-use Rattle.plan.proofs.Entering.{Places, envOf, rooms, enters}
-use Rattle.plan.proofs.RowCounts.{course-few, course-rows}
-use Rattle.plan.proofs.LentCalls.{says-both, Own, Lent, Back, Said, lent-call}
+use Rattle.plan.proofs.laws.rows.LocalPlaces.{Places, envOf, rooms, enters}
+use Rattle.plan.proofs.laws.rows.RowCounts.{course-few, course-rows}
+use Rattle.plan.proofs.laws.rows.LentCalls.{says-both, Own, Lent, Back, Said, lent-call}
 use Rattle.plan.proofs.runs.course as course
 use Rattle.plan.proofs.runs.course.Symbol as course-def
 use Rattle.plan.proofs.runs.course.Symbol.{name as #plan·runs·course}

@@ -2,9 +2,9 @@
 use mathlib.Core.Path.{_∙_}
 use native.Mathlib.Omega.{arith}
 use borrow.Author.Needs.{needs}
-use Rattle.sheet.specs.Decoded.{statementIn}
-use Rattle.sheet.proofs.SlotLaws.{filled, refused-says, accepted-says}
-use Rattle.plan.proofs.SearchCalls.{search-most, search-sheet, search-fault}
+use Rattle.sheet.specs.inner.Decoded.{statementIn}
+use Rattle.sheet.proofs.laws.reader.ReadSheets.{filled, refused-says, accepted-says}
+use Rattle.plan.proofs.laws.searches.PackedSearches.{search-most, search-sheet, search-fault}
 use Rattle.plan.proofs.search_with.Statement.{statement}
 use Rattle.plan.proofs.search_with.Tie as tie
 

@@ -51,8 +51,8 @@ use Rattle.plan.proofs.RunAnswer as S
 use Rattle.plan.proofs.RunAnswer.Laws as S′
 use Rattle.plan_lines.proofs.RanRows as D
 use Rattle.plan_lines.proofs.RanRows.Laws as D′
-use Rattle.plan.proofs.Entering.{Places, envOf, rooms, enters}
-use Rattle.plan.proofs.LentCalls.{says-both}
+use Rattle.plan.proofs.laws.rows.LocalPlaces.{Places, envOf, rooms, enters}
+use Rattle.plan.proofs.laws.rows.LentCalls.{says-both}
 use Rattle.plan_lines.proofs.LentArrays.{repeated, home-in, home-out, LentHome, Home, SaidHome, home-call}
 use Rattle.plan.proofs.run as run-rows
 use Rattle.plan.proofs.run.Symbol as run-def

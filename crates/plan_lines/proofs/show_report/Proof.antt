@@ -1,7 +1,7 @@
 -- `plan_lines::show_report` is safe and ends: the text lies within its room. Assumes nothing.
 use mathlib.Core.Path.{sym}
 use lib.Seq.{length-take-le}
-use Rattle.plan.proofs.Reports.{report-within}
+use Rattle.plan.proofs.laws.text.Reports.{report-within}
 use borrow.Author.Needs.{needs}
 use Rattle.plan_lines.proofs.show_report.Statement.{statement}
 use Rattle.plan_lines.proofs.show_report.Tie as tie

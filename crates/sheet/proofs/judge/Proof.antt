@@ -1,6 +1,6 @@
 -- `sheet::judge` meets its contract: the answer is that of `decode`. Assumes nothing.
 use borrow.Author.Needs.{needs}
-use Rattle.sheet.proofs.SlotLaws.{answer-says}
+use Rattle.sheet.proofs.laws.reader.ReadSheets.{answer-says}
 use Rattle.sheet.proofs.judge.Statement.{statement}
 use Rattle.sheet.proofs.judge.Tie as tie
 

@@ -1,8 +1,8 @@
 -- `table::picture` meets its contract. Assumes nothing.
 use borrow.Author.Needs.{needs}
-use Rattle.sheet.specs.Decoded.{problemIn, statementIn}
-use Rattle.sheet.proofs.SlotLaws.{refused-says, accepted-says}
-use Rattle.table.proofs.Drawing.{sheet-refused, sheet-accepted}
+use Rattle.sheet.specs.inner.Decoded.{problemIn, statementIn}
+use Rattle.sheet.proofs.laws.reader.ReadSheets.{refused-says, accepted-says}
+use Rattle.table.proofs.laws.pictures.PictureCall.{sheet-refused, sheet-accepted}
 use Rattle.table.proofs.picture.Statement.{statement}
 use Rattle.table.proofs.picture.Tie as tie
 

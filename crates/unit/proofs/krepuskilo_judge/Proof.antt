@@ -1,8 +1,8 @@
 -- `krepuskilo_judge` meets its contract: the answer of `judge` in numbers, or 255. Assumes nothing.
 use borrow.Author.Needs.{needs}
 use borrow.Author.Tests.{lt-ltb, le-ltb}
-use Rattle.sheet.proofs.base.Bools.{cond-true}
-use Rattle.unit.proofs.Answering.{byte, numbers, judge-told}
+use Rattle.sheet.proofs.laws.base.Bools.{cond-true}
+use Rattle.unit.proofs.ReplyCases.{byte, numbers, judge-told}
 use Rattle.unit.proofs.krepuskilo_judge.Statement.{statement}
 use Rattle.unit.proofs.krepuskilo_judge.Tie as tie
 

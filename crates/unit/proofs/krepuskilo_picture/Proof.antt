@@ -5,8 +5,8 @@ use Rattle.sheet.specs.Limits.{tableNumbers}
 use Rattle.sheet.specs.Format.{sheetOf}
 use Rattle.table.specs.declared.Table.{Table}
 use Rattle.table.specs.PictureCalls.{bufferOf}
-use Rattle.sheet.proofs.base.Bools.{cond-true}
-use Rattle.unit.proofs.Answering.{second, lacks-first, lacks-info, lacks-none, byte, numbers, picture-told}
+use Rattle.sheet.proofs.laws.base.Bools.{cond-true}
+use Rattle.unit.proofs.ReplyCases.{second, lacks-first, lacks-info, lacks-none, byte, numbers, picture-told}
 use Rattle.unit.proofs.krepuskilo_picture.Statement.{statement}
 use Rattle.unit.proofs.krepuskilo_picture.Tie as tie
 

@@ -1,7 +1,7 @@
 -- `krepuskilo_search` meets its contract: the answer of `search` in numbers and its plan, or 255. Assumes nothing.
 use borrow.Author.Needs.{needs}
-use Rattle.sheet.proofs.base.Bools.{cond-true}
-use Rattle.unit.proofs.Answering.{lacks-first, lacks-info, lacks-none, search-byte, search-plan, search-info}
+use Rattle.sheet.proofs.laws.base.Bools.{cond-true}
+use Rattle.unit.proofs.ReplyCases.{lacks-first, lacks-info, lacks-none, search-byte, search-plan, search-info}
 use Rattle.unit.proofs.krepuskilo_search.Statement.{statement}
 use Rattle.unit.proofs.krepuskilo_search.Tie as tie
 

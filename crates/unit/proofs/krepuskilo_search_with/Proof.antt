@@ -2,8 +2,8 @@
 use mathlib.Core.Path.{refl, sym, _∙_}
 use mathlib.Core.Bool.{true≢false}
 use borrow.Author.Needs.{needs}
-use Rattle.sheet.proofs.base.Bools.{cond-true}
-use Rattle.unit.proofs.Answering.{lacks-first, lacks-info, lacks-none, search-byte, search-plan, search-info}
+use Rattle.sheet.proofs.laws.base.Bools.{cond-true}
+use Rattle.unit.proofs.ReplyCases.{lacks-first, lacks-info, lacks-none, search-byte, search-plan, search-info}
 use Rattle.unit.proofs.krepuskilo_search_with.Statement.{statement}
 use Rattle.unit.proofs.krepuskilo_search_with.Tie as tie
 

@@ -3,9 +3,9 @@ use mathlib.Core.Path.{ap}
 use borrow.Author.Needs.{needs}
 use Rattle.sheet.specs.Limits.{tableNumbers}
 use Rattle.table.specs.declared.TableAnswer.{TableAnswer}
-use Rattle.sheet.proofs.base.Bools.{cond-true}
-use Rattle.unit.proofs.Answering.{lacks-first, lacks-info, lacks-none, byte, tables, numbers, start-told}
-use Rattle.unit.proofs.Sizes.{start-fits}
+use Rattle.sheet.proofs.laws.base.Bools.{cond-true}
+use Rattle.unit.proofs.ReplyCases.{lacks-first, lacks-info, lacks-none, byte, tables, numbers, start-told}
+use Rattle.unit.proofs.TableSizes.{start-fits}
 use Rattle.unit.proofs.krepuskilo_start.Statement.{statement}
 use Rattle.unit.proofs.krepuskilo_start.Tie as tie
 

@@ -1,10 +1,10 @@
 -- `krepuskilo_step` meets its contract: the answer of `step` in numbers and its table, or 255. Assumes nothing.
 use mathlib.Core.Path.{ap}
 use Rattle.sheet.specs.Limits.{tableNumbers}
-use Rattle.sheet.proofs.base.Bools.{cond-true}
+use Rattle.sheet.proofs.laws.base.Bools.{cond-true}
 use Rattle.table.specs.declared.TableAnswer.{TableAnswer}
-use Rattle.unit.proofs.Answering.{lacks-first, lacks-info, lacks-none, byte, tables, numbers, step-told}
-use Rattle.unit.proofs.Sizes.{step-fits}
+use Rattle.unit.proofs.ReplyCases.{lacks-first, lacks-info, lacks-none, byte, tables, numbers, step-told}
+use Rattle.unit.proofs.TableSizes.{step-fits}
 use borrow.Author.Needs.{needs}
 use Rattle.unit.proofs.krepuskilo_step.Statement.{statement}
 use Rattle.unit.proofs.krepuskilo_step.Tie as tie

@@ -6,9 +6,9 @@ use borrow.Author.Needs.{needs}
 use borrow.Author.Tests.{not-true, not-false}
 use lib.ListN.{drop}
 use Rattle.sheet.specs.Lists.{allOf}
-use Rattle.sheet.specs.Packed.{setsIn}
-use Rattle.table.specs.Slots.{entriesOf}
-use Rattle.table.proofs.Turns.{all-stop, all-on, entries-next, entries-done}
+use Rattle.sheet.specs.inner.Packed.{setsIn}
+use Rattle.table.specs.Entries.{entriesOf}
+use Rattle.table.proofs.laws.arrays.EntryLoops.{all-stop, all-on, entries-next, entries-done}
 use Rattle.plan.specs.Run.{inGoal}
 use Rattle.plan.proofs.goals.all_in_goal.Statement.{statement}
 use Rattle.plan.proofs.goals.all_in_goal.Tie as tie

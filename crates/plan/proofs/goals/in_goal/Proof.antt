@@ -7,9 +7,9 @@ use borrow.Author.Tests.{not-true, not-false}
 use lib.ListN.{drop, getD}
 use Rattle.sheet.specs.Literals.{meets}
 use Rattle.sheet.specs.Lists.{allOf}
-use Rattle.sheet.specs.Packed.{setsIn}
-use Rattle.sheet.proofs.PackedLaws.{sets-step, sets-end}
-use Rattle.table.proofs.Turns.{all-stop, all-on}
+use Rattle.sheet.specs.inner.Packed.{setsIn}
+use Rattle.sheet.proofs.laws.reader.PackedParts.{sets-step, sets-end}
+use Rattle.table.proofs.laws.arrays.EntryLoops.{all-stop, all-on}
 use Rattle.plan.specs.Run.{inGoal}
 use Rattle.plan.proofs.goals.in_goal.Statement.{statement}
 use Rattle.plan.proofs.goals.in_goal.Tie as tie

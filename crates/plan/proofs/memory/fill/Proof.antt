@@ -4,7 +4,7 @@ use Prim.Native.Nat.{_≤_, _-_, _+_}
 use lib.ListN.{getD, length-set}
 use native.Mathlib.Omega.{arith}
 use borrow.Author.Needs.{needs}
-use Rattle.plan.proofs.Remembering.{Laid, laid-none, laid-next, laid-table}
+use Rattle.plan.proofs.laws.searches.MemorySlots.{Laid, laid-none, laid-next, laid-table}
 use Rattle.plan.proofs.memory.fill.Statement.{statement}
 use Rattle.plan.proofs.memory.fill.Tie as tie
 

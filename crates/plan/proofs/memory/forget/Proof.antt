@@ -6,7 +6,7 @@ use lib.ListN.{length, getD, set, length-set}
 use lib.Seq.{getD-set-same, getD-set-other}
 use borrow.Author.Count.{below-more}
 use native.Mathlib.Nat.{not-suc-le-zero}
-use Rattle.plan.proofs.Remembering.{blank, mark-head, slots-room, slots-all}
+use Rattle.plan.proofs.laws.searches.MemorySlots.{blank, mark-head, slots-room, slots-all}
 use Rattle.plan.proofs.memory.forget.Statement.{statement}
 use Rattle.plan.proofs.memory.forget.Tie as tie
 

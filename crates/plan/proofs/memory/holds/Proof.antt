@@ -5,8 +5,8 @@ use native.Mathlib.Omega.{arith}
 use borrow.Author.Needs.{needs}
 use Prim.Native.Nat.{ℕ}
 use lib.ListN.{take, drop}
-use Rattle.table.specs.Slots.{entriesOf}
-use Rattle.plan.specs.Memory.{tableIn}
+use Rattle.table.specs.Entries.{entriesOf}
+use Rattle.plan.specs.inner.Memory.{tableIn}
 use Rattle.plan.proofs.memory.holds.Statement.{statement}
 use Rattle.plan.proofs.memory.holds.Tie as tie
 

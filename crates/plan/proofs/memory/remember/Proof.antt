@@ -1,6 +1,6 @@
 -- `memory::remember` meets its contract. Assumes nothing.
-use Rattle.table.specs.Slots.{entriesOf}
-use Rattle.plan.proofs.Remembering.{kept-by, known-in}
+use Rattle.table.specs.Entries.{entriesOf}
+use Rattle.plan.proofs.laws.searches.MemorySlots.{kept-by, known-in}
 use borrow.Author.Needs.{needs}
 use Rattle.plan.proofs.memory.remember.Statement.{statement}
 use Rattle.plan.proofs.memory.remember.Tie as tie

@@ -2,8 +2,8 @@
 use mathlib.Core.Path.{sym}
 use mathlib.Core.Bool.{true≢false}
 use lib.ListN.{length}
-use Rattle.table.specs.Slots.{entriesOf}
-use Rattle.plan.proofs.Remembering.{recalled, slots-room}
+use Rattle.table.specs.Entries.{entriesOf}
+use Rattle.plan.proofs.laws.searches.MemorySlots.{recalled, slots-room}
 use borrow.Author.Needs.{needs}
 use Rattle.plan.proofs.memory.remembered.Statement.{statement}
 use Rattle.plan.proofs.memory.remembered.Tie as tie

@@ -49,15 +49,15 @@ use denote.Triple.Walked.{says, needs, Stays, stay-slice, stay-none, walkOf, goe
 use denote.Exit.{yes}
 use Rattle.plan.specs.declared.Row.{Row}
 use Rattle.plan.specs.declared.Counts.{Counts}
-use Rattle.plan.specs.Rows.{rowAt}
+use Rattle.plan.specs.inner.Rows.{rowAt}
 use Rattle.plan.proofs.Row as T
 use Rattle.plan.proofs.Row.Laws as T′
 use Rattle.plan.proofs.Counts as N
 use Rattle.plan.proofs.Counts.Laws as N′
-use Rattle.plan.proofs.Entering.{Places, envOf, rooms, enters}
-use Rattle.plan.proofs.LentCalls.{Own, Back}
-use Rattle.plan.proofs.RowCalls.{WriteRow, Stored, row-call}
-use Rattle.plan.proofs.RowsWritten.{written, length-written, written-is}
+use Rattle.plan.proofs.laws.rows.LocalPlaces.{Places, envOf, rooms, enters}
+use Rattle.plan.proofs.laws.rows.LentCalls.{Own, Back}
+use Rattle.plan.proofs.laws.rows.RowCalls.{WriteRow, Stored, row-call}
+use Rattle.plan.proofs.laws.rows.WrittenRows.{written, length-written, written-is}
 use Rattle.plan.proofs.rows.row_of_counts as row-of-counts
 use Rattle.plan.proofs.rows.row_of_counts.Symbol as row-of-counts-def
 use Rattle.plan.proofs.rows.row_of_counts.Symbol.{name as #plan·rows·row-of-counts}

@@ -1,9 +1,9 @@
 -- `plan::runs::course_into` meets its contract. Assumes nothing.
 use mathlib.Core.Path.{_∙_}
-use Rattle.sheet.specs.Decoded.{statementIn}
-use Rattle.sheet.proofs.SlotLaws.{filled, refused-says, accepted-says}
-use Rattle.plan.proofs.Courses.{course-few, course-run, course-fault}
-use Rattle.plan.proofs.PlanRuns.{in-zeros}
+use Rattle.sheet.specs.inner.Decoded.{statementIn}
+use Rattle.sheet.proofs.laws.reader.ReadSheets.{filled, refused-says, accepted-says}
+use Rattle.plan.proofs.laws.runs.CourseSteps.{course-few, course-run, course-fault}
+use Rattle.plan.proofs.laws.runs.RunLoop.{in-zeros}
 use borrow.Author.Needs.{needs}
 use Rattle.plan.proofs.runs.course_into.Statement.{statement}
 use Rattle.plan.proofs.runs.course_into.Tie as tie

@@ -2,9 +2,9 @@
 use mathlib.Core.Path.{_≡_, sym}
 use Prim.Native.Nat.{_+_}
 use lib.ListN.{length, set}
-use Rattle.table.specs.Slots.{entriesOf}
-use Rattle.table.proofs.Pads.{length-entriesOf}
-use Rattle.plan.specs.Course.{noted}
+use Rattle.table.specs.Entries.{entriesOf}
+use Rattle.table.proofs.laws.arrays.HeldLists.{length-entriesOf}
+use Rattle.plan.specs.inner.Course.{noted}
 use borrow.Author.Needs.{needs}
 use Rattle.plan.proofs.runs.note.Statement.{statement}
 use Rattle.plan.proofs.runs.note.Tie as tie

@@ -1,9 +1,9 @@
 -- `plan::runs::refuse_run` meets its contract. Assumes nothing.
 use mathlib.Core.Path.{refl}
 use Rattle.sheet.specs.Lists.{pad}
-use Rattle.table.specs.Slots.{tableOf}
+use Rattle.table.specs.Entries.{tableOf}
 use Rattle.plan.specs.Calls.{refusedRun}
-use Rattle.plan.specs.Course.{countsOf, refusedCourse}
+use Rattle.plan.specs.inner.Course.{countsOf, refusedCourse}
 use Rattle.plan.proofs.runs.refuse_run.Statement.{statement}
 use Rattle.plan.proofs.runs.refuse_run.Tie as tie
 

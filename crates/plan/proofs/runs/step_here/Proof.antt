@@ -2,7 +2,7 @@
 use mathlib.Core.Path.{_≡_, refl}
 use native.Mathlib.Omega.{arith}
 use lib.ListN.{length}
-use Rattle.plan.proofs.PlanRuns.{step-as}
+use Rattle.plan.proofs.laws.runs.RunLoop.{step-as}
 use borrow.Author.Needs.{needs}
 use Rattle.plan.proofs.runs.step_here.Statement.{statement}
 use Rattle.plan.proofs.runs.step_here.Tie as tie

@@ -5,15 +5,15 @@ use Prim.Native.Nat.{_*_, _-_, _≤_}
 use native.Mathlib.Omega.{arith}
 use borrow.Author.Needs.{needs}
 use denote.Ref.{now}
-use Rattle.sheet.specs.Packed.{goalIn, movesIn, setsIn, actionOf}
-use Rattle.table.specs.Slots.{entriesOf, entries}
+use Rattle.sheet.specs.inner.Packed.{goalIn, movesIn, setsIn, actionOf}
+use Rattle.table.specs.Entries.{entriesOf, entries}
 use Rattle.plan.specs.Search.{nothing}
-use Rattle.plan.specs.Walks.{firstBy}
-use Rattle.plan.proofs.FirstAnswers.{firstBelow}
-use Rattle.plan.proofs.Walking.{no-answer, at-goal, at-short, not-yet, found-now, none-at-all}
-use Rattle.plan.proofs.Beginning.{trues-long, falses-long, slots-room, storable, move-fits, ready-after, quiet-next, begun-same, begun-ended, begun-not, begun-full, begun-stopped}
-use Rattle.plan.specs.Memory.{Remembers}
-use Rattle.plan.proofs.Remembering.{skip, entered, tried}
+use Rattle.plan.specs.inner.Searches.{firstBy}
+use Rattle.plan.proofs.laws.searches.FirstAnswers.{firstBelow}
+use Rattle.plan.proofs.laws.searches.SearchReturns.{no-answer, at-goal, at-short, not-yet, found-now, none-at-all}
+use Rattle.plan.proofs.laws.searches.SearchMoves.{trues-long, falses-long, slots-room, storable, move-fits, ready-after, quiet-next, begun-same, begun-ended, begun-not, begun-full, begun-stopped}
+use Rattle.plan.specs.inner.Memory.{Remembers}
+use Rattle.plan.proofs.laws.searches.MemorySlots.{skip, entered, tried}
 use lib.ListN.{length}
 use Prim.Native.Nat.{ℕ, _<_}
 use borrow.Fn.Kinds.{In}

@@ -1,7 +1,7 @@
 -- `plan::searches::full` meets its contract. Assumes nothing.
 use mathlib.Core.Path.{sym}
 use Prim.Native.Nat.{_+_}
-use Rattle.plan.proofs.Walking.{full-here}
+use Rattle.plan.proofs.laws.searches.SearchReturns.{full-here}
 use borrow.Author.Needs.{needs}
 use Rattle.plan.proofs.searches.full.Statement.{statement}
 use Rattle.plan.proofs.searches.full.Tie as tie

@@ -4,16 +4,16 @@ use Prim.Native.Nat.{_+_, _-_, _≤_}
 use native.Mathlib.Omega.{arith}
 use borrow.Author.Needs.{needs}
 use denote.Ref.{now}
-use Rattle.sheet.specs.Packed.{goalIn, movesIn, setsIn}
-use Rattle.table.specs.Slots.{entriesOf, entries}
+use Rattle.sheet.specs.inner.Packed.{goalIn, movesIn, setsIn}
+use Rattle.table.specs.Entries.{entriesOf, entries}
 use Rattle.plan.specs.Search.{nothing}
-use Rattle.sheet.specs.Packed.{actionOf}
-use Rattle.plan.specs.Walks.{firstFrom}
-use Rattle.plan.proofs.FirstAnswers.{firstBelow}
-use Rattle.plan.proofs.Pruning.{quiet-lengths}
-use Rattle.plan.proofs.Walking.{length-found, length-next, length-none}
+use Rattle.sheet.specs.inner.Packed.{actionOf}
+use Rattle.plan.specs.inner.Searches.{firstFrom}
+use Rattle.plan.proofs.laws.searches.FirstAnswers.{firstBelow}
+use Rattle.plan.proofs.laws.searches.Pruning.{quiet-lengths}
+use Rattle.plan.proofs.laws.searches.SearchReturns.{length-found, length-next, length-none}
 use lib.ListN as N
-use Rattle.plan.specs.Memory.{Remembers}
+use Rattle.plan.specs.inner.Memory.{Remembers}
 use Rattle.plan.proofs.searches.lengths.Statement.{statement}
 use Rattle.plan.proofs.searches.lengths.Tie as tie
 

@@ -5,7 +5,7 @@ use lib.ListN.{length-set}
 use borrow.Author.Needs.{needs}
 use borrow.Fn.Kinds.{In}
 use borrow.Fn.PlainCycle.{Measures, is, falls, and}
-use Rattle.plan.proofs.Texts.{few-higher, wrote-low, wrote-high}
+use Rattle.plan.proofs.laws.text.TextBytes.{few-higher, wrote-low, wrote-high}
 use Rattle.plan.proofs.text.write_number.Reads as write-number
 use Rattle.plan.proofs.text.write_number.Kinds as write-number-kinds
 use Rattle.plan.proofs.text.+write_number.Lts-write_number as write-number-lts

@@ -1,7 +1,7 @@
 -- `text::write_at` meets its contract: five pieces one after the other. Assumes nothing.
 use native.Mathlib.Omega.{arith}
 use Rattle.plan.specs.Text.{numberAt}
-use Rattle.plan.proofs.Texts.{wrote-then}
+use Rattle.plan.proofs.laws.text.TextBytes.{wrote-then}
 use borrow.Author.Needs.{needs}
 use Rattle.plan.proofs.text.write_at.Statement.{statement}
 use Rattle.plan.proofs.text.write_at.Tie as tie

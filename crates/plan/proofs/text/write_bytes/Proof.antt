@@ -6,7 +6,7 @@ use native.Mathlib.Numerals.{add-one}
 use native.Mathlib.Omega.{arith}
 use lib.ListN.{length, set, getD, length-set}
 use lib.Seq.{paste, paste-zero, paste-suc}
-use Rattle.plan.proofs.Texts.{wrote-copy}
+use Rattle.plan.proofs.laws.text.TextBytes.{wrote-copy}
 use Rattle.plan.proofs.text.write_bytes.Statement.{statement}
 use Rattle.plan.proofs.text.write_bytes.Tie as tie
 

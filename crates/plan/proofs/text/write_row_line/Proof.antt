@@ -1,7 +1,7 @@
 -- `text::write_row_line` meets its contract: six pieces one after the other. Assumes nothing.
 use native.Mathlib.Omega.{arith}
 use Rattle.plan.specs.Text.{rowText}
-use Rattle.plan.proofs.Texts.{wrote-then}
+use Rattle.plan.proofs.laws.text.TextBytes.{wrote-then}
 use borrow.Author.Needs.{needs}
 use Rattle.plan.proofs.text.write_row_line.Statement.{statement}
 use Rattle.plan.proofs.text.write_row_line.Tie as tie

@@ -4,10 +4,11 @@ use Prim.Native.Nat.{ℕ, _+_, _*_, _-_, _≤_}
 use native.Mathlib.Omega.{arith}
 use lib.ListN.{length}
 use borrow.Author.Needs.{needs}
-use Rattle.plan.specs.Course.{countsIn}
-use Rattle.plan.specs.Rows.{rowsBelow}
-use Rattle.plan.specs.Text.{rowsText, Wrote}
-use Rattle.plan.proofs.Texts.{wrote-no-rows, wrote-row}
+use Rattle.plan.specs.inner.Course.{countsIn}
+use Rattle.plan.specs.inner.Rows.{rowsBelow}
+use Rattle.plan.specs.Text.{rowsText}
+use Rattle.plan.specs.inner.Writing.{Wrote}
+use Rattle.plan.proofs.laws.text.TextBytes.{wrote-no-rows, wrote-row}
 use Rattle.plan.proofs.text.write_row_lines.Statement.{statement}
 use Rattle.plan.proofs.text.write_row_lines.Tie as tie
 

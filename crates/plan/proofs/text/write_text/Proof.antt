@@ -2,7 +2,7 @@
 use mathlib.Core.Path.{sym, _∙_}
 use native.Mathlib.Omega.{arith}
 use borrow.Author.Needs.{needs}
-use Rattle.plan.proofs.Texts.{wrote-then, refused-text, whole-text}
+use Rattle.plan.proofs.laws.text.TextBytes.{wrote-then, refused-text, whole-text}
 use Rattle.plan.proofs.text.write_text.Statement.{statement}
 use Rattle.plan.proofs.text.write_text.Tie as tie
 

@@ -1,7 +1,7 @@
 -- `text::write_verdict` meets its contract. Assumes nothing.
 use native.Mathlib.Omega.{arith}
 use Rattle.plan.specs.Text.{lastLine}
-use Rattle.plan.proofs.Texts.{wrote-then}
+use Rattle.plan.proofs.laws.text.TextBytes.{wrote-then}
 use borrow.Author.Needs.{needs}
 use Rattle.plan.proofs.text.write_verdict.Statement.{statement}
 use Rattle.plan.proofs.text.write_verdict.Tie as tie

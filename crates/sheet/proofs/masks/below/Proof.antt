@@ -11,8 +11,8 @@ use borrow.Author.Needs.{needs}
 use borrow.Author.Tests.{eq-eqb, eqb-true, lt-ltb, ltb-true}
 use Rattle.sheet.specs.declared.Literals.{Literals}
 use Rattle.sheet.specs.Literals.{below}
-use Rattle.sheet.proofs.base.Bools.{iff-eq}
-use Rattle.sheet.proofs.LiteralSets.{both}
+use Rattle.sheet.proofs.laws.base.Bools.{iff-eq}
+use Rattle.sheet.proofs.laws.literals.LiteralSets.{both}
 use Rattle.sheet.proofs.masks.below.Statement.{statement}
 use Rattle.sheet.proofs.masks.below.Tie as tie
 

@@ -5,7 +5,7 @@ use lib.Bits.{bitAnd, bitOr}
 use lib.Dec.{eqb}
 use Rattle.sheet.specs.declared.Literals.{Literals}
 use Rattle.sheet.specs.Literals.{clash}
-use Rattle.sheet.proofs.Bits.{or-none}
+use Rattle.sheet.proofs.laws.literals.MaskBits.{or-none}
 use Rattle.sheet.proofs.masks.clash.Statement.{statement}
 use Rattle.sheet.proofs.masks.clash.Tie as tie
 

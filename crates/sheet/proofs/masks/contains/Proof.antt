@@ -9,7 +9,7 @@ use borrow.Author.Needs.{needs}
 use borrow.Author.Tests.{eq-eqb, ne-eqb}
 use Rattle.sheet.specs.declared.Literals.{Literals}
 use Rattle.sheet.specs.Literals.{has, mem, sign, contains}
-use Rattle.sheet.proofs.Bits.{has-above}
+use Rattle.sheet.proofs.laws.literals.MaskBits.{has-above}
 use Rattle.sheet.proofs.masks.contains.Statement.{statement}
 use Rattle.sheet.proofs.masks.contains.Tie as tie
 

@@ -6,9 +6,9 @@ use lib.Bits.{bitOr}
 use lib.Count.{trailing-le}
 use borrow.Author.Needs.{needs}
 use Rattle.sheet.specs.declared.Literals.{Literals}
-use Rattle.sheet.specs.Literals.{next}
-use Rattle.sheet.proofs.Bytes.{next-end}
-use Rattle.sheet.proofs.Lowest.{none-named, first-true, first-false}
+use Rattle.sheet.specs.inner.Masks.{next}
+use Rattle.sheet.proofs.laws.literals.LiteralBytes.{next-end}
+use Rattle.sheet.proofs.laws.literals.LowestLiteral.{none-named, first-true, first-false}
 use Rattle.sheet.proofs.masks.lowest.Statement.{statement}
 use Rattle.sheet.proofs.masks.lowest.Tie as tie
 

@@ -4,8 +4,8 @@ use Prim.Native.Nat.{ℕ, _+_, _*_, _/_, _%_}
 use native.Mathlib.Omega.{arith}
 use borrow.Author.Needs.{needs}
 use Rattle.sheet.specs.declared.Literals.{Literals}
-use Rattle.sheet.specs.Literals as L
-use Rattle.sheet.proofs.Bytes.{next-end, next-here, next-step}
+use Rattle.sheet.specs.inner.Masks as L
+use Rattle.sheet.proofs.laws.literals.LiteralBytes.{next-end, next-here, next-step}
 use Rattle.sheet.proofs.masks.next.Statement.{statement}
 use Rattle.sheet.proofs.masks.next.Tie as tie
 

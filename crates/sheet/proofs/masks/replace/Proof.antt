@@ -5,7 +5,7 @@ use native.Mathlib.Omega.{arith}
 use lib.Bits.{bitAnd, bitOr}
 use Rattle.sheet.specs.declared.Literals.{Literals}
 use Rattle.sheet.specs.Literals.{replace}
-use Rattle.sheet.proofs.Bits.{and-not}
+use Rattle.sheet.proofs.laws.literals.MaskBits.{and-not}
 use Rattle.sheet.proofs.masks.replace.Statement.{statement}
 use Rattle.sheet.proofs.masks.replace.Tie as tie
 

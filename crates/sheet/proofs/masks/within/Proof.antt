@@ -7,7 +7,7 @@ use lib.Bits.{bitAnd, bitOr}
 use lib.Dec.{eqb}
 use Rattle.sheet.specs.declared.Literals.{Literals}
 use Rattle.sheet.specs.Literals.{within}
-use Rattle.sheet.proofs.Bits.{or-none, outside-none}
+use Rattle.sheet.proofs.laws.literals.MaskBits.{or-none, outside-none}
 use Rattle.sheet.proofs.masks.within.Statement.{statement}
 use Rattle.sheet.proofs.masks.within.Tie as tie
 

@@ -1,5 +1,5 @@
 -- `sheet::packed::effect_at` meets its contract. Assumes nothing.
-use Rattle.sheet.specs.Packed.{effectAt}
+use Rattle.sheet.specs.inner.Packed.{effectAt}
 use borrow.Author.Needs.{needs}
 use Rattle.sheet.proofs.packed.effect_at.Statement.{statement}
 use Rattle.sheet.proofs.packed.effect_at.Tie as tie

@@ -2,7 +2,7 @@
 use mathlib.Core.Path.{sym, _∙_}
 use native.Mathlib.Omega.{arith}
 use borrow.Author.Needs.{needs}
-use Rattle.sheet.proofs.PackedLaws.{from-later}
+use Rattle.sheet.proofs.laws.reader.PackedParts.{from-later}
 use Rattle.sheet.proofs.packed.set_at.Statement.{statement}
 use Rattle.sheet.proofs.packed.set_at.Tie as tie
 

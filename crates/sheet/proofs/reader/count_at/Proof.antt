@@ -1,9 +1,9 @@
 use mathlib.Core.Path.{refl}
 use native.Mathlib.Omega.{arith}
 use borrow.Author.Needs.{needs}
-use Rattle.sheet.specs.Marks.{same}
-use Rattle.sheet.proofs.Reading.{gave-fault, gave-item, byte-early, byte-wrong, byte-fine}
-use Rattle.sheet.proofs.Parts.{count-low, count-high, count-fine}
+use Rattle.sheet.specs.inner.Marks.{same}
+use Rattle.sheet.proofs.laws.reader.ReadMarks.{gave-fault, gave-item, byte-early, byte-wrong, byte-fine}
+use Rattle.sheet.proofs.laws.reader.ReadLists.{count-low, count-high, count-fine}
 use Rattle.sheet.proofs.reader.count_at.Statement.{statement}
 use Rattle.sheet.proofs.reader.count_at.Tie as tie
 

@@ -4,13 +4,13 @@ use native.Mathlib.Omega.{arith}
 use borrow.Author.Needs.{needs}
 use Rattle.sheet.specs.Form.{read}
 use Rattle.sheet.specs.Format.{facts}
-use Rattle.sheet.specs.Marks.{ReadsAs, same, factsIn}
+use Rattle.sheet.specs.inner.Marks.{ReadsAs, same, factsIn}
 use Rattle.sheet.specs.declared.reader.Mark.the-variants.{At}
 use Rattle.sheet.specs.Problem.{Facts}
-use Rattle.sheet.proofs.Parts.{read-passed, count-most}
-use Rattle.sheet.proofs.SlotLaws.{ors-kept, facts-laid}
-use Rattle.sheet.proofs.PackedLaws.{part-long, anew}
-use Rattle.sheet.proofs.Sections.{facts-count, facts-known, facts-ors, facts-oneofs, facts-all}
+use Rattle.sheet.proofs.laws.reader.ReadLists.{read-passed, count-most}
+use Rattle.sheet.proofs.laws.reader.ReadSheets.{ors-kept, facts-laid}
+use Rattle.sheet.proofs.laws.reader.PackedParts.{part-long, anew}
+use Rattle.sheet.proofs.laws.reader.ReadSections.{facts-count, facts-known, facts-ors, facts-oneofs, facts-all}
 use Rattle.sheet.proofs.reader.facts_at.Statement.{statement}
 use Rattle.sheet.proofs.reader.facts_at.Tie as tie
 

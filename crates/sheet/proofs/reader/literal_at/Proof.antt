@@ -1,8 +1,8 @@
 use mathlib.Core.Path.{refl, sym, _∙_}
 use native.Mathlib.Omega.{arith}
 use borrow.Author.Needs.{needs}
-use Rattle.sheet.specs.Marks.{same}
-use Rattle.sheet.proofs.Reading.{gave-fault, gave-item, byte-early, byte-wrong-by, byte-fine}
+use Rattle.sheet.specs.inner.Marks.{same}
+use Rattle.sheet.proofs.laws.reader.ReadMarks.{gave-fault, gave-item, byte-early, byte-wrong-by, byte-fine}
 use Rattle.sheet.proofs.reader.literal_at.Statement.{statement}
 use Rattle.sheet.proofs.reader.literal_at.Tie as tie
 

@@ -1,6 +1,6 @@
 -- `sheet::reader::literal_fault` meets its contract: 3 before 4 before 5. Assumes nothing.
 use borrow.Author.Needs.{needs}
-use Rattle.sheet.proofs.Parts.{fault-range, fault-order, fault-complement, fault-none}
+use Rattle.sheet.proofs.laws.reader.ReadLists.{fault-range, fault-order, fault-complement, fault-none}
 use Rattle.sheet.proofs.reader.literal_fault.Statement.{statement}
 use Rattle.sheet.proofs.reader.literal_fault.Tie as tie
 

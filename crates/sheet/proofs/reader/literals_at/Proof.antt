@@ -1,9 +1,9 @@
 -- `sheet::reader::literals_at` meets its contract. Assumes nothing.
 use mathlib.Core.Path.{refl}
 use borrow.Author.Needs.{needs}
-use Rattle.sheet.specs.Marks.{same}
+use Rattle.sheet.specs.inner.Marks.{same}
 use Rattle.sheet.specs.Format.{setOf, literals}
-use Rattle.sheet.proofs.Reading.{gave-stop, gave-on, gave-as, got-same}
+use Rattle.sheet.proofs.laws.reader.ReadMarks.{gave-stop, gave-on, gave-as, got-same}
 use Rattle.sheet.proofs.reader.literals_at.Statement.{statement}
 use Rattle.sheet.proofs.reader.literals_at.Tie as tie
 

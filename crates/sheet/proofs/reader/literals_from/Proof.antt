@@ -2,7 +2,7 @@ use native.Mathlib.Omega.{arith}
 use borrow.Author.Needs.{needs}
 use Prim.Native.Nat.{_-_}
 use Rattle.sheet.specs.Literals.{noLiteral}
-use Rattle.sheet.proofs.Parts.{Ahead, ahead-none, ahead-more, ahead-fault, ahead-all, read-passed, literal-below}
+use Rattle.sheet.proofs.laws.reader.ReadLists.{Ahead, ahead-none, ahead-more, ahead-fault, ahead-all, read-passed, literal-below}
 use Rattle.sheet.proofs.reader.literals_from.Statement.{statement}
 use Rattle.sheet.proofs.reader.literals_from.Tie as tie
 

@@ -6,10 +6,10 @@ use borrow.Author.Needs.{needs}
 use lib.ListN.{length-set, length-take, length-drop}
 use Rattle.sheet.specs.Form.{times}
 use Rattle.sheet.specs.Format.{action, listOf, count, effect}
-use Rattle.sheet.specs.Marks.{ReadsAs, same}
-use Rattle.sheet.proofs.Reading.{gave-stop, gave-on, gave-as, gave-made, got-same}
-use Rattle.sheet.proofs.Parts.{read-passed, count-most}
-use Rattle.sheet.proofs.PackedLaws.{action-laid}
+use Rattle.sheet.specs.inner.Marks.{ReadsAs, same}
+use Rattle.sheet.proofs.laws.reader.ReadMarks.{gave-stop, gave-on, gave-as, gave-made, got-same}
+use Rattle.sheet.proofs.laws.reader.ReadLists.{read-passed, count-most}
+use Rattle.sheet.proofs.laws.reader.PackedParts.{action-laid}
 use Rattle.sheet.proofs.reader.move_at.Statement.{statement}
 use Rattle.sheet.proofs.reader.move_at.Tie as tie
 

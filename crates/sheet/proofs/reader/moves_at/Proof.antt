@@ -1,9 +1,9 @@
 -- `sheet::reader::moves_at` meets its contract. Assumes nothing.
 use borrow.Author.Needs.{needs}
-use Rattle.sheet.specs.Marks.{same}
+use Rattle.sheet.specs.inner.Marks.{same}
 use Rattle.sheet.specs.Format.{actions, listOf}
-use Rattle.sheet.proofs.Reading.{gave-stop, gave-on, got-same}
-use Rattle.sheet.proofs.Parts.{read-passed, count-most}
+use Rattle.sheet.proofs.laws.reader.ReadMarks.{gave-stop, gave-on, got-same}
+use Rattle.sheet.proofs.laws.reader.ReadLists.{read-passed, count-most}
 use Rattle.sheet.proofs.reader.moves_at.Statement.{statement}
 use Rattle.sheet.proofs.reader.moves_at.Tie as tie
 

@@ -5,9 +5,9 @@ use borrow.Author.Needs.{needs}
 use Prim.Native.Nat.{_-_}
 use lib.ListN.{length, length-append, length-take, length-drop}
 use Rattle.sheet.specs.Format.{action}
-use Rattle.sheet.specs.Packed.{itemsAt, actionsAt}
-use Rattle.sheet.proofs.Reading.{Turns, turns-none, turns-laid, turns-stop, turns-end}
-use Rattle.sheet.proofs.PackedLaws.{items-laid}
+use Rattle.sheet.specs.inner.Packed.{itemsAt, actionsAt}
+use Rattle.sheet.proofs.laws.reader.ReadMarks.{Turns, turns-none, turns-laid, turns-stop, turns-end}
+use Rattle.sheet.proofs.laws.reader.PackedParts.{items-laid}
 use Rattle.sheet.proofs.reader.moves_from.Statement.{statement}
 use Rattle.sheet.proofs.reader.moves_from.Tie as tie
 

@@ -1,7 +1,7 @@
 -- `sheet::reader::no_plan` meets its contract. Assumes nothing.
 use mathlib.Core.Path.{refl}
 use Rattle.sheet.specs.Lists.{pad}
-use Rattle.sheet.specs.Decoded.{planOf}
+use Rattle.sheet.specs.inner.Decoded.{planOf}
 use Rattle.sheet.proofs.reader.no_plan.Statement.{statement}
 use Rattle.sheet.proofs.reader.no_plan.Tie as tie
 

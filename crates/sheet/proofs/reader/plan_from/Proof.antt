@@ -5,10 +5,10 @@ use Prim.Native.Nat.{_-_}
 use Rattle.sheet.specs.Lists.{pad}
 use Rattle.sheet.specs.Form.{judged}
 use Rattle.sheet.specs.Format.{numberFault}
-use Rattle.sheet.specs.Marks.{same}
-use Rattle.sheet.specs.Decoded.{planOf}
-use Rattle.sheet.proofs.Reading.{Taken, taken-none, taken-more, taken-fault, taken-all, map-same}
-use Rattle.sheet.proofs.Parts.{read-passed, number-below}
+use Rattle.sheet.specs.inner.Marks.{same}
+use Rattle.sheet.specs.inner.Decoded.{planOf}
+use Rattle.sheet.proofs.laws.reader.ReadMarks.{Taken, taken-none, taken-more, taken-fault, taken-all, map-same}
+use Rattle.sheet.proofs.laws.reader.ReadLists.{read-passed, number-below}
 use Rattle.sheet.proofs.reader.plan_from.Statement.{statement}
 use Rattle.sheet.proofs.reader.plan_from.Tie as tie
 

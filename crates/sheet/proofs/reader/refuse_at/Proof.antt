@@ -2,7 +2,7 @@
 use mathlib.Core.Path.{sym, ap, _∙_}
 use borrow.Author.Needs.{needs}
 use Rattle.sheet.specs.declared.reader.Mark.{Mark}
-use Rattle.sheet.specs.Marks.{refusedBy}
+use Rattle.sheet.specs.inner.Marks.{refusedBy}
 use Rattle.sheet.specs.Calls.{answerOf}
 use Rattle.sheet.proofs.reader.refuse_at.Statement.{statement}
 use Rattle.sheet.proofs.reader.refuse_at.Tie as tie

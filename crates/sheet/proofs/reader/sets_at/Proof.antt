@@ -3,11 +3,11 @@ use mathlib.Core.Path.{sym, subst, _∙_}
 use native.Mathlib.Omega.{arith}
 use borrow.Author.Needs.{needs}
 use lib.ListN.{length-set, length-take, length-drop}
-use Rattle.sheet.specs.Marks.{ReadsAs, same}
+use Rattle.sheet.specs.inner.Marks.{ReadsAs, same}
 use Rattle.sheet.specs.Format.{listOf}
-use Rattle.sheet.proofs.Reading.{gave-stop, gave-on, got-same}
-use Rattle.sheet.proofs.Parts.{read-passed, count-most}
-use Rattle.sheet.proofs.PackedLaws.{sets-laid}
+use Rattle.sheet.proofs.laws.reader.ReadMarks.{gave-stop, gave-on, got-same}
+use Rattle.sheet.proofs.laws.reader.ReadLists.{read-passed, count-most}
+use Rattle.sheet.proofs.laws.reader.PackedParts.{sets-laid}
 use Rattle.sheet.proofs.reader.sets_at.Statement.{statement}
 use Rattle.sheet.proofs.reader.sets_at.Tie as tie
 

@@ -6,9 +6,9 @@ use borrow.Author.Needs.{needs}
 use Prim.Native.Nat.{_-_}
 use lib.ListN.{length, length-set}
 use Rattle.sheet.specs.Format.{literals}
-use Rattle.sheet.specs.Packed.{setsAt}
-use Rattle.sheet.proofs.Reading.{Turns, turns-none, turns-laid, turns-stop, turns-end}
-use Rattle.sheet.proofs.PackedLaws.{sets-more}
+use Rattle.sheet.specs.inner.Packed.{setsAt}
+use Rattle.sheet.proofs.laws.reader.ReadMarks.{Turns, turns-none, turns-laid, turns-stop, turns-end}
+use Rattle.sheet.proofs.laws.reader.PackedParts.{sets-more}
 use Rattle.sheet.proofs.reader.sets_from.Statement.{statement}
 use Rattle.sheet.proofs.reader.sets_from.Tie as tie
 

@@ -4,13 +4,13 @@ use native.Mathlib.Omega.{arith}
 use borrow.Author.Needs.{needs}
 use lib.ListN.{length}
 use Rattle.sheet.specs.Problem.{Problem, problemOf}
-use Rattle.sheet.specs.Packed.{actionFrom}
+use Rattle.sheet.specs.inner.Packed.{actionFrom}
 use Rattle.sheet.specs.Format.{Judgement, accepted}
-use Rattle.sheet.specs.Decoded.{planIn, statementIn, judgementIn}
-use Rattle.sheet.specs.Marks.{factsIn}
-use Rattle.sheet.proofs.PackedLaws.{items-length, part-long, anew}
-use Rattle.sheet.proofs.SlotLaws.{refused-with, refused-by, moves-kept, goal-kept, problem-laid}
-use Rattle.sheet.proofs.Sections.{sheet-facts, sheet-moves, moves-most, sheet-goal, sheet-plan, plan-most, sheet-longer, sheet-whole}
+use Rattle.sheet.specs.inner.Decoded.{planIn, statementIn, judgementIn}
+use Rattle.sheet.specs.inner.Marks.{factsIn}
+use Rattle.sheet.proofs.laws.reader.PackedParts.{items-length, part-long, anew}
+use Rattle.sheet.proofs.laws.reader.ReadSheets.{refused-with, refused-by, moves-kept, goal-kept, problem-laid}
+use Rattle.sheet.proofs.laws.reader.ReadSections.{sheet-facts, sheet-moves, moves-most, sheet-goal, sheet-plan, plan-most, sheet-longer, sheet-whole}
 use Rattle.sheet.proofs.reader.sheet_in.Statement.{statement}
 use Rattle.sheet.proofs.reader.sheet_in.Tie as tie
 

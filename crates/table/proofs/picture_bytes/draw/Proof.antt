@@ -2,7 +2,7 @@
 use mathlib.Core.Path.{sym, _∙_}
 use native.Mathlib.Omega.{arith}
 use borrow.Author.Tests.{not-true, not-false}
-use Rattle.table.proofs.Drawing.{described-count, not-described, too-many, too-short, all-written}
+use Rattle.table.proofs.laws.pictures.PictureCall.{described-count, not-described, too-many, too-short, all-written}
 use borrow.Author.Needs.{needs}
 use Rattle.table.proofs.picture_bytes.draw.Statement.{statement}
 use Rattle.table.proofs.picture_bytes.draw.Tie as tie

@@ -1,7 +1,7 @@
 -- `table::picture_bytes::write_mask` meets its contract. Assumes nothing.
 use native.Mathlib.Omega.{arith}
 use lib.ListN.{length-set}
-use Rattle.table.proofs.MaskBytes.{four-stores}
+use Rattle.table.proofs.laws.pictures.MaskBytes.{four-stores}
 use Rattle.table.proofs.picture_bytes.write_mask.Statement.{statement}
 use Rattle.table.proofs.picture_bytes.write_mask.Tie as tie
 

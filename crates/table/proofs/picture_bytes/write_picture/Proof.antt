@@ -3,9 +3,9 @@ use mathlib.Core.Path.{sym, _∙_}
 use Prim.Native.Nat.{_+_, _*_, _≤_, _<_, _-_}
 use native.Mathlib.Omega.{arith}
 use lib.ListN.{length, length-set}
-use Rattle.table.specs.Slots.{entriesOf}
-use Rattle.table.proofs.Pads.{length-entriesOf, getD-entriesOf}
-use Rattle.table.proofs.MaskBytes.{Wrote, wrote-start, wrote-step, wrote-end}
+use Rattle.table.specs.Entries.{entriesOf}
+use Rattle.table.proofs.laws.arrays.HeldLists.{length-entriesOf, getD-entriesOf}
+use Rattle.table.proofs.laws.pictures.MaskBytes.{Wrote, wrote-start, wrote-step, wrote-end}
 use Rattle.table.proofs.picture_bytes.write_picture.Statement.{statement}
 use Rattle.table.proofs.picture_bytes.write_picture.Tie as tie
 

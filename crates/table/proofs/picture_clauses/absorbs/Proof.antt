@@ -3,9 +3,9 @@ use mathlib.Core.Path.{sym, _∙_}
 use mathlib.Core.Bool.{true≢false}
 use native.Mathlib.Omega.{arith}
 use Rattle.sheet.specs.Literals.{within}
-use Rattle.sheet.proofs.base.Bools.{true-T}
-use Rattle.sheet.proofs.base.ListFacts.{any-test}
-use Rattle.table.specs.Slots.{entriesOf}
+use Rattle.sheet.proofs.laws.base.Bools.{true-T}
+use Rattle.sheet.proofs.laws.base.ListFacts.{any-test}
+use Rattle.table.specs.Entries.{entriesOf}
 use borrow.Author.Needs.{needs}
 use Rattle.table.proofs.picture_clauses.absorbs.Statement.{statement}
 use Rattle.table.proofs.picture_clauses.absorbs.Tie as tie

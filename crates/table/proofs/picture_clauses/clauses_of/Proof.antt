@@ -4,9 +4,9 @@ use Prim.Native.Nat.{_-_}
 use native.Mathlib.Omega.{arith}
 use lib.ListN.{replicate}
 use Rattle.table.specs.Picture.{primes}
-use Rattle.table.specs.Slots.{entriesOf}
-use Rattle.table.proofs.Pads.{fresh}
-use Rattle.table.proofs.Folding.{Folds, folds-start, folds-on, folds-full, folds-end}
+use Rattle.table.specs.Entries.{entriesOf}
+use Rattle.table.proofs.laws.arrays.HeldLists.{fresh}
+use Rattle.table.proofs.laws.pictures.PictureFold.{Folds, folds-start, folds-on, folds-full, folds-end}
 use borrow.Author.Needs.{needs}
 use Rattle.table.proofs.picture_clauses.clauses_of.Statement.{statement}
 use Rattle.table.proofs.picture_clauses.clauses_of.Tie as tie

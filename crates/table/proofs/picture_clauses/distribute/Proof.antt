@@ -1,8 +1,8 @@
 -- `table::picture_clauses::distribute` meets its contract. Assumes nothing.
 use mathlib.Core.Path.{sym}
-use Rattle.table.specs.Slots.{entriesOf}
-use Rattle.table.proofs.Pads.{length-entriesOf}
-use Rattle.table.proofs.Absorbing.{puts-alone}
+use Rattle.table.specs.Entries.{entriesOf}
+use Rattle.table.proofs.laws.arrays.HeldLists.{length-entriesOf}
+use Rattle.table.proofs.laws.slots.AbsorbedCandidates.{puts-alone}
 use borrow.Author.Needs.{needs}
 use Rattle.table.proofs.picture_clauses.distribute.Statement.{statement}
 use Rattle.table.proofs.picture_clauses.distribute.Tie as tie

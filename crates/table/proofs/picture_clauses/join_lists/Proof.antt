@@ -4,10 +4,10 @@ use Prim.Native.Nat.{_≤_, _-_}
 use native.Mathlib.Omega.{arith}
 use lib.ListN.{drop}
 use Rattle.table.specs.Picture.{unions}
-use Rattle.table.specs.Slots.{entriesOf}
-use Rattle.table.proofs.Pads.{holds-trues-long, holds-falses-long, held-own}
-use Rattle.table.proofs.Growing.{Going, going-start, going-on, going-full, going-end}
-use Rattle.table.proofs.Joining.{unions-step, unions-end}
+use Rattle.table.specs.Entries.{entriesOf}
+use Rattle.table.proofs.laws.arrays.HeldLists.{holds-trues-long, holds-falses-long, held-own}
+use Rattle.table.proofs.laws.slots.PutLoops.{Going, going-start, going-on, going-full, going-end}
+use Rattle.table.proofs.laws.pictures.JoinedClauses.{unions-step, unions-end}
 use borrow.Author.Needs.{needs}
 use Rattle.table.proofs.picture_clauses.join_lists.Statement.{statement}
 use Rattle.table.proofs.picture_clauses.join_lists.Tie as tie

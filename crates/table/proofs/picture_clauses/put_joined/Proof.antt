@@ -6,10 +6,10 @@ use native.Mathlib.Omega.{arith}
 use lib.ListN.{drop}
 use Rattle.sheet.specs.Literals.{join, consistent}
 use Rattle.sheet.specs.Lists.{keep}
-use Rattle.table.specs.Slots.{entriesOf}
-use Rattle.table.proofs.Pads.{holds-trues-long, holds-falses-long, held-own}
-use Rattle.table.proofs.Growing.{Going, going-start, going-on, going-full, going-end}
-use Rattle.table.proofs.Joining.{put-joined-step, put-joined-end}
+use Rattle.table.specs.Entries.{entriesOf}
+use Rattle.table.proofs.laws.arrays.HeldLists.{holds-trues-long, holds-falses-long, held-own}
+use Rattle.table.proofs.laws.slots.PutLoops.{Going, going-start, going-on, going-full, going-end}
+use Rattle.table.proofs.laws.pictures.JoinedClauses.{put-joined-step, put-joined-end}
 use borrow.Author.Needs.{needs}
 use Rattle.table.proofs.picture_clauses.put_joined.Statement.{statement}
 use Rattle.table.proofs.picture_clauses.put_joined.Tie as tie

@@ -3,8 +3,8 @@ use mathlib.Core.Path.{sym, _∙_}
 use Prim.Native.Nat.{_-_}
 use native.Mathlib.Omega.{arith}
 use lib.ListN.{length}
-use Rattle.table.proofs.Pads.{holds-falses-long}
-use Rattle.table.proofs.Firsts.{Listed, listed-start, listed-on, listed-less, listed-end}
+use Rattle.table.proofs.laws.arrays.HeldLists.{holds-falses-long}
+use Rattle.table.proofs.laws.pictures.UnitClauses.{Listed, listed-start, listed-on, listed-less, listed-end}
 use borrow.Author.Needs.{needs}
 use Rattle.table.proofs.picture_clauses.units.Statement.{statement}
 use Rattle.table.proofs.picture_clauses.units.Tie as tie

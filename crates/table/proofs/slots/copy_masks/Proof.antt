@@ -2,7 +2,7 @@
 use Prim.Native.Nat.{_-_}
 use native.Mathlib.Omega.{arith}
 use lib.ListN.{length}
-use Rattle.sheet.proofs.base.Copying.{Copied, copied-start, copied-step, copied-end}
+use Rattle.sheet.proofs.laws.base.Copying.{Copied, copied-start, copied-step, copied-end}
 use Rattle.table.proofs.slots.copy_masks.Statement.{statement}
 use Rattle.table.proofs.slots.copy_masks.Tie as tie
 

@@ -6,9 +6,10 @@ use native.Mathlib.Omega.{arith}
 use borrow.Author.Needs.{needs}
 use Rattle.sheet.specs.Literals.{within}
 use Rattle.table.specs.declared.slots.Found.the-variants.{Nothing}
-use Rattle.table.specs.Slots.{lastOf, entriesOf}
-use Rattle.table.specs.Moves.{slot}
-use Rattle.table.proofs.Scan.{missed, none-left, found-none}
+use Rattle.table.specs.Fates.{lastOf}
+use Rattle.table.specs.Entries.{entriesOf}
+use Rattle.table.specs.inner.Slots.{slot}
+use Rattle.table.proofs.laws.slots.LastWithin.{missed, none-left, found-none}
 use Rattle.table.proofs.slots.first_above.Statement.{statement}
 use Rattle.table.proofs.slots.first_above.Tie as tie
 

@@ -1,6 +1,6 @@
 -- `slots::last_of_four` meets its contract. Assumes nothing.
 use mathlib.Core.Path.{sym, _∙_}
-use Rattle.table.proofs.Scan.{tested, last-3, last-2, last-1, last-0}
+use Rattle.table.proofs.laws.slots.LastWithin.{tested, last-3, last-2, last-1, last-0}
 use borrow.Author.Needs.{needs}
 use Rattle.table.proofs.slots.last_of_four.Statement.{statement}
 use Rattle.table.proofs.slots.last_of_four.Tie as tie

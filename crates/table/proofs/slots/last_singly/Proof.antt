@@ -4,8 +4,9 @@ use Prim.Native.Nat.{_≤_, _-_}
 use native.Mathlib.Omega.{arith}
 use borrow.Author.Needs.{needs}
 use Rattle.sheet.specs.Literals.{within}
-use Rattle.table.specs.Slots.{lastWithin, entriesOf}
-use Rattle.table.proofs.Scan.{tested, hit, missed, none-left}
+use Rattle.table.specs.Fates.{lastWithin}
+use Rattle.table.specs.Entries.{entriesOf}
+use Rattle.table.proofs.laws.slots.LastWithin.{tested, hit, missed, none-left}
 use Rattle.table.proofs.slots.last_singly.Statement.{statement}
 use Rattle.table.proofs.slots.last_singly.Tie as tie
 

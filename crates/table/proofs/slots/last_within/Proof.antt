@@ -3,8 +3,9 @@ use mathlib.Core.Path.{_≡_, refl, sym, _∙_}
 use Prim.Native.Nat.{_≤_, _-_}
 use native.Mathlib.Omega.{arith}
 use borrow.Author.Needs.{needs}
-use Rattle.table.specs.Slots.{lastWithin, entriesOf}
-use Rattle.table.proofs.Scan.{turn-found, turn-none}
+use Rattle.table.specs.Fates.{lastWithin}
+use Rattle.table.specs.Entries.{entriesOf}
+use Rattle.table.proofs.laws.slots.LastWithin.{turn-found, turn-none}
 use Rattle.table.proofs.slots.last_within.Statement.{statement}
 use Rattle.table.proofs.slots.last_within.Tie as tie
 

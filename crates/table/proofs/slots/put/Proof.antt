@@ -2,9 +2,9 @@
 use mathlib.Core.Path.{sym, _∙_}
 use native.Mathlib.Omega.{arith}
 use borrow.Author.Needs.{needs}
-use Rattle.table.proofs.Pads.{holds-trues-long, holds-falses-long, holds-room}
-use Rattle.table.proofs.Scan.{found-some, found-none}
-use Rattle.table.proofs.PutSlots.{dropped, full, placed, fewer}
+use Rattle.table.proofs.laws.arrays.HeldLists.{holds-trues-long, holds-falses-long, holds-room}
+use Rattle.table.proofs.laws.slots.LastWithin.{found-some, found-none}
+use Rattle.table.proofs.laws.slots.PutSlots.{dropped, full, placed, fewer}
 use Rattle.table.proofs.slots.put.Statement.{statement}
 use Rattle.table.proofs.slots.put.Tie as tie
 

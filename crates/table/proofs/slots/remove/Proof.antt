@@ -10,9 +10,9 @@ use borrow.Author.Needs.{needs}
 use borrow.Author.Tests.{not-true}
 use Rattle.sheet.specs.declared.Literals.{Literals}
 use Rattle.sheet.specs.Literals.{within}
-use Rattle.table.specs.Slots.{Holds}
-use Rattle.table.proofs.Pads.{holds-falses-long, holds-room}
-use Rattle.table.proofs.Compact.{none-goes, Moved, moved-is, moved-start, moved-gone, moved-kept, moved-end}
+use Rattle.table.specs.inner.Slots.{Holds}
+use Rattle.table.proofs.laws.arrays.HeldLists.{holds-falses-long, holds-room}
+use Rattle.table.proofs.laws.arrays.Compaction.{none-goes, Moved, moved-is, moved-start, moved-gone, moved-kept, moved-end}
 use Rattle.table.proofs.slots.remove.Statement.{statement}
 use Rattle.table.proofs.slots.remove.Tie as tie
 

@@ -1,7 +1,7 @@
 -- `slots::some_of_four` meets its contract. Assumes nothing.
 use mathlib.Core.Path.{ap₂}
 use mathlib.Core.Bool.{Bool, _||_}
-use Rattle.table.proofs.Scan.{tested}
+use Rattle.table.proofs.laws.slots.LastWithin.{tested}
 use borrow.Author.Needs.{needs}
 use Rattle.table.proofs.slots.some_of_four.Statement.{statement}
 use Rattle.table.proofs.slots.some_of_four.Tie as tie

@@ -9,18 +9,19 @@ use borrow.Author.Needs.{needs}
 use borrow.Fn.Kinds.{In}
 use borrow.Fn.PlainCycle.{Measures, is, falls, and}
 use Rattle.sheet.specs.Literals as L
+use Rattle.sheet.specs.inner.Masks as K
 use Rattle.sheet.specs.Lists.{keep}
 use Rattle.sheet.proofs.masks.flip.Reads as flip-reads
 use Rattle.sheet.proofs.masks.join.Reads as join-reads
 use Rattle.sheet.proofs.masks.literal.Reads as literal-reads
 use Rattle.sheet.proofs.masks.next.Reads as next-reads
 use Rattle.table.specs.declared.slots.Grown.the-variants as grown
-use Rattle.sheet.specs.Packed.{setsAt}
+use Rattle.sheet.specs.inner.Packed.{setsAt}
 use Rattle.table.specs.Start.{falsify}
-use Rattle.table.proofs.Pads.{held-own}
-use Rattle.table.proofs.Growing.{puts-is, Going, going-start, going-on, going-full, going-end}
-use Rattle.sheet.proofs.PackedLaws.{sets-step}
-use Rattle.table.proofs.Choosing.{chosen-all, puts-later, Free, free-start, free-on, chosen-steady, choicesOf, choices-start, choices-step, choices-less, choices-end}
+use Rattle.table.proofs.laws.arrays.HeldLists.{held-own}
+use Rattle.table.proofs.laws.slots.PutLoops.{puts-is, Going, going-start, going-on, going-full, going-end}
+use Rattle.sheet.proofs.laws.reader.PackedParts.{sets-step}
+use Rattle.table.proofs.laws.starts.Choosing.{chosen-all, puts-later, Free, free-start, free-on, chosen-steady, choicesOf, choices-start, choices-step, choices-less, choices-end}
 use Rattle.table.proofs.starts.choose.Reads as choose
 use Rattle.table.proofs.starts.choose.Kinds as choose-kinds
 use Rattle.table.proofs.starts.+choose.Lts-choose as choose-lts
@@ -45,7 +46,7 @@ claims t = (offer-by-newest-reads.Asked, offer-by-newest-reads.Learnt, set-from-
 abbrev choose-Inv-loop : choose-lts.InvT-loop
 choose-Inv-loop laid size at piece to-trues₀ to-falses₀ count after rest₀ filled₀ l₀ to-trues to-falses rest filled l =
     Going (keep L.consistent (falsify (drop at (setsAt size laid)) piece)) count to-trues₀ to-falses₀ (keep L.consistent (choicesOf (drop after (setsAt size laid)) rest piece)) filled to-trues to-falses
-    × (l ≡ L.next rest 0)
+    × (l ≡ K.next rest 0)
     × Free rest piece
 
 abbrev choose-μ-loop : choose-lts.MeasureT-loop

@@ -1,12 +1,12 @@
 -- `table::starts::first_into` meets its contract. Assumes nothing.
 use mathlib.Core.Path.{ap, _∙_}
 use mathlib.Core.List.{[], map}
-use Rattle.sheet.specs.Packed.{orsIn, oneofsIn, clausesAt}
-use Rattle.sheet.specs.Decoded.{problemIn}
+use Rattle.sheet.specs.inner.Packed.{orsIn, oneofsIn, clausesAt}
+use Rattle.sheet.specs.inner.Decoded.{problemIn}
 use Rattle.table.specs.Start.{orOf, oneOf, startClauses, startTable}
-use Rattle.table.specs.Slots.{tableOf}
+use Rattle.table.specs.Entries.{tableOf}
 use Rattle.table.specs.Calls.{orGiven}
-use Rattle.table.proofs.Started.{first-held, first-grown, first-on, first-refused, ors-fit, oneofs-fit}
+use Rattle.table.proofs.laws.starts.StartArrays.{first-held, first-grown, first-on, first-refused, ors-fit, oneofs-fit}
 use borrow.Author.Needs.{needs}
 use Rattle.table.proofs.starts.first_into.Statement.{statement}
 use Rattle.table.proofs.starts.first_into.Tie as tie

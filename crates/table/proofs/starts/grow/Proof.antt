@@ -1,7 +1,7 @@
 -- `table::starts::grow` meets its contract. Assumes nothing.
 use mathlib.Core.List.{[]}
-use Rattle.table.proofs.Pads.{fresh, holds-room}
-use Rattle.table.proofs.Started.{right-refused, right-table, grown-full, grown-empty, grown-table}
+use Rattle.table.proofs.laws.arrays.HeldLists.{fresh, holds-room}
+use Rattle.table.proofs.laws.starts.StartArrays.{right-refused, right-table, grown-full, grown-empty, grown-table}
 use borrow.Author.Needs.{needs}
 use Rattle.table.proofs.starts.grow.Statement.{statement}
 use Rattle.table.proofs.starts.grow.Tie as tie

@@ -5,9 +5,9 @@ use Prim.Native.Nat.{_≤_, _-_}
 use native.Mathlib.Omega.{arith}
 use borrow.Author.Needs.{needs}
 use lib.ListN.{length, length-set}
-use Rattle.sheet.specs.Packed.{setsIn}
-use Rattle.table.proofs.PackedClauses.{alts-step, alts-end}
-use Rattle.table.proofs.Choosing.{Laying, laying-start, laying-one, laying-none, laying-end}
+use Rattle.sheet.specs.inner.Packed.{setsIn}
+use Rattle.table.proofs.laws.starts.PackedClauses.{alts-step, alts-end}
+use Rattle.table.proofs.laws.starts.Choosing.{Laying, laying-start, laying-one, laying-none, laying-end}
 use Rattle.table.proofs.starts.lay_others.Statement.{statement}
 use Rattle.table.proofs.starts.lay_others.Tie as tie
 

@@ -1,7 +1,7 @@
 -- `table::starts::refuse_start` meets its contract. Assumes nothing.
 use mathlib.Core.Path.{refl}
 use Rattle.sheet.specs.Lists.{pad}
-use Rattle.table.specs.Slots.{tableOf}
+use Rattle.table.specs.Entries.{tableOf}
 use Rattle.table.proofs.starts.refuse_start.Statement.{statement}
 use Rattle.table.proofs.starts.refuse_start.Tie as tie
 

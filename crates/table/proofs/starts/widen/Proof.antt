@@ -3,10 +3,10 @@ use mathlib.Core.Path.{sym, ap}
 use mathlib.Core.Bool.{Bool}
 use Rattle.sheet.specs.Literals as L
 use Rattle.sheet.specs.Lists.{keep}
-use Rattle.sheet.specs.Packed.{setsIn}
+use Rattle.sheet.specs.inner.Packed.{setsIn}
 use Rattle.table.specs.Start.{candidates}
-use Rattle.table.specs.Reads.{clauseOf}
-use Rattle.table.proofs.Growing.{puts-is}
+use Rattle.table.specs.inner.Starts.{clauseOf}
+use Rattle.table.proofs.laws.slots.PutLoops.{puts-is}
 use borrow.Author.Needs.{needs}
 use Rattle.table.proofs.starts.widen.Statement.{statement}
 use Rattle.table.proofs.starts.widen.Tie as tie

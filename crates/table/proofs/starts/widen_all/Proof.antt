@@ -6,15 +6,15 @@ use lib.ListN.{drop, getD}
 use borrow.Author.Needs.{needs}
 use Rattle.sheet.specs.Lists.{collect, keep}
 use Rattle.sheet.specs.Literals as L
-use Rattle.sheet.specs.Packed.{setsIn}
-use Rattle.table.specs.Slots.{entriesOf}
+use Rattle.sheet.specs.inner.Packed.{setsIn}
+use Rattle.table.specs.Entries.{entriesOf}
 use Rattle.table.specs.Start.{candidates}
-use Rattle.table.specs.Reads.{clauseOf}
-use Rattle.table.specs.Moves.{slot}
-use Rattle.table.proofs.Pads.{held-own}
-use Rattle.table.proofs.Choosing.{collect-step, collect-end}
-use Rattle.table.proofs.Turns.{entries-next, entries-done}
-use Rattle.table.proofs.Growing.{Going, going-start, going-on, going-full, going-end}
+use Rattle.table.specs.inner.Starts.{clauseOf}
+use Rattle.table.specs.inner.Slots.{slot}
+use Rattle.table.proofs.laws.arrays.HeldLists.{held-own}
+use Rattle.table.proofs.laws.starts.Choosing.{collect-step, collect-end}
+use Rattle.table.proofs.laws.arrays.EntryLoops.{entries-next, entries-done}
+use Rattle.table.proofs.laws.slots.PutLoops.{Going, going-start, going-on, going-full, going-end}
 use Rattle.table.proofs.starts.widen_all.Statement.{statement}
 use Rattle.table.proofs.starts.widen_all.Tie as tie
 

@@ -7,12 +7,12 @@ use borrow.Author.Tests.{not-true, not-false}
 use Rattle.sheet.specs.declared.Literals.{Literals}
 use Rattle.sheet.specs.Literals as L
 use Rattle.sheet.specs.Lists.{keep}
-use Rattle.sheet.specs.Packed.{setFrom, setsIn}
+use Rattle.sheet.specs.inner.Packed.{setFrom, setsIn}
 use Rattle.table.specs.Start.{falsify}
-use Rattle.table.specs.Reads.{others}
-use Rattle.table.proofs.PackedClauses.{alt-at}
-use Rattle.table.proofs.Growing.{nothing-put, puts-is}
-use Rattle.table.proofs.Choosing.{cut}
+use Rattle.table.specs.inner.Starts.{others}
+use Rattle.table.proofs.laws.starts.PackedClauses.{alt-at}
+use Rattle.table.proofs.laws.slots.PutLoops.{nothing-put, puts-is}
+use Rattle.table.proofs.laws.starts.Choosing.{cut}
 use borrow.Author.Needs.{needs}
 use Rattle.table.proofs.starts.widen_one.Statement.{statement}
 use Rattle.table.proofs.starts.widen_one.Tie as tie

@@ -4,12 +4,12 @@ use native.Mathlib.Omega.{arith}
 use borrow.Author.Needs.{needs}
 use Rattle.sheet.specs.Literals as L
 use Rattle.sheet.specs.Lists.{keep}
-use Rattle.sheet.specs.Packed.{setsIn}
+use Rattle.sheet.specs.inner.Packed.{setsIn}
 use Rattle.table.specs.Start.{candidates, oneOf}
-use Rattle.table.proofs.PackedClauses.{length-alts, alts-end}
-use Rattle.table.proofs.Choosing.{waysFrom, ways-start, ways-step, ways-end}
-use Rattle.table.proofs.Pads.{held-own}
-use Rattle.table.proofs.Growing.{Going, going-start, going-on, going-full, going-end}
+use Rattle.table.proofs.laws.starts.PackedClauses.{length-alts, alts-end}
+use Rattle.table.proofs.laws.starts.Choosing.{waysFrom, ways-start, ways-step, ways-end}
+use Rattle.table.proofs.laws.arrays.HeldLists.{held-own}
+use Rattle.table.proofs.laws.slots.PutLoops.{Going, going-start, going-on, going-full, going-end}
 use Rattle.table.proofs.starts.widen_oneof.Statement.{statement}
 use Rattle.table.proofs.starts.widen_oneof.Tie as tie
 

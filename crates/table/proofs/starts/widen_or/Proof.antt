@@ -7,11 +7,11 @@ use lib.ListN.{drop}
 use borrow.Author.Needs.{needs}
 use Rattle.sheet.specs.Literals as L
 use Rattle.sheet.specs.Lists.{keep}
-use Rattle.sheet.specs.Packed.{setsIn}
-use Rattle.table.proofs.PackedClauses.{alts-step, alts-end}
-use Rattle.table.proofs.Choosing.{or-step, or-end}
-use Rattle.table.proofs.Pads.{held-own}
-use Rattle.table.proofs.Growing.{Going, going-start, going-on, going-full, going-end}
+use Rattle.sheet.specs.inner.Packed.{setsIn}
+use Rattle.table.proofs.laws.starts.PackedClauses.{alts-step, alts-end}
+use Rattle.table.proofs.laws.starts.Choosing.{or-step, or-end}
+use Rattle.table.proofs.laws.arrays.HeldLists.{held-own}
+use Rattle.table.proofs.laws.slots.PutLoops.{Going, going-start, going-on, going-full, going-end}
 use Rattle.table.proofs.starts.widen_or.Statement.{statement}
 use Rattle.table.proofs.starts.widen_or.Tie as tie
 

@@ -6,15 +6,15 @@ use native.Mathlib.Omega.{arith}
 use lib.ListN.{drop}
 use borrow.Author.Needs.{needs}
 use Rattle.sheet.specs.declared.Effect.{Effect}
-use Rattle.sheet.specs.Literals.{next as nextOf}
+use Rattle.sheet.specs.inner.Masks.{next as nextOf}
 use Rattle.table.specs.Step.{pieces, image}
-use Rattle.sheet.specs.Packed.{effectsAt}
-use Rattle.table.specs.Carry.{Splits}
-use Rattle.table.proofs.Carrying.{settles-puts, settles-leaf, past-part}
-use Rattle.sheet.proofs.PackedLaws.{effects-step, effects-end}
-use Rattle.table.proofs.Pads.{held-own}
-use Rattle.table.proofs.Growing.{Going, going-start, going-on, going-full, going-end}
-use Rattle.table.proofs.Walks.{going-at, Turn, turn-start, turn-on, turn-less, turn-most, partsFrom, parts-start, parts-turn, parts-end}
+use Rattle.sheet.specs.inner.Packed.{effectsAt}
+use Rattle.table.specs.inner.Carry.{Splits}
+use Rattle.table.proofs.laws.steps.CarriedResults.{settles-puts, settles-leaf, past-part}
+use Rattle.sheet.proofs.laws.reader.PackedParts.{effects-step, effects-end}
+use Rattle.table.proofs.laws.arrays.HeldLists.{held-own}
+use Rattle.table.proofs.laws.slots.PutLoops.{Going, going-start, going-on, going-full, going-end}
+use Rattle.table.proofs.laws.steps.PieceWalk.{going-at, Turn, turn-start, turn-on, turn-less, turn-most, partsFrom, parts-start, parts-turn, parts-end}
 use Prim.Native.Nat.{ℕ, _≤_, _<_, _-_, _+_}
 use borrow.Fn.Kinds.{In}
 use borrow.Fn.PlainCycle.{Measures, is, falls, and}

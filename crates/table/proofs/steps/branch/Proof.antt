@@ -1,8 +1,8 @@
 -- `table::steps::branch` meets its contract. Assumes nothing.
 use Prim.Native.Nat.{_<_}
 use native.Mathlib.Omega.{arith}
-use Rattle.table.proofs.Carrying.{carried-start, settles-puts, settles-leaf}
-use Rattle.sheet.proofs.PackedLaws.{effects-end}
+use Rattle.table.proofs.laws.steps.CarriedResults.{carried-start, settles-puts, settles-leaf}
+use Rattle.sheet.proofs.laws.reader.PackedParts.{effects-end}
 use borrow.Author.Needs.{needs}
 use Rattle.table.proofs.steps.branch.Statement.{statement}
 use Rattle.table.proofs.steps.branch.Tie as tie

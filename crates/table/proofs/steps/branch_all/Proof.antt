@@ -10,13 +10,13 @@ use Rattle.sheet.specs.declared.Literals.{Literals}
 use Rattle.sheet.specs.Literals.{consistent}
 use Rattle.sheet.specs.Lists.{collect}
 use Rattle.table.specs.Step.{pieces, image}
-use Rattle.table.specs.Slots.{entriesOf}
-use Rattle.sheet.specs.Packed.{effectsAt}
-use Rattle.table.proofs.Pads.{held-own}
-use Rattle.table.proofs.Growing.{Going, going-start, going-on, going-full, going-end}
-use Rattle.table.proofs.Carrying.{all-here}
-use Rattle.table.proofs.Turns.{entries-next, entries-done}
-use Rattle.table.proofs.Walks.{entries-ways}
+use Rattle.table.specs.Entries.{entriesOf}
+use Rattle.sheet.specs.inner.Packed.{effectsAt}
+use Rattle.table.proofs.laws.arrays.HeldLists.{held-own}
+use Rattle.table.proofs.laws.slots.PutLoops.{Going, going-start, going-on, going-full, going-end}
+use Rattle.table.proofs.laws.steps.CarriedResults.{all-here}
+use Rattle.table.proofs.laws.arrays.EntryLoops.{entries-next, entries-done}
+use Rattle.table.proofs.laws.steps.PieceWalk.{entries-ways}
 use Rattle.table.proofs.steps.branch_all.Statement.{statement}
 use Rattle.table.proofs.steps.branch_all.Tie as tie
 

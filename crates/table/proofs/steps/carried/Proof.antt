@@ -5,7 +5,7 @@ use native.Mathlib.Omega.{arith}
 use borrow.Author.Needs.{needs}
 use Rattle.sheet.specs.declared.Literals.{Literals}
 use Rattle.sheet.specs.Literals.{join}
-use Rattle.table.specs.Carry.{carriedAt}
+use Rattle.table.specs.inner.Carry.{carriedAt}
 use Rattle.table.proofs.steps.carried.Statement.{statement}
 use Rattle.table.proofs.steps.carried.Tie as tie
 

@@ -4,11 +4,11 @@ use Prim.Native.Nat.{_-_}
 use borrow.Author.Needs.{needs}
 use lib.ListN.{drop}
 use Rattle.sheet.specs.Lists.{anyOf}
-use Rattle.sheet.specs.Packed.{effectsAt}
-use Rattle.sheet.proofs.PackedLaws.{effects-step, effects-end}
-use Rattle.table.specs.Pairs.{contradicts}
-use Rattle.table.specs.Slots.{entriesOf}
-use Rattle.table.proofs.PairScan.{pairs-turn, pairs-end}
+use Rattle.sheet.specs.inner.Packed.{effectsAt}
+use Rattle.sheet.proofs.laws.reader.PackedParts.{effects-step, effects-end}
+use Rattle.table.specs.inner.Pairs.{contradicts}
+use Rattle.table.specs.Entries.{entriesOf}
+use Rattle.table.proofs.laws.steps.PairScan.{pairs-turn, pairs-end}
 use Rattle.table.proofs.steps.conflicting.Statement.{statement}
 use Rattle.table.proofs.steps.conflicting.Tie as tie
 

@@ -1,8 +1,8 @@
 -- `steps::opposed` meets its contract. Assumes nothing.
 use mathlib.Core.Path.{sym, _∙_}
 use borrow.Author.Needs.{needs}
-use Rattle.table.specs.Slots.{entriesOf}
-use Rattle.table.proofs.PairScan.{clashing, agreeing}
+use Rattle.table.specs.Entries.{entriesOf}
+use Rattle.table.proofs.laws.steps.PairScan.{clashing, agreeing}
 use Rattle.table.proofs.steps.opposed.Statement.{statement}
 use Rattle.table.proofs.steps.opposed.Tie as tie
 

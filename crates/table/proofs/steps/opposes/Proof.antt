@@ -8,11 +8,11 @@ use lib.ListN.{drop}
 use Rattle.sheet.specs.declared.Literals.{Literals}
 use Rattle.sheet.specs.declared.Effect.{Effect}
 use Rattle.sheet.specs.Lists.{anyOf}
-use Rattle.sheet.specs.Packed.{effectsAt}
-use Rattle.table.specs.Pairs.{opposed as opposedBy}
-use Rattle.table.specs.Slots.{entriesOf}
-use Rattle.table.proofs.Turns.{any-stop, any-on}
-use Rattle.sheet.proofs.PackedLaws.{effects-step, effects-end}
+use Rattle.sheet.specs.inner.Packed.{effectsAt}
+use Rattle.table.specs.inner.Pairs.{opposed as opposedBy}
+use Rattle.table.specs.Entries.{entriesOf}
+use Rattle.table.proofs.laws.arrays.EntryLoops.{any-stop, any-on}
+use Rattle.sheet.proofs.laws.reader.PackedParts.{effects-step, effects-end}
 use Rattle.table.proofs.steps.opposes.Statement.{statement}
 use Rattle.table.proofs.steps.opposes.Tie as tie
 

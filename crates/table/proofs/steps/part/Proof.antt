@@ -5,7 +5,7 @@ use native.Mathlib.Omega.{arith}
 use borrow.Author.Needs.{needs}
 use Rattle.sheet.specs.declared.Literals.{Literals}
 use Rattle.sheet.specs.Literals.{join, flip, literal}
-use Rattle.table.specs.Carry.{partAt}
+use Rattle.table.specs.inner.Carry.{partAt}
 use Rattle.table.proofs.steps.part.Statement.{statement}
 use Rattle.table.proofs.steps.part.Tie as tie
 

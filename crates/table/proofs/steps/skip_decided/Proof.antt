@@ -6,10 +6,10 @@ use native.Mathlib.Omega.{arith}
 use borrow.Author.Needs.{needs}
 use borrow.Author.Tests.{not-true, not-false}
 use Rattle.sheet.specs.declared.Effect.{Effect}
-use Rattle.sheet.specs.Packed.{effectsAt}
-use Rattle.table.specs.Carry.{Splits, Skips}
-use Rattle.table.proofs.Carrying.{settles-start, on-within, on-clash}
-use Rattle.sheet.proofs.PackedLaws.{effects-step}
+use Rattle.sheet.specs.inner.Packed.{effectsAt}
+use Rattle.table.specs.inner.Carry.{Splits, Skips}
+use Rattle.table.proofs.laws.steps.CarriedResults.{settles-start, on-within, on-clash}
+use Rattle.sheet.proofs.laws.reader.PackedParts.{effects-step}
 use Rattle.table.proofs.steps.skip_decided.Statement.{statement}
 use Rattle.table.proofs.steps.skip_decided.Tie as tie
 

@@ -5,9 +5,9 @@ use mathlib.Core.List.{List}
 use native.Mathlib.Omega.{arith}
 use borrow.Author.Tests.{not-true, not-false}
 use lib.ListN.{length, take, drop}
-use Rattle.sheet.specs.Packed.{part, movesIn, actionBy, countIn, actionOf}
-use Rattle.sheet.proofs.PackedLaws.{item-lent, part-long, effects-room}
-use Rattle.table.proofs.Advancing.{action-is, fresh-held, effects-steady, entries-steady, lent-unsure, lent-conflicting, lent-full, lent-to}
+use Rattle.sheet.specs.inner.Packed.{part, movesIn, actionBy, countIn, actionOf}
+use Rattle.sheet.proofs.laws.reader.PackedParts.{item-lent, part-long, effects-room}
+use Rattle.table.proofs.laws.steps.StepArrays.{action-is, fresh-held, effects-steady, entries-steady, lent-unsure, lent-conflicting, lent-full, lent-to}
 use borrow.Author.Needs.{needs}
 use Rattle.table.proofs.steps.step_at.Statement.{statement}
 use Rattle.table.proofs.steps.step_at.Tie as tie

@@ -1,7 +1,7 @@
 -- `table::tables::entry_at` meets its contract. Assumes nothing.
 use mathlib.Core.Path.{refl}
 use borrow.Author.Needs.{needs}
-use Rattle.table.specs.Moves.{slot}
+use Rattle.table.specs.inner.Slots.{slot}
 use Rattle.table.proofs.tables.entry_at.Statement.{statement}
 use Rattle.table.proofs.tables.entry_at.Tie as tie
 

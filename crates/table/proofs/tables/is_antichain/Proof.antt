@@ -7,8 +7,8 @@ use native.Mathlib.Omega.{arith}
 use borrow.Author.Needs.{needs}
 use lib.ListN.{drop}
 use Rattle.table.specs.Minimal.{apart as apartOf, antichain}
-use Rattle.table.specs.Slots.{entriesOf}
-use Rattle.table.proofs.Turns.{entries-next, entries-done, apart-turn, antichain-turn}
+use Rattle.table.specs.Entries.{entriesOf}
+use Rattle.table.proofs.laws.arrays.EntryLoops.{entries-next, entries-done, apart-turn, antichain-turn}
 use Rattle.table.proofs.tables.is_antichain.Statement.{statement}
 use Rattle.table.proofs.tables.is_antichain.Tie as tie
 

@@ -3,7 +3,7 @@ use mathlib.Core.Path.{sym, ap, _∙_}
 use mathlib.Core.Bool.{Bool, _&&_}
 use borrow.Author.Needs.{needs}
 use Rattle.sheet.specs.Literals.{below}
-use Rattle.sheet.proofs.base.Bools.{kept}
+use Rattle.sheet.proofs.laws.base.Bools.{kept}
 use Rattle.table.specs.Minimal.{proper}
 use Rattle.table.proofs.tables.proper.Statement.{statement}
 use Rattle.table.proofs.tables.proper.Tie as tie

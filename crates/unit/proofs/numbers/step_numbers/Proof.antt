@@ -1,6 +1,6 @@
 -- `unit::numbers::step_numbers` meets its contract. Assumes nothing.
 use borrow.Author.Needs.{needs}
-use Rattle.unit.proofs.Stores.{numbers-step}
+use Rattle.unit.proofs.StoredNumbers.{numbers-step}
 use Rattle.unit.proofs.numbers.step_numbers.Statement.{statement}
 use Rattle.unit.proofs.numbers.step_numbers.Tie as tie
 

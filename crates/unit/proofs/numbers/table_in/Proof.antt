@@ -5,8 +5,8 @@ use native.Mathlib.Omega.{arith}
 use lib.ListN.{length, length-take, length-drop}
 use borrow.Author.Needs.{needs}
 use Rattle.sheet.specs.Limits.{tableNumbers}
-use Rattle.sheet.proofs.base.Copying.{whole}
-use Rattle.unit.proofs.Stores.{table-read}
+use Rattle.sheet.proofs.laws.base.Copying.{whole}
+use Rattle.unit.proofs.StoredNumbers.{table-read}
 use Rattle.unit.proofs.numbers.table_in.Statement.{statement}
 use Rattle.unit.proofs.numbers.table_in.Tie as tie
 

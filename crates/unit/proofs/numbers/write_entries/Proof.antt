@@ -2,8 +2,8 @@
 use mathlib.Core.Path.{_≡_, _∙_}
 use native.Mathlib.Omega.{arith}
 use lib.ListN.{length, set, length-set}
-use Rattle.table.specs.Moves.{lent}
-use Rattle.unit.proofs.Stores.{table-stores}
+use Rattle.table.specs.Entries.{lent}
+use Rattle.unit.proofs.StoredNumbers.{table-stores}
 use borrow.Author.Needs.{needs}
 use Rattle.unit.proofs.numbers.write_entries.Statement.{statement}
 use Rattle.unit.proofs.numbers.write_entries.Tie as tie

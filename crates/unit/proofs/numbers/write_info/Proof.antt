@@ -2,7 +2,7 @@
 use native.Mathlib.Omega.{arith}
 use lib.ListN.{length-set}
 use borrow.Author.Needs.{needs}
-use Rattle.unit.proofs.Stores.{info-stores}
+use Rattle.unit.proofs.StoredNumbers.{info-stores}
 use Rattle.unit.proofs.numbers.write_info.Statement.{statement}
 use Rattle.unit.proofs.numbers.write_info.Tie as tie
 

@@ -2,7 +2,7 @@
 use Prim.Native.Nat.{_-_}
 use native.Mathlib.Omega.{arith}
 use lib.ListN.{length-set}
-use Rattle.plan.specs.Course.{countsIn}
+use Rattle.plan.specs.inner.Course.{countsIn}
 use Rattle.unit.proofs.RowNumbers.{Rowed, rowed-start, rowed-step, rowed-end}
 use Rattle.unit.proofs.numbers.write_row_numbers.Statement.{statement}
 use Rattle.unit.proofs.numbers.write_row_numbers.Tie as tie

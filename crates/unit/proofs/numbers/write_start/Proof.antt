@@ -3,9 +3,9 @@ use mathlib.Core.Path.{ap, _∙_}
 use native.Mathlib.Omega.{arith}
 use Rattle.table.specs.declared.Table.{Table}
 use Rattle.table.specs.declared.starts.Started.{Started}
-use Rattle.table.specs.Reads.{startAnswer}
+use Rattle.table.specs.inner.Starts.{startAnswer}
 use Rattle.unit.specs.Numbers.{tableOut}
-use Rattle.unit.proofs.Stores.{answer-by, table-by, count-by, zeros-table}
+use Rattle.unit.proofs.StoredNumbers.{answer-by, table-by, count-by, zeros-table}
 use borrow.Author.Needs.{needs}
 use Rattle.unit.proofs.numbers.write_start.Statement.{statement}
 use Rattle.unit.proofs.numbers.write_start.Tie as tie

@@ -1,8 +1,8 @@
 -- `unit::numbers::write_step` meets its contract. Assumes nothing.
 use Rattle.table.specs.declared.steps.Stepped.{Stepped}
-use Rattle.table.specs.Moves.{stepAnswer}
+use Rattle.table.specs.inner.Steps.{stepAnswer}
 use Rattle.unit.specs.Numbers.{tableIn}
-use Rattle.unit.proofs.Stores.{table-back, answer-by, table-by, count-by}
+use Rattle.unit.proofs.StoredNumbers.{table-back, answer-by, table-by, count-by}
 use borrow.Author.Needs.{needs}
 use Rattle.unit.proofs.numbers.write_step.Statement.{statement}
 use Rattle.unit.proofs.numbers.write_step.Tie as tie

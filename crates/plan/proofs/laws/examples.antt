@@ -1,0 +1,4 @@
+-- examples
+pub mod LampExample
+pub mod PaperSheet
+pub mod TextExamples

@@ -1,0 +1,4 @@
+-- arrays
+pub mod HeldLists
+pub mod EntryLoops
+pub mod Compaction

@@ -1,0 +1,77 @@
+-- What a turn of a loop over a list adds to a test of its members; the entries of two arrays, read from the front. Assumes nothing.
+use mathlib.Core.Path.{_≡_, refl, sym, ap, _∙_}
+use mathlib.Core.Bool.{Bool, true, false, not, _&&_, _||_}
+use mathlib.Core.List.{List, [], _∷_}
+use Prim.Native.Nat.{ℕ, suc, _+_, _≤_, _<_}
+use native.Mathlib.Numerals.{add-one}
+use native.Mathlib.Omega.{arith}
+use lib.ListN.{length, drop, drop-of-length-le}
+use lib.Seq.{drop-cons}
+use Rattle.sheet.specs.declared.Literals.{Literals}
+use Rattle.sheet.specs.Literals.{noLiteral, within}
+use Rattle.sheet.specs.Lists.{anyOf, allOf}
+use Rattle.table.specs.Minimal.{apart, antichain}
+use Rattle.table.specs.Entries.{entriesOf}
+use Rattle.table.specs.inner.Slots.{slot}
+use Rattle.table.proofs.laws.arrays.HeldLists.{length-entriesOf, getD-entriesOf}
+
+-- the next member is x, and b its test
+module _ {A : Type 0} (f : A → Bool) (x : A) (xs ys : List A) (b : Bool) (q : xs ≡ x ∷ ys) (is : b ≡ f x) where
+  all-is : allOf f xs ≡ (b && allOf f ys)
+  all-is = ap (allOf f) q ∙ ap (λ (t : Bool). t && allOf f ys) (sym is)
+
+  any-is : anyOf f xs ≡ (b || anyOf f ys)
+  any-is = ap (anyOf f) q ∙ ap (λ (t : Bool). t || anyOf f ys) (sym is)
+
+  pub all-stop : b ≡ false → false ≡ allOf f xs
+  all-stop e = sym (all-is ∙ ap (λ (t : Bool). t && allOf f ys) e)
+
+  pub all-on : b ≡ true → allOf f xs ≡ allOf f ys
+  all-on e = all-is ∙ ap (λ (t : Bool). t && allOf f ys) e
+
+  pub any-stop : b ≡ true → true ≡ anyOf f xs
+  any-stop e = sym (any-is ∙ ap (λ (t : Bool). t || anyOf f ys) e)
+
+  pub any-on : b ≡ false → anyOf f xs ≡ anyOf f ys
+  any-on e = any-is ∙ ap (λ (t : Bool). t || anyOf f ys) e
+
+  -- a scan that goes on to the end, and t what it found before
+  pub any-mark : (t : Bool) → b ≡ true → (t || anyOf f xs) ≡ true
+  any-mark t e = ap (λ (r : Bool). t || r) (sym (any-stop e)) ∙ yes t
+    where
+      yes : (r : Bool) → (r || true) ≡ true
+      yes true = refl
+      yes false = refl
+
+  pub any-keep : (t : Bool) → b ≡ false → (t || anyOf f xs) ≡ (t || anyOf f ys)
+  any-keep t e = ap (λ (r : Bool). t || r) (any-on e)
+
+pub any-end : {A : Type 0} (f : A → Bool) (xs : List A) (t : Bool) → xs ≡ [] → (t || anyOf f xs) ≡ t
+any-end f xs t e = ap (λ (r : List _). t || anyOf f r) e ∙ alone t
+  where
+    alone : (r : Bool) → (r || false) ≡ r
+    alone true = refl
+    alone false = refl
+
+-- ---- the entries from i on
+module _ (n : ℕ) (ts fs : List ℕ) (i : ℕ) where
+  pub entries-next : (e : Literals) → i < n → e ≡ slot ts fs i → drop i (entriesOf n ts fs) ≡ e ∷ drop (i + 1) (entriesOf n ts fs)
+  unfolding slot
+  entries-next e h is =
+      let lt : i < length (entriesOf n ts fs) = omega (arith, length-entriesOf n ts fs) in
+      drop-cons (entriesOf n ts fs) i noLiteral lt
+      ∙ ap (λ (x : Literals). x ∷ drop (suc i) (entriesOf n ts fs)) (getD-entriesOf n ts fs i h ∙ sym is)
+      ∙ ap (λ (j : ℕ). e ∷ drop j (entriesOf n ts fs)) (sym (add-one i))
+
+  pub entries-done : n ≤ i → drop i (entriesOf n ts fs) ≡ []
+  entries-done h = drop-of-length-le (entriesOf n ts fs) {i = i} (rw length-entriesOf h)
+
+-- ---- pairs of entries
+module _ (e : Literals) (xs ys : List Literals) (q : xs ≡ e ∷ ys) where
+  pub apart-turn : (a : Literals) → apart a xs ≡ (not (within a e || within e a) && apart a ys)
+  unfolding apart
+  apart-turn a = ap (apart a) q
+
+  pub antichain-turn : antichain xs ≡ (apart e ys && antichain ys)
+  unfolding antichain
+  antichain-turn = ap antichain q

@@ -1,0 +1,3 @@
+-- examples
+pub mod BenchExamples
+pub mod PictureExamples

@@ -1,0 +1,57 @@
+-- The alternatives of a clause in 17 numbers, and the clauses of a section one after the other. Assumes nothing.
+use mathlib.Core.Path.{_≡_, refl, sym, ap, _∙_}
+use mathlib.Core.List.{List, [], _∷_}
+use Prim.Native.Nat.{ℕ, _+_, _-_, _*_, _≤_, _<_}
+use native.Mathlib.Omega.{arith}
+use lib.ListN.{length, getD, take, drop, length-drop}
+use lib.Seq.{length-take-le, getD-drop}
+use Rattle.sheet.specs.declared.Literals.{Literals}
+use Rattle.sheet.specs.Literals.{noLiteral}
+use Rattle.sheet.specs.inner.Packed.{setFrom, setsIn, SetsFit, itemAt}
+use Rattle.table.specs.inner.Starts.{ClausesFit}
+use Rattle.sheet.proofs.laws.reader.PackedParts.{sets-long, sets-step, sets-end, item-of-all}
+
+-- ---- the alternatives
+
+pub length-alts : (xs : List ℕ) → length (setsIn xs) ≡ getD xs 0 0
+unfolding setsIn
+length-alts xs = sets-long (getD xs 0 0) (drop 1 xs)
+
+module _ (xs : List ℕ) (i n : ℕ) (e : n ≡ getD xs 0 0) where
+  pub alts-step : (a : Literals) → i < n → a ≡ setFrom (drop 1 xs) (2 * i) → drop i (setsIn xs) ≡ a ∷ drop (i + 1) (setsIn xs)
+  unfolding setsIn
+  alts-step a h q = sets-step (getD xs 0 0) (drop 1 xs) i a (omega arith) q
+
+  pub alts-end : n ≤ i → drop i (setsIn xs) ≡ []
+  unfolding setsIn
+  alts-end h = sets-end (getD xs 0 0) (drop 1 xs) i (omega arith)
+
+-- the one of number i
+pub alt-at : (xs : List ℕ) (i : ℕ) (a : Literals) → i < getD xs 0 0 → a ≡ setFrom (drop 1 xs) (2 * i) → getD (setsIn xs) i noLiteral ≡ a
+alt-at xs i a h q =
+    let e : i ≡ i + 0 = omega arith in
+    ap (λ (k : ℕ). getD (setsIn xs) k noLiteral) e
+    ∙ sym (getD-drop i (setsIn xs) 0 noLiteral)
+    ∙ ap (λ (x : List Literals). getD x 0 noLiteral) (alts-step xs i _ refl a h q)
+
+-- ---- the clauses
+
+abbrev clause : List ℕ → ℕ → List Literals
+clause xs i = setsIn (itemAt 17 xs i)
+
+-- ---- the numbers of a clause by its two ends
+abbrev pub clauseItem : List ℕ → ℕ → List ℕ
+clauseItem xs i = take (i * 17 + 17 - i * 17) (drop (i * 17) xs)
+
+pub clause-is : (xs : List ℕ) (i : ℕ) → setsIn (clauseItem xs i) ≡ clause xs i
+unfolding itemAt
+clause-is xs i = let e : i * 17 + 17 - i * 17 ≡ 17 = omega arith in ap (λ (k : ℕ). setsIn (take k (drop (i * 17) xs))) e
+
+pub clause-fits : (n : ℕ) (xs : List ℕ) (i : ℕ) → ClausesFit n xs → i < n → SetsFit (clauseItem xs i)
+clause-fits n xs i fit h =
+    let e : i * 17 + 17 - i * 17 ≡ 17 = omega arith in
+    let l : 17 ≤ length (drop (i * 17) xs) = omega (arith, fit .room, length-drop (i * 17) xs) in
+    let p = item-of-all 17 setsIn (λ (c : List Literals). length c ≤ 8) n xs i h (fit .few) in (
+      ap (λ (k : ℕ). length (take k (drop (i * 17) xs))) e ∙ length-take-le 17 (drop (i * 17) xs) l,
+      omega (arith, p, ap length (clause-is xs i), length-alts (clauseItem xs i)),
+    )
