@@ -1,9 +1,10 @@
-//! What each call of the C interface has to answer and to write, from reference.rs and plans.rs: the table as 257 numbers, the checks of a
+//! What each call of the C interface has to answer and to write, from sheet.rs, tables.rs and plans.rs: the table as 257 numbers, the checks of a
 //! lent table and of lent lengths, and the order of the numbers.
 
 use crate::calls::{Call, Lent};
 use crate::plans::{run, search, Found, Verdict};
-use crate::reference::{lies_in, masks, picture, picture_bytes, read, start, state, step, Fault, Literal, Set, Sheet, ENTRIES};
+use crate::sheet::{lies_in, masks, read, state, Fault, Literal, Set, Sheet};
+use crate::tables::{picture, picture_bytes, start, step, ENTRIES};
 
 pub const NUMBERS: usize = 1 + 2 * ENTRIES;
 

@@ -1,6 +1,7 @@
-//! Document 01 once more: the run, the search and the text of `check`, over reference.rs.
+//! Document 01 once more: the run, the search and the text of `check`, over tables.rs.
 
-use crate::reference::{picture, read, start, state, step, Fault, Set, Sheet};
+use crate::sheet::{read, state, Fault, Set, Sheet};
+use crate::tables::{picture, start, step};
 
 #[derive(Clone, Copy, PartialEq, Eq, Debug)]
 pub enum Verdict {

@@ -1,4 +1,4 @@
-//! twin SEED SMALL LARGE [FOLDER]: compares the proved library with an independent implementation of document 01, on SMALL small and LARGE
+//! reference SEED SMALL LARGE [FOLDER]: compares the proved library with an independent implementation of document 01, on SMALL small and LARGE
 //! large random sheets, on sheets at the format's limits, and on every NAME.sheet with its NAME.expected in FOLDER.
 
 mod calls;
@@ -6,8 +6,9 @@ mod compare;
 mod due;
 mod limits;
 mod plans;
-mod reference;
-mod sheets;
+mod random;
+mod sheet;
+mod tables;
 mod worlds;
 
 use compare::Comparer;
@@ -16,12 +17,12 @@ use std::process::ExitCode;
 
 /// One small sheet in five is damaged, one in forty is noise.
 fn small(c: &mut Comparer) {
-    let sheet = sheets::small(&mut c.random);
-    let mut bytes = sheets::encode(&sheet);
+    let sheet = random::small(&mut c.random);
+    let mut bytes = random::encode(&sheet);
     if c.random.one_in(5) {
-        bytes = sheets::damaged(&mut c.random, &bytes);
+        bytes = random::damaged(&mut c.random, &bytes);
     } else if c.random.one_in(40) {
-        bytes = sheets::noise(&mut c.random);
+        bytes = random::noise(&mut c.random);
     }
     let budget = if c.random.one_in(200) { 5000 } else { 600 };
     c.sheet(&bytes, &[], 4, budget);
@@ -29,14 +30,14 @@ fn small(c: &mut Comparer) {
 
 /// A large sheet, one with many entries, and ten damaged ones.
 fn large(c: &mut Comparer) {
-    let sheet = sheets::wide(&mut c.random);
-    c.sheet(&sheets::encode(&sheet), &[], 2, 20);
-    let sheet = sheets::large(&mut c.random);
-    let bytes = sheets::encode(&sheet);
+    let sheet = random::wide(&mut c.random);
+    c.sheet(&random::encode(&sheet), &[], 2, 20);
+    let sheet = random::large(&mut c.random);
+    let bytes = random::encode(&sheet);
     c.sheet(&bytes, &[], 4, 40);
     for _ in 0..10 {
-        let damaged = sheets::damaged(&mut c.random, &bytes);
-        if reference::read(&damaged).is_err() {
+        let damaged = random::damaged(&mut c.random, &bytes);
+        if sheet::read(&damaged).is_err() {
             c.sheet(&damaged, &[], 0, 0);
         }
     }
@@ -62,7 +63,7 @@ fn main() -> ExitCode {
     let words: Vec<String> = std::env::args().skip(1).collect();
     let numbers: Vec<u64> = words.iter().take(3).filter_map(|word| word.parse().ok()).collect();
     if numbers.len() != 3 || words.len() > 4 {
-        eprintln!("usage: twin SEED SMALL LARGE [FOLDER]");
+        eprintln!("usage: reference SEED SMALL LARGE [FOLDER]");
         return ExitCode::from(2);
     }
     let mut c = Comparer::new(numbers[0]);
@@ -70,7 +71,7 @@ fn main() -> ExitCode {
         match folder(&mut c, Path::new(path)) {
             Ok(count) => println!("folder: {count} sheets, {} passed, {} failed", c.passed, c.failed),
             Err(message) => {
-                eprintln!("twin: {message}");
+                eprintln!("reference: {message}");
                 return ExitCode::from(2);
             }
         }

@@ -2,7 +2,8 @@
 //! proposition p. Nothing of the tables' working order is used: sets of worlds are compared with what the tables stand for.
 
 use crate::plans::{in_goal, run, search, Found, Verdict};
-use crate::reference::{masks, picture, start, step, Literal, Move, Set, Sheet};
+use crate::sheet::{masks, Literal, Move, Set, Sheet};
+use crate::tables::{picture, start, step};
 
 pub type World = u32;
 

@@ -4,8 +4,9 @@
 use crate::calls::{call, Call, Lent};
 use crate::due::{accepted, due, numbers_of, table_of, NUMBERS};
 use crate::plans::{refusal_text, run, run_text, text, Verdict};
-use crate::reference::{picture, start, Set, Sheet};
-use crate::sheets::{bad_table, good_table, rubbish, Random};
+use crate::random::{bad_table, good_table, rubbish, Random};
+use crate::sheet::{Set, Sheet};
+use crate::tables::{picture, start};
 use crate::worlds::{self, Checked};
 use std::collections::BTreeMap;
 
