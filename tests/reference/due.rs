@@ -159,6 +159,16 @@ pub fn due(bytes: &[u8], call: Call, budget: usize, lent: &mut Lent) -> Option<u
     Some(number)
 }
 
+/// The verdict of a run, from numbers 1 to 3 of `info`.
+pub fn verdict_of(info: &[u64]) -> Verdict {
+    match info[1] {
+        0 => Verdict::Reached,
+        1 => Verdict::Short,
+        2 => Verdict::Stopped(info[2] as usize, info[3] as u8),
+        _ => Verdict::Full(info[2] as usize),
+    }
+}
+
 /// The sheet of bytes that are accepted.
 pub fn accepted(bytes: &[u8]) -> Option<Sheet> {
     read(bytes).ok()

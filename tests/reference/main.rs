@@ -1,9 +1,15 @@
-//! reference SEED SMALL LARGE [FOLDER]: compares the proved library with an independent implementation of document 01, on SMALL small and LARGE
-//! large random sheets, on sheets at the format's limits, and on every NAME.sheet with its NAME.expected in FOLDER.
+//! reference SEED SMALL LARGE [FOLDER]: compares the proved library with an independent implementation of the documents, on SMALL small and
+//! LARGE large random sheets, on sheets at the format's limits, and on every NAME.sheet with its NAME.expected in FOLDER.
+//! reference due LAYER: what is due for the cases of the program crates/LAYER_cases, from the standard input; LAYER: sheet, table or plan.
+//! reference text: what `check` prints for the sheet on the standard input.
+//! reference lines LAYER SEED COUNT: lines of cases on COUNT random sheets.
+//! Nothing but the first of these calls the library. Status 1 if something differs, 2 if the input is not as it should be.
 
 mod calls;
+mod cases;
 mod compare;
 mod due;
+mod exchanges;
 mod limits;
 mod plans;
 mod random;
@@ -11,9 +17,16 @@ mod sheet;
 mod tables;
 mod worlds;
 
+use cases::Layer;
 use compare::Comparer;
+use random::Random;
+use std::io::Read;
 use std::path::Path;
 use std::process::ExitCode;
+
+const USAGE: &str = "usage: reference SEED SMALL LARGE [FOLDER] | due LAYER | text | lines LAYER SEED COUNT";
+/// So many sheets whose moves share a lamp.
+const LAMPS: usize = 3000;
 
 /// One small sheet in five is damaged, one in forty is noise.
 fn small(c: &mut Comparer) {
@@ -59,25 +72,14 @@ fn folder(c: &mut Comparer, folder: &Path) -> Result<usize, String> {
     Ok(paths.len())
 }
 
-fn main() -> ExitCode {
-    let words: Vec<String> = std::env::args().skip(1).collect();
-    let numbers: Vec<u64> = words.iter().take(3).filter_map(|word| word.parse().ok()).collect();
-    if numbers.len() != 3 || words.len() > 4 {
-        eprintln!("usage: reference SEED SMALL LARGE [FOLDER]");
-        return ExitCode::from(2);
-    }
-    let mut c = Comparer::new(numbers[0]);
-    if let Some(path) = words.get(3) {
-        match folder(&mut c, Path::new(path)) {
-            Ok(count) => println!("folder: {count} sheets, {} passed, {} failed", c.passed, c.failed),
-            Err(message) => {
-                eprintln!("reference: {message}");
-                return ExitCode::from(2);
-            }
-        }
+/// The comparisons one after the other, with a line on each; false if something differs, or what cannot be read.
+fn compare(seed: u64, small_count: u64, large_count: u64, path: Option<&str>) -> Result<bool, String> {
+    let mut c = Comparer::new(seed);
+    if let Some(path) = path {
+        let count = folder(&mut c, Path::new(path))?;
+        println!("folder: {count} sheets, {} passed, {} failed", c.passed, c.failed);
     }
     // The sheets at the limits, once for each ten thousand small sheets; the slowest of them once, if there are large sheets at all.
-    let (small_count, large_count) = (numbers[1], numbers[2]);
     for _ in 0..small_count.div_ceil(10_000) {
         for case in limits::limits(&mut c.random) {
             c.sheet(&case.bytes, &case.tables, 0, 20);
@@ -97,7 +99,50 @@ fn main() -> ExitCode {
             }
         }
     }
+    c.lamps(LAMPS);
     println!("{}", c.answers());
     println!("{} passed, {} failed", c.passed, c.failed);
-    if c.failed == 0 { ExitCode::SUCCESS } else { ExitCode::from(1) }
+    Ok(c.failed == 0)
+}
+
+/// The whole standard input.
+fn input() -> Result<Vec<u8>, String> {
+    let mut bytes = Vec::new();
+    std::io::stdin().read_to_end(&mut bytes).map_err(|e| e.to_string())?;
+    Ok(bytes)
+}
+
+fn layer(name: &str) -> Result<Layer, String> {
+    Layer::named(name).ok_or_else(|| String::from(USAGE))
+}
+
+fn number(word: &str) -> Result<u64, String> {
+    word.parse().map_err(|_| String::from(USAGE))
+}
+
+/// What the arguments ask for; false if something differs.
+fn done(words: &[&str]) -> Result<bool, String> {
+    match words {
+        ["due", name] => {
+            let text = String::from_utf8(input()?).map_err(|e| e.to_string())?;
+            print!("{}", cases::answers(layer(name)?, &text)?);
+        }
+        ["text"] => print!("{}", plans::text(&input()?)),
+        ["lines", name, seed, count] => print!("{}", cases::lines(layer(name)?, &mut Random::new(number(seed)?), number(count)?)),
+        [seed, small, large, path @ ..] if path.len() < 2 => return compare(number(seed)?, number(small)?, number(large)?, path.first().copied()),
+        _ => return Err(String::from(USAGE)),
+    }
+    Ok(true)
+}
+
+fn main() -> ExitCode {
+    let words: Vec<String> = std::env::args().skip(1).collect();
+    match done(&words.iter().map(String::as_str).collect::<Vec<_>>()) {
+        Ok(true) => ExitCode::SUCCESS,
+        Ok(false) => ExitCode::from(1),
+        Err(message) => {
+            eprintln!("reference: {message}");
+            ExitCode::from(2)
+        }
+    }
 }

@@ -3,7 +3,7 @@
 //! A set of literals is a sorted list, never a mask.
 
 /// "A literal is one byte: 2p says p is true, 2p + 1 says p is false."
-#[derive(Clone, Copy, PartialEq, Eq, Debug)]
+#[derive(Clone, Copy, PartialEq, Eq, Hash, Debug)]
 pub struct Literal {
     pub proposition: u8,
     pub truth: bool,
