@@ -5,6 +5,7 @@ use crate::calls::{Call, Lent};
 use crate::due::{accepted, due, table_of, verdict_of, NUMBERS};
 use crate::plans::{refusal_text, search, search_once, text, verdict_text, Found};
 use crate::random::{self, Random};
+use crate::roles;
 use crate::sheet::{read, Sheet};
 use crate::tables::ENTRIES;
 use crate::worlds;
@@ -25,7 +26,12 @@ pub enum Layer {
 
 impl Layer {
     pub fn named(name: &str) -> Option<Layer> {
-        [("sheet", Layer::Sheet), ("table", Layer::Table), ("plan", Layer::Plan)].into_iter().find(|(word, _)| *word == name).map(|(_, layer)| layer)
+        match name {
+            "sheet" => Some(Layer::Sheet),
+            "table" => Some(Layer::Table),
+            "plan" => Some(Layer::Plan),
+            _ => None,
+        }
     }
 }
 
@@ -85,6 +91,10 @@ impl Current {
     }
 
     fn sheet_line(&mut self, bytes: Vec<u8>) -> Told {
+        let (by_section, by_byte) = (read(&bytes).map(drop), roles::judge(&bytes));
+        if by_section != by_byte {
+            return Err(format!("judged {by_section:?}, byte by byte {by_byte:?}"));
+        }
         self.sheet = bytes;
         let (answer, lent) = self.call(Call::Judge, 0, Vec::new());
         Ok(answer_text(answer, &lent))

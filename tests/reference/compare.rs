@@ -7,7 +7,8 @@ use crate::due::{accepted, due, numbers_of, table_of, verdict_of, NUMBERS};
 use crate::exchanges;
 use crate::plans::{refusal_text, run, run_text, text};
 use crate::random::{bad_table, good_table, rubbish, Random};
-use crate::sheet::{Set, Sheet};
+use crate::roles;
+use crate::sheet::{read, Set, Sheet};
 use crate::tables::{picture, start};
 use crate::worlds::{self, Checked};
 use std::collections::BTreeMap;
@@ -220,6 +221,8 @@ impl Comparer {
 
     /// All calls on one sheet, over its own tables, those given, and `more` random ones.
     pub fn sheet(&mut self, bytes: &[u8], tables: &[[u32; NUMBERS]], more: usize, budget: usize) {
+        let (by_section, by_byte) = (read(bytes).map(drop), roles::judge(bytes));
+        self.count(by_section == by_byte, || format!("judged {by_section:?}, byte by byte {by_byte:?}\nsheet: {}", hexadecimal(bytes)));
         let lent = self.lent(None, 0, 0);
         self.one(bytes, Call::Judge, 0, lent);
         let lent = self.lent(None, 0, 0);

@@ -1,5 +1,5 @@
-//! What each call of the C interface has to answer and to write, from sheet.rs, tables.rs and plans.rs: the table as 257 numbers, the checks of a
-//! lent table and of lent lengths, and the order of the numbers.
+//! What each call of the C interface has to answer and to write, from sheet.rs, tables.rs and plans.rs: the table as 257 numbers, the checks
+//! of a lent table and of lent lengths, and the order of the numbers.
 
 use crate::calls::{Call, Lent};
 use crate::plans::{run, search, Found, Verdict};

@@ -133,8 +133,8 @@ impl Tried {
             for b in &sheet.moves[..i] {
                 self.shared += (!touch(a, b) && results(a).iter().any(|x| results(b).contains(x))) as u64;
                 if clashing(sheet.n, a, b).is_some() {
-                    let needed: Vec<Part> = PARTS.into_iter().filter(|part| !touch_without(*part, a, b) && !self.needed.contains(part)).collect();
-                    self.needed.extend(needed);
+                    let spare = self.spare();
+                    self.needed.extend(spare.into_iter().filter(|part| !touch_without(*part, a, b)));
                 }
             }
         }
@@ -159,6 +159,11 @@ impl Tried {
         Ok(())
     }
 
+    /// The parts that no moves were found to need.
+    fn spare(&self) -> Vec<Part> {
+        PARTS.into_iter().filter(|part| !self.needed.contains(part)).collect()
+    }
+
     /// The comparisons that were made.
     pub fn passed(&self) -> u64 {
         self.apart + self.runs + self.needed.len() as u64
@@ -181,6 +186,6 @@ pub fn check_lamps(r: &mut Random, count: usize) -> Result<Tried, String> {
         let sheet = lamp_sheet(r);
         tried.moves(&sheet).and_then(|()| tried.runs(r, &sheet)).map_err(|wrong| format!("{wrong}\n{sheet:?}"))?;
     }
-    let spare: Vec<Part> = PARTS.into_iter().filter(|part| !tried.needed.contains(part)).collect();
+    let spare = tried.spare();
     if spare.is_empty() { Ok(tried) } else { Err(format!("no moves were found that need these parts of the test of touching: {spare:?}")) }
 }

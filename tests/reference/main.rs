@@ -13,6 +13,7 @@ mod exchanges;
 mod limits;
 mod plans;
 mod random;
+mod roles;
 mod sheet;
 mod tables;
 mod worlds;
@@ -129,7 +130,9 @@ fn done(words: &[&str]) -> Result<bool, String> {
         }
         ["text"] => print!("{}", plans::text(&input()?)),
         ["lines", name, seed, count] => print!("{}", cases::lines(layer(name)?, &mut Random::new(number(seed)?), number(count)?)),
-        [seed, small, large, path @ ..] if path.len() < 2 => return compare(number(seed)?, number(small)?, number(large)?, path.first().copied()),
+        [seed, small, large, path @ ..] if path.len() < 2 => {
+            return compare(number(seed)?, number(small)?, number(large)?, path.first().copied());
+        }
         _ => return Err(String::from(USAGE)),
     }
     Ok(true)
