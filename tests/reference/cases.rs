@@ -117,7 +117,7 @@ impl Current {
         let (what, rest) = bytes.split_first().ok_or("an empty line")?;
         match (what, rest.len()) {
             (0, _) => self.sheet = rest.to_vec(),
-            (1, 0) => return Ok(text(&self.sheet)),
+            (1, 0) => return self.report(),
             (2, 8) => return self.run_lent(number_of(rest)),
             (3, 0) => return self.run(),
             (4, 8) => return self.search(number_of(rest)),
@@ -181,6 +181,13 @@ impl Current {
         }
         let buffer = digest(lent.bytes.iter().map(|byte| *byte as u64));
         Ok(format!("{}clauses {} buffer {buffer}\n", answer_text(answer, &lent), lent.info[1]))
+    }
+
+    fn report(&self) -> Told {
+        if let Some(sheet) = self.countable() {
+            worlds::check_run(&sheet)?;
+        }
+        Ok(text(&self.sheet))
     }
 
     /// A run with these rows: its verdict and its table as lines, and the rows after it.

@@ -1,8 +1,9 @@
 //! Moves that touch, by document 02's W2, and exchanges: two moves that do not touch come to the same in either order; after a list of
 //! exchanges a run ends as before. With any part of the test of touching left out, moves are found that do not commute.
 
+use crate::cases::hexadecimal;
 use crate::plans::{run, Verdict};
-use crate::random::{literal, literals, Random};
+use crate::random::{encode, literal, literals, Random};
 use crate::sheet::{Effect, Literal, Move, Set, Sheet};
 use crate::tables::{picture, picture_bytes};
 use crate::worlds::{moved, Checked, World};
@@ -184,7 +185,9 @@ pub fn check_lamps(r: &mut Random, count: usize) -> Result<Tried, String> {
     let mut tried = Tried::default();
     for _ in 0..count {
         let sheet = lamp_sheet(r);
-        tried.moves(&sheet).and_then(|()| tried.runs(r, &sheet)).map_err(|wrong| format!("{wrong}\n{sheet:?}"))?;
+        tried.moves(&sheet).and_then(|()| tried.runs(r, &sheet)).map_err(|wrong| {
+            format!("{wrong}\nsheet: {}", hexadecimal(&encode(&sheet)))
+        })?;
     }
     let spare = tried.spare();
     if spare.is_empty() { Ok(tried) } else { Err(format!("no moves were found that need these parts of the test of touching: {spare:?}")) }

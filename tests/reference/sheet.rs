@@ -1,4 +1,4 @@
-//! Documents 01 and 02 once more, in plain Rust, written from their text alone: here sets of literals and the sheet; tables.rs and plans.rs
+//! Documents 01 and 02 once more, in plain Rust, from their text alone: here sets of literals and the sheet; tables.rs and plans.rs
 //! go on. The comments quote the sentences that the code follows.
 //! A set of literals is a sorted list, never a mask.
 
