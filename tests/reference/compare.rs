@@ -219,12 +219,17 @@ impl Comparer {
         }
     }
 
-    /// All calls on one sheet, over its own tables, those given, and `more` random ones.
-    pub fn sheet(&mut self, bytes: &[u8], tables: &[[u32; NUMBERS]], more: usize, budget: usize) {
+    /// The sheet judged: section by section and byte by byte alike, and by the library.
+    fn judged(&mut self, bytes: &[u8]) {
         let (by_section, by_byte) = (read(bytes).map(drop), roles::judge(bytes));
         self.count(by_section == by_byte, || format!("judged {by_section:?}, byte by byte {by_byte:?}\nsheet: {}", hexadecimal(bytes)));
         let lent = self.lent(None, 0, 0);
         self.one(bytes, Call::Judge, 0, lent);
+    }
+
+    /// All calls on one sheet, over its own tables, those given, and `more` random ones.
+    pub fn sheet(&mut self, bytes: &[u8], tables: &[[u32; NUMBERS]], more: usize, budget: usize) {
+        self.judged(bytes);
         let lent = self.lent(None, 0, 0);
         self.one(bytes, Call::Start, 0, lent);
         self.runs(bytes);
