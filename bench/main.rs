@@ -1,4 +1,5 @@
-//! Times the proved library beside its plain Rust twin, group by group. An argument names one group, one case or one row.
+//! Times the proved library beside the baseline, our algorithms in plain Rust, group by group. An argument names one group, one case or
+//! one row.
 
 mod cases;
 mod measure;

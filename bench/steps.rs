@@ -1,13 +1,13 @@
-//! Counts the steps of tables that each search of bench/searches.txt takes with memories of several sizes, in the plain twin.
+//! Counts the steps of tables that each search of bench/searches.txt takes with memories of several sizes, in the plain baseline.
 
+mod baseline;
 mod searches;
 mod text;
-mod twin;
 
+use baseline::{search_with, steps_taken};
 use searches::{searches, Long};
 use std::process::exit;
 use text::listed;
-use twin::{search_with, steps_taken};
 
 /// The slots of the memories. The last stand for an unbounded memory.
 const SLOTS: [usize; 6] = [0, 8, 64, 256, 1024, 65536];

@@ -2,10 +2,14 @@
 //! slot, byte and row afterwards. Beside it, what the reference says is held to the count over worlds.
 
 use crate::calls::{call, Call, Lent};
-use crate::due::{accepted, due, numbers_of, table_of, NUMBERS};
-use crate::plans::{refusal_text, run, run_text, text, Verdict};
-use crate::reference::{picture, start, Set, Sheet};
-use crate::sheets::{bad_table, good_table, rubbish, Random};
+use crate::cases::hexadecimal;
+use crate::due::{accepted, due, numbers_of, table_of, verdict_of, NUMBERS};
+use crate::exchanges;
+use crate::plans::{refusal_text, run, run_text, text};
+use crate::random::{bad_table, good_table, rubbish, Random};
+use crate::roles;
+use crate::sheet::{read, Set, Sheet};
+use crate::tables::{picture, start};
 use crate::worlds::{self, Checked};
 use std::collections::BTreeMap;
 
@@ -43,10 +47,6 @@ fn end_of(what: Call, info: &[u64]) -> &'static str {
         Call::Search(_) | Call::SearchWith(_) => [" reached", " full", " none"][info[1] as usize],
         _ => "",
     }
-}
-
-pub fn hexadecimal(bytes: &[u8]) -> String {
-    bytes.iter().map(|byte| format!("{byte:02x}")).collect::<Vec<_>>().join(" ")
 }
 
 /// A table that a call is given: its count and its entries as pairs of masks.
@@ -219,10 +219,17 @@ impl Comparer {
         }
     }
 
-    /// All calls on one sheet, over its own tables, those given, and `more` random ones.
-    pub fn sheet(&mut self, bytes: &[u8], tables: &[[u32; NUMBERS]], more: usize, budget: usize) {
+    /// The sheet judged: section by section and byte by byte alike, and by the library.
+    fn judged(&mut self, bytes: &[u8]) {
+        let (by_section, by_byte) = (read(bytes).map(drop), roles::judge(bytes));
+        self.count(by_section == by_byte, || format!("judged {by_section:?}, byte by byte {by_byte:?}\nsheet: {}", hexadecimal(bytes)));
         let lent = self.lent(None, 0, 0);
         self.one(bytes, Call::Judge, 0, lent);
+    }
+
+    /// All calls on one sheet, over its own tables, those given, and `more` random ones.
+    pub fn sheet(&mut self, bytes: &[u8], tables: &[[u32; NUMBERS]], more: usize, budget: usize) {
+        self.judged(bytes);
         let lent = self.lent(None, 0, 0);
         self.one(bytes, Call::Start, 0, lent);
         self.runs(bytes);
@@ -253,7 +260,7 @@ impl Comparer {
         if sheet.n <= 10 {
             self.checked(bytes, worlds::check_start(&sheet));
             self.checked(bytes, worlds::check_run(&sheet));
-            self.checked(bytes, worlds::check_exchange(&sheet));
+            self.checked(bytes, exchanges::check_moves(&sheet));
             for limit in [2, 4, 8] {
                 self.checked(bytes, worlds::check_search(&sheet, limit, budget.min(400)));
             }
@@ -270,6 +277,17 @@ impl Comparer {
         let accepted = due(bytes, Call::Start, 0, &mut first) == Some(0);
         if accepted {
             self.one(bytes, Call::Step(0), 0, first);
+        }
+    }
+
+    /// Exchanges on so many sheets whose moves share a lamp.
+    pub fn lamps(&mut self, count: usize) {
+        match exchanges::check_lamps(&mut self.random, count) {
+            Ok(tried) => {
+                println!("exchanges: {}", tried.words());
+                self.passed += tried.passed();
+            }
+            Err(wrong) => self.count(false, || wrong),
         }
     }
 
@@ -311,12 +329,7 @@ impl Comparer {
         if lent.rows[3 * places..] != kept[3 * places..] {
             return Some(String::from("a row past the last place was written\n"));
         }
-        let verdict = match info[1] {
-            0 => Verdict::Reached,
-            1 => Verdict::Short,
-            2 => Verdict::Stopped(info[2] as usize, info[3] as u8),
-            _ => Verdict::Full(info[2] as usize),
-        };
-        Some(run_text((0..places).map(|i| (lent.rows[3 * i], lent.rows[3 * i + 1], lent.rows[3 * i + 2])).collect(), verdict))
+        let rows = lent.rows.chunks_exact(3).take(places).map(|row| (row[0], row[1], row[2])).collect();
+        Some(run_text(rows, verdict_of(info)))
     }
 }

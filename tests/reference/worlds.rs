@@ -1,8 +1,9 @@
 //! A count over all worlds, for sheets of few propositions: "A world gives each proposition a value." Here a world is a number, bit p for
 //! proposition p. Nothing of the tables' working order is used: sets of worlds are compared with what the tables stand for.
 
-use crate::plans::{in_goal, run, search, Found, Verdict};
-use crate::reference::{masks, picture, start, step, Literal, Move, Set, Sheet};
+use crate::plans::{first_plan, in_goal, run, search, search_once, Found, Verdict};
+use crate::sheet::{masks, Literal, Move, Set, Sheet};
+use crate::tables::{picture, start, step};
 
 pub type World = u32;
 
@@ -26,7 +27,7 @@ pub fn starting(sheet: &Sheet) -> Vec<World> {
 
 /// "A move is defined in a world if its precondition holds and the results of all effects whose conditions hold there have no complementary
 /// pair. Then those results become true and the rest keeps its value." Otherwise 24 or 25.
-fn moved(m: &Move, world: World) -> Result<World, u8> {
+pub fn moved(m: &Move, world: World) -> Result<World, u8> {
     if !holds(world, &m.precondition) {
         return Err(24);
     }
@@ -146,6 +147,10 @@ pub fn check_run(sheet: &Sheet) -> Checked {
 /// The search: the first plan that brings every starting world to the goal, or none; a full plan only if none comes before it.
 pub fn check_search(sheet: &Sheet, limit: u64, budget: usize) -> Checked {
     let Some(Ok(answer)) = search(sheet, limit, budget) else { return Ok(0) };
+    let once = search_once(sheet, limit);
+    if once != Ok(answer.clone()) {
+        return Err(format!("search: {answer:?}, but {once:?} if no table is followed twice"));
+    }
     let mut plans = vec![(Vec::new(), starting(sheet))];
     let mut first = None;
     for length in 0..=limit {
@@ -164,37 +169,24 @@ pub fn check_search(sheet: &Sheet, limit: u64, budget: usize) -> Checked {
         }
         plans = longer;
     }
+    check_first(&answer, first)
+}
+
+/// The same over worlds of which no set is followed twice, for an answer to any limit.
+pub fn check_found(sheet: &Sheet, limit: u64, answer: &Found) -> Checked {
+    let next = |worlds: &Vec<World>, number: usize| image(&sheet.moves[number], worlds).ok();
+    let found = first_plan(sheet.moves.len(), limit, starting(sheet), next, |worlds| all_in_goal(sheet, worlds).then_some(()));
+    check_first(answer, found.map(|(plan, ())| plan))
+}
+
+/// The answer beside the first plan that brings every world to the goal.
+fn check_first(answer: &Found, first: Option<Vec<u8>>) -> Checked {
     match answer {
-        Found::Reached(plan) => same("search", Some(plan), first),
+        Found::Reached(plan) => same("search", Some(plan), first.as_ref()),
         Found::Nothing => same("search", None, first),
         Found::Full(plan, place) => {
-            same("place of a full plan", place, plan.len())?;
-            same("search full, though an earlier plan is reached", false, first.is_some_and(|f| (f.len(), &f) < (plan.len(), &plan)))
+            same("place of a full plan", *place, plan.len())?;
+            same("search full, though an earlier plan is reached", false, first.is_some_and(|f| (f.len(), &f) < (plan.len(), plan)))
         }
     }
-}
-
-/// Document 02, W2: "two moves touch if a result of one has its complement among the other's results, or if a proposition in a result of one
-/// is named in the other's precondition or conditions."
-fn touch(a: &Move, b: &Move) -> bool {
-    let results = |m: &Move| m.effects.iter().flat_map(|e| e.result.clone()).collect::<Vec<Literal>>();
-    let reads = |m: &Move, p: u8| m.precondition.iter().chain(m.effects.iter().flat_map(|e| &e.condition)).any(|x| x.proposition == p);
-    let (of_a, of_b) = (results(a), results(b));
-    of_a.iter().any(|x| of_b.contains(&x.complement()) || reads(b, x.proposition)) || of_b.iter().any(|x| reads(a, x.proposition))
-}
-
-/// What makes an exchange safe: two moves that do not touch take every world to the same world in either order, or to none in both.
-pub fn check_exchange(sheet: &Sheet) -> Checked {
-    let both = |first: &Move, second: &Move, w: World| moved(first, w).and_then(|v| moved(second, v)).ok();
-    let mut pairs = 0;
-    for (i, a) in sheet.moves.iter().enumerate() {
-        for (j, b) in sheet.moves[..i].iter().enumerate().filter(|(_, b)| !touch(a, b)) {
-            if let Some(w) = (0..1 << sheet.n).find(|w| both(a, b, *w) != both(b, a, *w)) {
-                let (there, back) = (both(a, b, w), both(b, a, w));
-                return Err(format!("moves {i} and {j} do not touch, but take world {w} to {there:?}, the other way round to {back:?}"));
-            }
-            pairs += 1;
-        }
-    }
-    Ok(pairs)
 }

@@ -1,7 +1,8 @@
 //! Random sheets, damaged ones, and random tables, all from one seed. Sheets at the limits of the format are in limits.rs.
 
 use crate::due::{numbers_of, NUMBERS};
-use crate::reference::{lies_in, set_of, Effect, Literal, Move, Set, Sheet, ENTRIES};
+use crate::sheet::{lies_in, set_of, Effect, Literal, Move, Set, Sheet};
+use crate::tables::ENTRIES;
 
 /// A xorshift generator: the same numbers for the same seed on every machine.
 pub struct Random(u64);

@@ -2,8 +2,8 @@
 //! 64 moves, 32 propositions, the longest sheet, splits into the most pieces.
 
 use crate::due::NUMBERS;
-use crate::reference::{set_of, Effect, Literal, Move, Set, Sheet};
-use crate::sheets::{encode, literal, literals, with_rubbish, Random};
+use crate::random::{encode, literal, literals, with_rubbish, Random};
+use crate::sheet::{set_of, Effect, Literal, Move, Set, Sheet};
 
 /// A sheet with tables to step and to picture.
 pub struct Case {

@@ -1,26 +1,27 @@
-//! The plain Rust twin of crate `unit`: its seven calls over the same slices, by plain algorithms on the same data layout, nothing proved.
-//! What the proved code hands on by value goes by reference here, and bounds checks are as the compiler leaves them. A crate of its own.
+//! The baseline, our algorithms in plain Rust: the seven calls of crate `unit` over the same slices, plainly, on the same data layout,
+//! nothing proved. What the proved code hands on by value goes by reference here, and bounds checks are as the compiler leaves them. A crate
+//! of its own.
 //! `--cfg blocks`: what the library does to be quick is done here too: a candidate is compared with four entries at a time, a piece with the
 //! newest before the others, the choices of a oneof go over the literals that the piece lacks, and 25 is asked once for a pair of effects.
 //! `--cfg counted`: the steps of tables are counted.
 
-#[path = "twin/calls.rs"]
+#[path = "baseline/calls.rs"]
 mod calls;
-#[path = "twin/lists.rs"]
+#[path = "baseline/lists.rs"]
 mod lists;
-#[path = "twin/masks.rs"]
+#[path = "baseline/masks.rs"]
 mod masks;
-#[path = "twin/memory.rs"]
+#[path = "baseline/memory.rs"]
 mod memory;
-#[path = "twin/picture.rs"]
+#[path = "baseline/picture.rs"]
 mod picture;
-#[path = "twin/plan.rs"]
+#[path = "baseline/plan.rs"]
 mod plan;
-#[path = "twin/sheet.rs"]
+#[path = "baseline/sheet.rs"]
 mod sheet;
-#[path = "twin/start.rs"]
+#[path = "baseline/start.rs"]
 mod start;
-#[path = "twin/step.rs"]
+#[path = "baseline/step.rs"]
 mod step;
 
 #[cfg(counted)]

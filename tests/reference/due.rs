@@ -1,9 +1,10 @@
-//! What each call of the C interface has to answer and to write, from reference.rs and plans.rs: the table as 257 numbers, the checks of a
-//! lent table and of lent lengths, and the order of the numbers.
+//! What each call of the C interface has to answer and to write, from sheet.rs, tables.rs and plans.rs: the table as 257 numbers, the checks
+//! of a lent table and of lent lengths, and the order of the numbers.
 
 use crate::calls::{Call, Lent};
 use crate::plans::{run, search, Found, Verdict};
-use crate::reference::{lies_in, masks, picture, picture_bytes, read, start, state, step, Fault, Literal, Set, Sheet, ENTRIES};
+use crate::sheet::{lies_in, masks, read, state, Fault, Literal, Set, Sheet};
+use crate::tables::{picture, picture_bytes, start, step, ENTRIES};
 
 pub const NUMBERS: usize = 1 + 2 * ENTRIES;
 
@@ -156,6 +157,16 @@ pub fn due(bytes: &[u8], call: Call, budget: usize, lent: &mut Lent) -> Option<u
     };
     lent.info[..4].copy_from_slice(&info);
     Some(number)
+}
+
+/// The verdict of a run, from numbers 1 to 3 of `info`.
+pub fn verdict_of(info: &[u64]) -> Verdict {
+    match info[1] {
+        0 => Verdict::Reached,
+        1 => Verdict::Short,
+        2 => Verdict::Stopped(info[2] as usize, info[3] as u8),
+        _ => Verdict::Full(info[2] as usize),
+    }
 }
 
 /// The sheet of bytes that are accepted.

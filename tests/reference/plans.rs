@@ -1,6 +1,9 @@
-//! Document 01 once more: the run, the search and the text of `check`, over reference.rs.
+//! Document 01 once more: the run, the search and the text of `check`, over tables.rs.
 
-use crate::reference::{picture, read, start, state, step, Fault, Set, Sheet};
+use crate::sheet::{read, state, Fault, Set, Sheet};
+use crate::tables::{picture, start, step};
+use std::collections::HashSet;
+use std::hash::Hash;
 
 #[derive(Clone, Copy, PartialEq, Eq, Debug)]
 pub enum Verdict {
@@ -88,6 +91,56 @@ pub fn search(sheet: &Sheet, limit: u64, mut budget: usize) -> Option<Result<Fou
     Some(Ok(Found::Nothing))
 }
 
+/// The first plan, "shorter first, then in ascending order of moves", for whose last state `done` has an answer. `step` gives the state
+/// after a move, None where a plan stops. A state that an earlier plan came to is not followed: what comes after it, the earlier plan brings
+/// about earlier.
+pub fn first_plan<S: Clone + Eq + Hash, A>(
+    moves: usize, limit: u64, first: S, step: impl Fn(&S, usize) -> Option<S>, done: impl Fn(&S) -> Option<A>,
+) -> Option<(Vec<u8>, A)> {
+    if let Some(answer) = done(&first) {
+        return Some((Vec::new(), answer));
+    }
+    let mut seen = HashSet::from([first.clone()]);
+    let mut plans = vec![(Vec::new(), first)];
+    for _ in 0..limit {
+        let mut longer = Vec::new();
+        for (plan, state) in &plans {
+            for number in 0..moves {
+                let Some(next) = step(state, number).filter(|next| seen.insert(next.clone())) else { continue };
+                let plan = [plan.as_slice(), &[number as u8]].concat();
+                if let Some(answer) = done(&next) {
+                    return Some((plan, answer));
+                }
+                longer.push((plan, next));
+            }
+        }
+        plans = longer;
+    }
+    None
+}
+
+/// The search once more, in which no table is followed twice; for limits that `search` takes too long to come to. A full table is None.
+pub fn search_once(sheet: &Sheet, limit: u64) -> Result<Found, Fault> {
+    if limit > 8 {
+        return Err(state(8));
+    }
+    let first = Some(start(sheet)?);
+    let next = |table: &Option<Vec<Set>>, number| match step(sheet, table.as_ref()?, number) {
+        Ok(table) => Some(Some(table)),
+        Err(Fault { number: 21, .. }) => Some(None),
+        Err(_) => None,
+    };
+    let done = |table: &Option<Vec<Set>>| match table {
+        Some(table) => in_goal(sheet, table).then_some(true),
+        None => Some(false),
+    };
+    Ok(match first_plan(sheet.moves.len(), limit, first, next, done) {
+        Some((plan, true)) => Found::Reached(plan),
+        Some((plan, false)) => Found::Full(plan.clone(), plan.len()),
+        None => Found::Nothing,
+    })
+}
+
 /// "Whole output (place, entries, clauses; then the verdict)", "A full picture prints `-` as clauses"; "the first 4,096 decide".
 pub fn text(bytes: &[u8]) -> String {
     match read(&bytes[..bytes.len().min(4096)]).and_then(|sheet| run(&sheet)) {
@@ -109,7 +162,11 @@ pub fn run_text(rows: Vec<(u64, u64, u64)>, verdict: Verdict) -> String {
         let clauses = if clauses == 257 { String::from("-") } else { clauses.to_string() };
         text += &format!("{place} {entries} {clauses}\n");
     }
-    text + &match verdict {
+    text + &verdict_text(verdict)
+}
+
+pub fn verdict_text(verdict: Verdict) -> String {
+    match verdict {
         Verdict::Reached => String::from("reached\n"),
         Verdict::Short => String::from("short\n"),
         Verdict::Stopped(place, number) => format!("stopped {number} at {place}\n"),
