@@ -136,9 +136,11 @@ run-worlds : (s : List ℕ) (x : Statement) → Says s x → RunWorlds s x
 unfolding verdictOf
 run-worlds s x says = record {
   reached = λ w st rows h f. runs.run-means s x says rows h f reached (λ k e. let z : _≡_ {A = ℕ} 0 1 = cc in omega arith) (λ m. (w, st));
-  short = λ rows h f. runs.run-means s x says rows h f short (λ k e. let z : _≡_ {A = ℕ} 0 1 = cc in omega arith) (λ m. let o = m .1 in (o .0, (o .1, o .2)));
+  short = λ rows h f. runs.run-means s x says rows h f short (λ k e. let z : _≡_ {A = ℕ} 0 1 = cc in omega arith)
+      (λ m. let o = m .1 in (o .0, (o .1, o .2)));
   stopped = λ rows h f k N.
-      runs.run-means s x says rows h f (stopped k N) (λ i e. let z : _≡_ {A = ℕ} 0 1 = cc in omega arith) (λ m. let o = m .lost in (o .0, (o .1, o .2)));
+      runs.run-means s x says rows h f (stopped k N) (λ i e. let z : _≡_ {A = ℕ} 0 1 = cc in omega arith)
+      (λ m. let o = m .lost in (o .0, (o .1, o .2)));
   takes-all = runs.run-takes s x says;
   worlds = runs.run-comes s x says;
 }
@@ -217,7 +219,8 @@ request-w2 = record {
   before = touching.touch-before;
   touching = touching.touching;
   fewer = commuting.touch-fewer;
-  lamp = λ f k a b lamp first rest h pa pb ra rb else. touching.exchange-swaps f k a b first rest h (touching.touch-lamp (f a) (f b) lamp pa pb ra rb else);
+  lamp = λ f k a b lamp first rest h pa pb ra rb else. touching.exchange-swaps f k a b first rest h
+      (touching.touch-lamp (f a) (f b) lamp pa pb ra rb else);
   commute = commuting.commute;
   exchange = demand-3;
 }

@@ -40,7 +40,8 @@ planned p plan (Outcome.table t) =
 
 unfoldable pub runOf : Judgement → ℕ → RunAnswer
 runOf (refused number position) rows = refusedRun number position
-runOf (accepted x) rows = cond (ltb rows mostPlaces) (refusedRun 23 0) (planned (x .problem) (x .plan) (startTable mostEntries (x .problem)))
+runOf (accepted x) rows = cond (ltb rows mostPlaces) (refusedRun 23 0)
+    (planned (x .problem) (x .plan) (startTable mostEntries (x .problem)))
 
 -- the rows to write, from the first on; the others are kept
 unfoldable pub plannedRows : Problem → List ℕ → Outcome → List Row

@@ -55,7 +55,8 @@ whenAccepted (Refused number position) t = none
 -- the table after some moves from the table t, by the call step
 abbrev pub stepped : List ℕ → List ℕ → Table → Option Table
 stepped s [] t = some t
-stepped s (index ∷ rest) t = andThen (whenAccepted (stepOf (sheetOf s) t index .answer) (stepOf (sheetOf s) t index .table)) (λ u. stepped s rest u)
+stepped s (index ∷ rest) t = andThen (whenAccepted (stepOf (sheetOf s) t index .answer) (stepOf (sheetOf s) t index .table))
+    (λ u. stepped s rest u)
 
 -- the table after some moves, by the calls start and step
 abbrev pub arrived : List ℕ → List ℕ → Option Table
@@ -77,7 +78,8 @@ abbrev pub clausesOr : Answer → ℕ → ℕ
 clausesOr Accepted clauses = clauses
 clausesOr (Refused number position) clauses = 257
 
--- "A run's final picture is what the picture call writes for the table that the run returns: the two bytes of count and the clauses, nothing
+-- "A run's final picture is what the picture call writes for the table that the run returns: the two bytes of count and the clauses,
+-- nothing
 -- after them": none if that call gives 21, or the run is refused (on an accepted sheet its table is then empty, and the call gives 22)
 unfoldable pub finalOf : List ℕ → ℕ → Option (List ℕ)
 finalOf s rows =

@@ -1,12 +1,16 @@
 -- The three demands, sentence by sentence, and after them the request W2 of document 02: statements only, over the calls' own definitions
--- (`judgeOf`, `startOf`, `stepOf`, `pictureOf`, `bufferOf`, `runOf`, `rowsAfter`, `searchOf` on what the bytes say, `sheetOf s`) and over worlds
--- (`Starting`, `stepWorld`, `runWorld`, `InGoal`); where document 01 states a working order, also over that (the form of a sheet, `growAll`,
+-- (`judgeOf`, `startOf`, `stepOf`, `pictureOf`, `bufferOf`, `runOf`, `rowsAfter`, `searchOf` on what the bytes say, `sheetOf s`) and over
+-- worlds
+-- (`Starting`, `stepWorld`, `runWorld`, `InGoal`); where document 01 states a working order, also over that (the form of a sheet,
+-- `growAll`,
 -- `putImages`, `picture`).
 -- A demand is a record; its fields are the sentences, put in groups, one record to a call, so that what a group speaks of is said once: the
--- bytes s, which say x (`Says s x`: they are accepted as the sheet of x), a table t, a move m, rows, a limit. These are any; a field says what
+-- bytes s, which say x (`Says s x`: they are accepted as the sheet of x), a table t, a move m, rows, a limit. These are any; a field says
+-- what
 -- else it takes. Proved in proofs/Demands.
 -- Words, in reading order: sheet/specs/Lists, Literals, Problem, Form, Format, Encoding, Calls, Faults; table/specs/Worlds, Minimal, Slots,
--- Start, Step, Picture, Prime, Calls, PictureCalls, CallWords; beside this page Run, Search, Cases, Calls, Meaning, Order, Exchange, Demand3,
+-- Start, Step, Picture, Prime, Calls, PictureCalls, CallWords; beside this page Run, Search, Cases, Calls, Meaning, Order, Exchange,
+-- Demand3,
 -- DemandWords.
 -- The program `check` prints what `report` writes (specs/Text), by the same run; of it the page has only the output that document 01 shows.
 use mathlib.Core.Path.{_≡_}
@@ -71,7 +75,8 @@ pub record JudgeDemand (s : List ℕ) : Type 0 where
   pub accepted : (judgeOf s ≡ Accepted) ↔ ((x : Statement) × ProperStatement x × (s ≡ encode x))
   -- and then they say that statement
   pub says : (x : Statement) → Says s x ↔ (ProperStatement x × (s ≡ encode x))
-  -- "with the number of its first fault": else refused with the number and position of the first place where the rule of what is due is broken
+  -- "with the number of its first fault": else refused with the number and position of the first place where the rule of what is due is
+  -- broken
   pub refused : (number position : ℕ) → (judgeOf s ≡ Refused number position) ↔ FirstFault s number position
   -- no other number than these seven
   pub numbers : (number position : ℕ) → judgeOf s ≡ Refused number position → (1 ≤ number) × (number ≤ 7)
@@ -82,7 +87,8 @@ pub record JudgeDemand (s : List ℕ) : Type 0 where
   pub on-2 : (p : ℕ) → (judgeOf s ≡ Refused 2 p)
       ↔ ((low : ℕ) × (high : ℕ) × (b : ℕ) × ByteDue s p (countFault low high) b × ((b < low) ⊎ (high < b)))
   -- "3 literal of 2n or more"
-  pub on-3 : (p : ℕ) → (judgeOf s ≡ Refused 3 p) ↔ ((n : ℕ) × (last : Option ℕ) × (b : ℕ) × ByteDue s p (literalFault n last) b × (2 * n ≤ b))
+  pub on-3 : (p : ℕ) → (judgeOf s ≡ Refused 3 p)
+      ↔ ((n : ℕ) × (last : Option ℕ) × (b : ℕ) × ByteDue s p (literalFault n last) b × (2 * n ≤ b))
   -- "4 literal not above the one before"; "3 before 4 before 5"
   pub on-4 : (p : ℕ) → (judgeOf s ≡ Refused 4 p)
       ↔ ((n : ℕ) × (l : ℕ) × (b : ℕ) × ByteDue s p (literalFault n (some l)) b × (b < 2 * n) × (b ≤ l))
@@ -115,15 +121,19 @@ pub record StartDemand (s : List ℕ) (x : Statement) : Type 0 where
   pub on-21 : (startOf (sheetOf s) .answer ≡ Refused 21 0) ↔ StartStops (x .problem) none
   -- accepted under neither, with the table as built
   pub accepted : (startOf (sheetOf s) .answer ≡ Accepted)
-      ↔ ((t : List Literals) × (growAll 128 (startClauses (x .problem)) (x .problem .known ∷ []) ≡ table t) × (startOf (sheetOf s) .table ≡ tableOf t))
+      ↔ ((t : List Literals) × (growAll 128 (startClauses (x .problem)) (x .problem .known ∷ []) ≡ table t)
+      × (startOf (sheetOf s) .table ≡ tableOf t))
   -- no other answer than these three
-  pub numbers : (startOf (sheetOf s) .answer ≡ Accepted) ⊎ ((startOf (sheetOf s) .answer ≡ Refused 20 0) ⊎ (startOf (sheetOf s) .answer ≡ Refused 21 0))
+  pub numbers : (startOf (sheetOf s) .answer ≡ Accepted) ⊎
+      ((startOf (sheetOf s) .answer ≡ Refused 20 0) ⊎ (startOf (sheetOf s) .answer ≡ Refused 21 0))
   -- "20 no starting world"
   pub no-world : startOf (sheetOf s) .answer ≡ Refused 20 0 → (w : ℕ) → Starts (x .problem) w → ⊥
   -- and without one the start is refused
-  pub worldless : ((w : ℕ) → Starts (x .problem) w → ⊥) → (startOf (sheetOf s) .answer ≡ Refused 20 0) ⊎ (startOf (sheetOf s) .answer ≡ Refused 21 0)
+  pub worldless : ((w : ℕ) → Starts (x .problem) w → ⊥) → (startOf (sheetOf s) .answer ≡ Refused 20 0)
+      ⊎ (startOf (sheetOf s) .answer ≡ Refused 21 0)
   -- what an accepted start returns is a table as described, unused slots zero
-  pub returned : startOf (sheetOf s) .answer ≡ Accepted → AsDescribed x (startOf (sheetOf s) .table) × ZeroAfter (startOf (sheetOf s) .table)
+  pub returned : startOf (sheetOf s) .answer ≡ Accepted → AsDescribed x (startOf (sheetOf s) .table)
+      × ZeroAfter (startOf (sheetOf s) .table)
 
 -- ---- step, of the table t by the move m: the numbers in this order, accepted under none of them
 pub record StepDemand (s : List ℕ) (x : Statement) (t : Table) (index : ℕ) : Type 0 where
@@ -134,7 +144,8 @@ pub record StepDemand (s : List ℕ) (x : Statement) (t : Table) (index : ℕ) :
   -- "24 precondition not sure"
   pub on-24 : (stepOf (sheetOf s) t index .answer ≡ Refused 24 0) ↔ (OnSheet x index × AsDescribed x t × Unsure x t index)
   -- "25 contradictory results"
-  pub on-25 : (stepOf (sheetOf s) t index .answer ≡ Refused 25 0) ↔ (OnSheet x index × AsDescribed x t × (Unsure x t index → ⊥) × Contradictory x t index)
+  pub on-25 : (stepOf (sheetOf s) t index .answer ≡ Refused 25 0)
+      ↔ (OnSheet x index × AsDescribed x t × (Unsure x t index → ⊥) × Contradictory x t index)
   -- "21 table … full"; "A contradiction anywhere is reported before a full table"
   pub on-21 : (stepOf (sheetOf s) t index .answer ≡ Refused 21 0)
       ↔ (OnSheet x index × AsDescribed x t × (Unsure x t index → ⊥) × (Contradictory x t index → ⊥) × (putImages x t index ≡ none))
@@ -143,9 +154,11 @@ pub record StepDemand (s : List ℕ) (x : Statement) (t : Table) (index : ℕ) :
       ↔ (OnSheet x index × AsDescribed x t × (Unsure x t index → ⊥) × (Contradictory x t index → ⊥)
       × ((u : List Literals) × (putImages x t index ≡ some u) × (stepOf (sheetOf s) t index .table ≡ tableOf u)))
   -- no other number than these five, each at position 0
-  pub numbers : (number position : ℕ) → stepOf (sheetOf s) t index .answer ≡ Refused number position → (position ≡ 0) × ((number ≡ 7) ⊎ ((number ≡ 22) ⊎ ((number ≡ 24) ⊎ ((number ≡ 25) ⊎ (number ≡ 21)))))
+  pub numbers : (number position : ℕ) → stepOf (sheetOf s) t index .answer ≡ Refused number position → (position ≡ 0)
+      × ((number ≡ 7) ⊎ ((number ≡ 22) ⊎ ((number ≡ 24) ⊎ ((number ≡ 25) ⊎ (number ≡ 21)))))
   -- what an accepted step returns is a table as described, unused slots zero
-  pub returned : stepOf (sheetOf s) t index .answer ≡ Accepted → AsDescribed x (stepOf (sheetOf s) t index .table) × ZeroAfter (stepOf (sheetOf s) t index .table)
+  pub returned : stepOf (sheetOf s) t index .answer ≡ Accepted → AsDescribed x (stepOf (sheetOf s) t index .table)
+      × ZeroAfter (stepOf (sheetOf s) t index .table)
 
 -- ---- picture, of the table t into a buffer of len bytes: the numbers in this order, accepted under none of them
 pub record PictureDemand (s : List ℕ) (x : Statement) (t : Table) : Type 0 where
@@ -159,9 +172,11 @@ pub record PictureDemand (s : List ℕ) (x : Statement) (t : Table) : Type 0 whe
   -- "it gives the clause count"; the buffer has the picture's bytes, "later bytes of the buffer are kept"
   pub accepted : (buffer : List ℕ) → (pictureOf (sheetOf s) t (length buffer) .answer ≡ Accepted)
       ↔ (AsDescribed x t × ((c : List Literals) × (picture (entries t) ≡ some c) × (2 + 8 * length c ≤ length buffer)
-      × (pictureOf (sheetOf s) t (length buffer) .clauses ≡ length c) × (bufferOf (sheetOf s) t buffer ≡ pictureBytes c ++ drop (2 + 8 * length c) buffer)))
+      × (pictureOf (sheetOf s) t (length buffer) .clauses ≡ length c)
+      × (bufferOf (sheetOf s) t buffer ≡ pictureBytes c ++ drop (2 + 8 * length c) buffer)))
   -- no other number than these three, each at position 0
-  pub numbers : (len number position : ℕ) → pictureOf (sheetOf s) t len .answer ≡ Refused number position → (position ≡ 0) × ((number ≡ 22) ⊎ ((number ≡ 21) ⊎ (number ≡ 23)))
+  pub numbers : (len number position : ℕ) → pictureOf (sheetOf s) t len .answer ≡ Refused number position → (position ≡ 0)
+      × ((number ≡ 22) ⊎ ((number ≡ 21) ⊎ (number ≡ 23)))
   -- "The picture is the table's set of prime implicates", "sorted by first then second mask", "at most 256 clauses"
   pub primes : AsDescribed x t → (c : List Literals) → picture (entries t) ≡ some c
       → Ascending c × (length c ≤ 256) × Exactly (x .problem .n) (In (x .problem .n) (entries t)) c
@@ -171,7 +186,8 @@ pub record RunDemand (s : List ℕ) (x : Statement) : Type 0 where
   -- "23 for rows"
   pub on-23 : (rows : ℕ) → (runOf (sheetOf s) rows .verdict ≡ ran.Refused 23 0) ↔ (rows < 65)
   -- "a start's 20 or 21 refuses the run …"; else it is not refused
-  pub start : (rows : ℕ) → 65 ≤ rows → (number position : ℕ) → (runOf (sheetOf s) rows .verdict ≡ ran.Refused number position) ↔ (startOf (sheetOf s) .answer ≡ Refused number position)
+  pub start : (rows : ℕ) → 65 ≤ rows → (number position : ℕ) → (runOf (sheetOf s) rows .verdict ≡ ran.Refused number position)
+      ↔ (startOf (sheetOf s) .answer ≡ Refused number position)
   -- "A run starts, then steps the plan": reached if every world of the last table is in the goal
   pub reached : (rows : ℕ) → 65 ≤ rows → (runOf (sheetOf s) rows .verdict ≡ ran.Reached)
       ↔ ((u : Table) × (arrived s (x .plan) ≡ some u) × ((w : ℕ) → WorldOf x u w → InGoal (x .problem .n) (x .problem .goal) w))
@@ -179,36 +195,49 @@ pub record RunDemand (s : List ℕ) (x : Statement) : Type 0 where
   pub short : (rows : ℕ) → 65 ≤ rows → (runOf (sheetOf s) rows .verdict ≡ ran.Short)
       ↔ ((u : Table) × (arrived s (x .plan) ≡ some u) × ((w : ℕ) × WorldOf x u w × (InGoal (x .problem .n) (x .problem .goal) w → ⊥)))
   -- "stopped (place, and 24 or 25)"
-  pub stopped : (rows : ℕ) → 65 ≤ rows → (k N : ℕ) → (runOf (sheetOf s) rows .verdict ≡ ran.Stopped k N) ↔ (StepRefused s (x .plan) k N × ((N ≡ 24) ⊎ (N ≡ 25)))
+  pub stopped : (rows : ℕ) → 65 ≤ rows → (k N : ℕ) → (runOf (sheetOf s) rows .verdict ≡ ran.Stopped k N)
+      ↔ (StepRefused s (x .plan) k N × ((N ≡ 24) ⊎ (N ≡ 25)))
   -- "full (place)"
   pub full : (rows : ℕ) → 65 ≤ rows → (k : ℕ) → (runOf (sheetOf s) rows .verdict ≡ ran.Full k) ↔ StepRefused s (x .plan) k 21
   -- "It returns the last table it had"
   pub last : (rows : ℕ) → runRefused (runOf (sheetOf s) rows) ≡ false → arrived s (taken s x rows) ≡ some (runOf (sheetOf s) rows .table)
   -- which is as described, unused slots zero
-  pub returned : (rows : ℕ) → runRefused (runOf (sheetOf s) rows) ≡ false → AsDescribed x (runOf (sheetOf s) rows .table) × ZeroAfter (runOf (sheetOf s) rows .table)
+  pub returned : (rows : ℕ) → runRefused (runOf (sheetOf s) rows) ≡ false → AsDescribed x (runOf (sheetOf s) rows .table)
+      × ZeroAfter (runOf (sheetOf s) rows .table)
   -- "rows of places arrived at are written", "each of three numbers: place, entries, picture clauses (257 if that picture is full)"
-  pub row : (rows : List Row) → runRefused (runOf (sheetOf s) (length rows)) ≡ false → (i : ℕ) → i ≤ length (taken s x (length rows)) → (d : Row)
+  pub row : (rows : List Row) → runRefused (runOf (sheetOf s) (length rows)) ≡ false → (i : ℕ) → i ≤ length (taken s x (length rows))
+      → (d : Row)
       → (u : Table) × (arrived s (take i (x .plan)) ≡ some u)
       × (getD (rowsAfter (sheetOf s) rows) i d
-      ≡ record { place = i; entries = u .count; clauses = clausesOr (pictureOf (sheetOf s) u 2050 .answer) (pictureOf (sheetOf s) u 2050 .clauses) })
+      ≡ record {
+        place = i;
+        entries = u .count;
+        clauses = clausesOr (pictureOf (sheetOf s) u 2050 .answer)
+            (pictureOf (sheetOf s) u 2050 .clauses);
+      })
   -- "the rest kept"
-  pub rest : (rows : List Row) (i : ℕ) → length (taken s x (length rows)) < i → (d : Row) → getD (rowsAfter (sheetOf s) rows) i d ≡ getD rows i d
+  pub rest : (rows : List Row) (i : ℕ) → length (taken s x (length rows)) < i → (d : Row)
+      → getD (rowsAfter (sheetOf s) rows) i d ≡ getD rows i d
 
 -- ---- search, its numbers; what it finds is in demand 2. `search_with` promises the same `searchOf`, whatever memory it is lent
 pub record SearchDemand (s : List ℕ) (x : Statement) : Type 0 where
   -- "8 search limit above 8 (position 0)"
   pub on-8 : (limit : ℕ) → (searchOf (sheetOf s) limit .kind ≡ kind.Refused 8 0) ↔ (8 < limit)
   -- "a start's 20 or 21 refuses the … search"; else it is not refused
-  pub start : (limit : ℕ) → limit ≤ 8 → (number position : ℕ) → (searchOf (sheetOf s) limit .kind ≡ kind.Refused number position) ↔ (startOf (sheetOf s) .answer ≡ Refused number position)
+  pub start : (limit : ℕ) → limit ≤ 8 → (number position : ℕ) → (searchOf (sheetOf s) limit .kind ≡ kind.Refused number position)
+      ↔ (startOf (sheetOf s) .answer ≡ Refused number position)
 
 -- ---- what comes back, whatever the bytes s are
 pub record BackDemand (s : List ℕ) : Type 0 where
   -- "a refused start … returns a table with count 0 and all slots zero"
-  pub refused-start : (number position : ℕ) → startOf (sheetOf s) .answer ≡ Refused number position → startOf (sheetOf s) .table ≡ tableOf []
+  pub refused-start : (number position : ℕ) → startOf (sheetOf s) .answer ≡ Refused number position
+      → startOf (sheetOf s) .table ≡ tableOf []
   -- "A refused step returns the given table"
-  pub refused-step : (t : Table) (index number position : ℕ) → stepOf (sheetOf s) t index .answer ≡ Refused number position → stepOf (sheetOf s) t index .table ≡ t
+  pub refused-step : (t : Table) (index number position : ℕ) → stepOf (sheetOf s) t index .answer ≡ Refused number position
+      → stepOf (sheetOf s) t index .table ≡ t
   -- "it gives the clause count, 0 if refused"; "every lent byte … untouched"
-  pub refused-picture : (t : Table) (buffer : List ℕ) (number position : ℕ) → pictureOf (sheetOf s) t (length buffer) .answer ≡ Refused number position
+  pub refused-picture : (t : Table) (buffer : List ℕ) (number position : ℕ)
+      → pictureOf (sheetOf s) t (length buffer) .answer ≡ Refused number position
       → (pictureOf (sheetOf s) t (length buffer) .clauses ≡ 0) × (bufferOf (sheetOf s) t buffer ≡ buffer)
   -- "a refused … run returns a table with count 0 and all slots zero"; "every lent … row untouched"
   pub refused-run : (rows : List Row) (number position : ℕ) → runOf (sheetOf s) (length rows) .verdict ≡ ran.Refused number position
@@ -226,7 +255,8 @@ pub record BackDemand (s : List ℕ) : Type 0 where
   pub unread : (t u : Table) → entries t ≡ entries u
       → ((index : ℕ) → (stepOf (sheetOf s) t index .answer ≡ stepOf (sheetOf s) u index .answer)
       × (stepOf (sheetOf s) t index .answer ≡ Accepted → stepOf (sheetOf s) t index .table ≡ stepOf (sheetOf s) u index .table))
-      × ((len : ℕ) → pictureOf (sheetOf s) t len ≡ pictureOf (sheetOf s) u len) × ((buffer : List ℕ) → bufferOf (sheetOf s) t buffer ≡ bufferOf (sheetOf s) u buffer)
+      × ((len : ℕ) → pictureOf (sheetOf s) t len ≡ pictureOf (sheetOf s) u len)
+      × ((buffer : List ℕ) → bufferOf (sheetOf s) t buffer ≡ bufferOf (sheetOf s) u buffer)
 
 pub record Demand1 : Type 0 where
   pub masks : MaskDemand
@@ -241,7 +271,8 @@ pub record Demand1 : Type 0 where
   -- "Whole output" of the program `check` for the sheet that document 01 prints
   pub output : outputOf (sheetOf printed) ≡ ascii "place entries clauses\n0 3 4\n1 2 3\n2 1 3\nreached\n"
 
--- ==== Demand 2: "A move turns a table into one for exactly the worlds got by stepping each world alone, as To, Son and Pontelli define it, and
+-- ==== Demand 2: "A move turns a table into one for exactly the worlds got by stepping each world alone, as To, Son and Pontelli define it,
+-- and
 -- is undefined exactly when some world can't take it; else it fails only where the new table fills. On a sheet with a starting world, a run
 -- that fills no table is "reached" exactly when every starting world takes every move and ends in the goal. The search gives the first
 -- shortest such run, or "none" exactly when there is none within its limit, unless an earlier run fills the table, which it names. … the
@@ -265,14 +296,17 @@ pub record PaperDemand : Type 0 where
 pub record TableWorlds (s : List ℕ) (x : Statement) : Type 0 where
   -- "A move turns a table into one for exactly the worlds got by stepping each world alone"
   pub step : (t : Table) (index : ℕ) → stepOf (sheetOf s) t index .answer ≡ Accepted → (v : ℕ)
-      → WorldOf x (stepOf (sheetOf s) t index .table) v ↔ ((w : ℕ) × WorldOf x t w × (stepWorld (x .problem .n) (actionAt (x .problem) index) w ≡ some v))
+      → WorldOf x (stepOf (sheetOf s) t index .table) v
+      ↔ ((w : ℕ) × WorldOf x t w × (stepWorld (x .problem .n) (actionAt (x .problem) index) w ≡ some v))
   -- "and is undefined exactly when some world can't take it"
   pub step-undefined : (t : Table) (index : ℕ) → OnSheet x index → AsDescribed x t
       → ((stepOf (sheetOf s) t index .answer ≡ Refused 24 0) ⊎ (stepOf (sheetOf s) t index .answer ≡ Refused 25 0)) ↔ Untaken x t index
   -- "else it fails only where the new table fills"
   pub step-else : (t : Table) (index : ℕ) → OnSheet x index → AsDescribed x t → (Untaken x t index → ⊥)
-      → (stepOf (sheetOf s) t index .answer ≡ Accepted) ⊎ ((stepOf (sheetOf s) t index .answer ≡ Refused 21 0) × (putImages x t index ≡ none))
-  -- for tables: the new entries are min of the images of the pieces, as in source 001, Definition 4; but the pieces are document 01's, without
+      → (stepOf (sheetOf s) t index .answer ≡ Accepted) ⊎
+      ((stepOf (sheetOf s) t index .answer ≡ Refused 21 0) × (putImages x t index ≡ none))
+  -- for tables: the new entries are min of the images of the pieces, as in source 001, Definition 4; but the pieces are document 01's,
+  -- without
   -- the min that 001 takes between conditions
   pub step-least : (t : Table) (index : ℕ) → stepOf (sheetOf s) t index .answer ≡ Accepted → (d : Literals)
       → List·Memᴰ d (entries (stepOf (sheetOf s) t index .table)) ↔ Least (images x t index) d
@@ -289,10 +323,12 @@ pub record RunWorlds (s : List ℕ) (x : Statement) : Type 0 where
   -- short exactly when each takes every move and some ends outside
   pub short : (rows : ℕ) → 65 ≤ rows → runFull (runOf (sheetOf s) rows) ≡ false → let p = x .problem in
       (runOf (sheetOf s) rows .verdict ≡ ran.Short)
-      ↔ (Every (p .n) (Starting p) Ends (actionsOf p (x .plan)) × Some (p .n) (Starting p) (Outside (p .n) (p .goal)) (actionsOf p (x .plan)))
+      ↔ (Every (p .n) (Starting p) Ends (actionsOf p (x .plan))
+      × Some (p .n) (Starting p) (Outside (p .n) (p .goal)) (actionsOf p (x .plan)))
   -- stopped exactly at the first move that some world cannot take, by 24 where one then lacks the precondition, else 25
   pub stopped : (rows : ℕ) → 65 ≤ rows → runFull (runOf (sheetOf s) rows) ≡ false
-      → (k N : ℕ) → (runOf (sheetOf s) rows .verdict ≡ ran.Stopped k N) ↔ StopsAt (x .problem .n) (Starting (x .problem)) (actionsOf (x .problem) (x .plan)) k N
+      → (k N : ℕ) → (runOf (sheetOf s) rows .verdict ≡ ran.Stopped k N)
+      ↔ StopsAt (x .problem .n) (Starting (x .problem)) (actionsOf (x .problem) (x .plan)) k N
   -- "which steps every world through all of them": whatever the verdict, every starting world takes the moves taken
   pub takes-all : (rows : ℕ) → runRefused (runOf (sheetOf s) rows) ≡ false
       → Every (x .problem .n) (Starting (x .problem)) Ends (actionsOf (x .problem) (taken s x rows))
@@ -306,27 +342,36 @@ pub record SearchFinds (s : List ℕ) (x : Statement) : Type 0 where
   pub carried : (q : List ℕ) → PlanOf (length (x .problem .actions)) 64 q
       → Says (encode (record { problem = x .problem; plan = q })) (record { problem = x .problem; plan = q })
   -- "the sheet's plan is ignored"
-  pub plan-ignored : (r : List ℕ) (y : Statement) → SamePlanSheet s r x y → (limit : ℕ) → searchOf (sheetOf r) limit ≡ searchOf (sheetOf s) limit
+  pub plan-ignored : (r : List ℕ) (y : Statement) → SamePlanSheet s r x y → (limit : ℕ)
+      → searchOf (sheetOf r) limit ≡ searchOf (sheetOf s) limit
   -- "The search gives the first shortest such run"
   pub reached : (limit : ℕ) → limit ≤ 8 → (q : List ℕ)
-      → ((searchOf (sheetOf s) limit .kind ≡ kind.Reached) × (planFound (searchOf (sheetOf s) limit) ≡ q)) ↔ FirstRun (x .problem) limit q ran.Reached
+      → ((searchOf (sheetOf s) limit .kind ≡ kind.Reached) × (planFound (searchOf (sheetOf s) limit) ≡ q))
+      ↔ FirstRun (x .problem) limit q ran.Reached
   -- "or "none" exactly when there is none within its limit"
   pub nothing : (limit : ℕ) → limit ≤ 8
-      → (searchOf (sheetOf s) limit .kind ≡ kind.Nothing) ↔ ((q : List ℕ) → PlanOf (length (x .problem .actions)) limit q → Misses (runWith (x .problem) q .verdict))
+      → (searchOf (sheetOf s) limit .kind ≡ kind.Nothing)
+      ↔ ((q : List ℕ) → PlanOf (length (x .problem .actions)) limit q → Misses (runWith (x .problem) q .verdict))
   -- "unless an earlier run fills the table, which it names": with its place
   pub full : (limit : ℕ) → limit ≤ 8 → (q : List ℕ) (k : ℕ)
-      → ((searchOf (sheetOf s) limit .kind ≡ kind.Full k) × (planFound (searchOf (sheetOf s) limit) ≡ q)) ↔ FirstRun (x .problem) limit q (ran.Full k)
+      → ((searchOf (sheetOf s) limit .kind ≡ kind.Full k) × (planFound (searchOf (sheetOf s) limit) ≡ q))
+      ↔ FirstRun (x .problem) limit q (ran.Full k)
   -- which is the length of its plan
-  pub full-at-end : (limit : ℕ) → limit ≤ 8 → (k : ℕ) → searchOf (sheetOf s) limit .kind ≡ kind.Full k → k ≡ searchOf (sheetOf s) limit .length
-  -- the same by worlds: the plan found is the first within the limit that takes every starting world to the goal; each earlier one fails for
+  pub full-at-end : (limit : ℕ) → limit ≤ 8 → (k : ℕ) → searchOf (sheetOf s) limit .kind ≡ kind.Full k
+      → k ≡ searchOf (sheetOf s) limit .length
+  -- the same by worlds: the plan found is the first within the limit that takes every starting world to the goal; each earlier one fails
+  -- for
   -- some; there is a starting world, and no run up to that plan is full
   pub reached-worlds : (limit : ℕ) → limit ≤ 8 → (q : List ℕ)
       → ((searchOf (sheetOf s) limit .kind ≡ kind.Reached) × (planFound (searchOf (sheetOf s) limit) ≡ q))
-      ↔ (((w : ℕ) × Starts (x .problem) w) × PlanOf (length (x .problem .actions)) limit q × (runFull (runWith (x .problem) q) ≡ false) × Solves (x .problem) q
-      × ((r : List ℕ) → PlanOf (length (x .problem .actions)) limit r → Earlier r q → (runFull (runWith (x .problem) r) ≡ false) × Spoiled (x .problem) r))
+      ↔ (((w : ℕ) × Starts (x .problem) w) × PlanOf (length (x .problem .actions)) limit q × (runFull (runWith (x .problem) q) ≡ false)
+      × Solves (x .problem) q
+      × ((r : List ℕ) → PlanOf (length (x .problem .actions)) limit r → Earlier r q → (runFull (runWith (x .problem) r) ≡ false)
+      × Spoiled (x .problem) r))
   -- every plan before one that is full fails for some starting world
   pub full-worlds : (limit : ℕ) → limit ≤ 8 → (k : ℕ) → searchOf (sheetOf s) limit .kind ≡ kind.Full k
-      → (r : List ℕ) → PlanOf (length (x .problem .actions)) limit r → Earlier r (planFound (searchOf (sheetOf s) limit)) → Spoiled (x .problem) r
+      → (r : List ℕ) → PlanOf (length (x .problem .actions)) limit r → Earlier r (planFound (searchOf (sheetOf s) limit))
+      → Spoiled (x .problem) r
   -- none exactly if every plan within the limit fails for some starting world, and no run is full
   pub nothing-worlds : (limit : ℕ) → limit ≤ 8
       → (searchOf (sheetOf s) limit .kind ≡ kind.Nothing)
@@ -338,16 +383,22 @@ pub record Demand2 : Type 0 where
   pub runs : (s : List ℕ) (x : Statement) → Says s x → RunWorlds s x
   pub searches : (s : List ℕ) (x : Statement) → Says s x → SearchFinds s x
 
--- ==== Demand 3: "Take any sheet with a starting world, any plan on it, and any list of exchanges of neighbouring moves, each made in the plan
--- that the one before left, and changing nothing where the two touch. Whatever the plans between meet, if neither the first plan's run nor the
--- last one's is full, both are reached, both short or both stopped, place and number aside. Unless stopped, their final pictures, if neither
--- is full, are the same byte for byte. And for every two plans on that sheet, however their runs end, final pictures that aren't full are the
--- same byte for byte exactly when two sets of worlds are the same: what its starting worlds become, each stepped alone through the moves that
+-- ==== Demand 3: "Take any sheet with a starting world, any plan on it, and any list of exchanges of neighbouring moves, each made in the
+-- plan
+-- that the one before left, and changing nothing where the two touch. Whatever the plans between meet, if neither the first plan's run nor
+-- the
+-- last one's is full, both are reached, both short or both stopped, place and number aside. Unless stopped, their final pictures, if
+-- neither
+-- is full, are the same byte for byte. And for every two plans on that sheet, however their runs end, final pictures that aren't full are
+-- the
+-- same byte for byte exactly when two sets of worlds are the same: what its starting worlds become, each stepped alone through the moves
+-- that
 -- one run took, and through those that the other took."
 
 -- ---- touching moves and exchanges, for any moves f by their numbers
 pub record ExchangeDemand (f : ℕ → Action) : Type 0 where
-  -- document 02, W2, in the place of document 01's wording: "two moves touch if a result of one has its complement among the other's results,
+  -- document 02, W2, in the place of document 01's wording: "two moves touch if a result of one has its complement among the other's
+  -- results,
   -- or if a proposition in a result of one is named in the other's precondition or conditions"
   pub touching : (a b : Action) → (touch a b ≡ true) ↔ ((q : ℕ) × TouchesAt a b q)
   -- "An exchange is a number k from 1. It swaps moves k and k + 1 of the plan it gets"
@@ -366,7 +417,8 @@ pub record ExchangeDemand (f : ℕ → Action) : Type 0 where
 -- ---- the run and the final picture of one plan
 pub record FinalDemand (s : List ℕ) (x : Statement) : Type 0 where
   -- what exchanges leave of a sheet's plan is again a plan on that sheet
-  pub exchanged : (ks : List ℕ) → (r : List ℕ) × (y : Statement) × SamePlanSheet s r x y × (y .plan ≡ exchanges (actionAt (x .problem)) ks (x .plan))
+  pub exchanged : (ks : List ℕ) → (r : List ℕ) × (y : Statement) × SamePlanSheet s r x y
+      × (y .plan ≡ exchanges (actionAt (x .problem)) ks (x .plan))
   -- "It is full if that call gives 21. A refused run has none": else there is a final picture
   pub no-picture : (rows : ℕ) → (finalOf s rows ≡ none)
       ↔ ((runRefused (runOf (sheetOf s) rows) ≡ true) ⊎ (pictureOf (sheetOf s) (runOf (sheetOf s) rows .table) 2050 .answer ≡ Refused 21 0))
@@ -376,14 +428,17 @@ pub record FinalDemand (s : List ℕ) (x : Statement) : Type 0 where
 
 -- ---- two plans on one sheet
 pub record TwoPlans (s₁ s₂ : List ℕ) (x y : Statement) : Type 0 where
-  -- "Take any sheet with a starting world, any plan on it, and any list of exchanges …. Whatever the plans between meet, if neither the first
+  -- "Take any sheet with a starting world, any plan on it, and any list of exchanges …. Whatever the plans between meet, if neither the
+  -- first
   -- plan's run nor the last one's is full, both are reached, both short or both stopped, place and number aside."
   pub class : (w : ℕ) → Starts (x .problem) w → (ks : List ℕ) → y .plan ≡ exchanges (actionAt (x .problem)) ks (x .plan)
-      → (rows₁ rows₂ : ℕ) → 65 ≤ rows₁ → 65 ≤ rows₂ → runFull (runOf (sheetOf s₁) rows₁) ≡ false → runFull (runOf (sheetOf s₂) rows₂) ≡ false
+      → (rows₁ rows₂ : ℕ) → 65 ≤ rows₁ → 65 ≤ rows₂ → runFull (runOf (sheetOf s₁) rows₁) ≡ false
+      → runFull (runOf (sheetOf s₂) rows₂) ≡ false
       → (c : Class) × (classOf (runOf (sheetOf s₁) rows₁ .verdict) ≡ some c) × (classOf (runOf (sheetOf s₂) rows₂ .verdict) ≡ some c)
   -- "Unless stopped, their final pictures, if neither is full, are the same byte for byte."
   pub exchange-pictures : (w : ℕ) → Starts (x .problem) w → (ks : List ℕ) → y .plan ≡ exchanges (actionAt (x .problem)) ks (x .plan)
-      → (rows₁ rows₂ : ℕ) → 65 ≤ rows₁ → 65 ≤ rows₂ → runFull (runOf (sheetOf s₁) rows₁) ≡ false → runFull (runOf (sheetOf s₂) rows₂) ≡ false
+      → (rows₁ rows₂ : ℕ) → 65 ≤ rows₁ → 65 ≤ rows₂ → runFull (runOf (sheetOf s₁) rows₁) ≡ false
+      → runFull (runOf (sheetOf s₂) rows₂) ≡ false
       → (classOf (runOf (sheetOf s₁) rows₁ .verdict) ≡ some Class.isStopped → ⊥)
       → (b₁ b₂ : List ℕ) → finalOf s₁ rows₁ ≡ some b₁ → finalOf s₂ rows₂ ≡ some b₂ → b₁ ≡ b₂
   -- "And for every two plans on that sheet, however their runs end, final pictures that aren't full are the same byte for byte exactly when
@@ -430,7 +485,8 @@ pub record RequestW2 : Type 0 where
   pub fewer : (a b : Action) → touchAnywhere a b ≡ false → touch a b ≡ false
   -- "Two moves that both put the lamp out, don't read it and touch in nothing else may be exchanged."
   pub lamp : (f : ℕ → Action) (k a b lamp : ℕ) (first rest : List ℕ) → k ≡ length first + 1
-      → PutsOut (f a) lamp → PutsOut (f b) lamp → (ReadIn (f a) lamp → ⊥) → (ReadIn (f b) lamp → ⊥) → ((q : ℕ) → TouchesAt (f a) (f b) q → q ≡ lamp)
+      → PutsOut (f a) lamp → PutsOut (f b) lamp → (ReadIn (f a) lamp → ⊥) → (ReadIn (f b) lamp → ⊥)
+      → ((q : ℕ) → TouchesAt (f a) (f b) q → q ≡ lamp)
       → exchanges f (k ∷ []) (first ++ (a ∷ b ∷ rest)) ≡ first ++ (b ∷ a ∷ rest)
   -- what does not touch may be taken in either order: in every world both come to the same world, or both to none
   pub commute : (n : ℕ) (a b : Action) → ProperAction n a → ProperAction n b → touch a b ≡ false → (w : ℕ) → w < 2 ^ n

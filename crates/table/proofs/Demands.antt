@@ -32,22 +32,49 @@ use Rattle.table.proofs.laws.steps.StepWorlds as stepping
 use Rattle.table.proofs.laws.starts.StartWorlds as starting
 use Rattle.table.proofs.laws.slots.DescribedTables as describing
 use Rattle.table.proofs.laws.steps.OpposedPairs as pairs
-pub use Rattle.table.proofs.laws.answers.StartStepAnswers.{start-fault, start-number, start-accepted, start-back, step-fault, step-7, step-22, step-number, step-accepted, step-back}
-pub use Rattle.table.proofs.laws.answers.PictureAnswers.{picture-fault, picture-22, picture-21, picture-23, picture-accepted, picture-back}
-pub use Rattle.table.proofs.laws.pictures.PictureWorlds.{union-primes, picture-primes, picture-ascending, picture-worlds, prime-unique, bytes-worlds}
+pub use Rattle.table.proofs.laws.answers.StartStepAnswers.{
+  start-fault,
+  start-number,
+  start-accepted,
+  start-back,
+  step-fault,
+  step-7,
+  step-22,
+  step-number,
+  step-accepted,
+  step-back,
+}
+pub use Rattle.table.proofs.laws.answers.PictureAnswers.{
+  picture-fault,
+  picture-22,
+  picture-21,
+  picture-23,
+  picture-accepted,
+  picture-back,
+}
+pub use Rattle.table.proofs.laws.pictures.PictureWorlds.{
+  union-primes,
+  picture-primes,
+  picture-ascending,
+  picture-worlds,
+  prime-unique,
+  bytes-worlds,
+}
 
 -- ---- a table is as described exactly if its test passes
 pub described-iff : (cap n : ℕ) (t : List Literals) → (described cap n t ≡ true) ↔ Described cap n t
 described-iff = describing.described-iff
 
 -- ---- putting a candidate keeps the worlds, the antichain, and proper entries
-pub put-worlds : (n w cap : ℕ) (t : List Literals) (c : Literals) (u : List Literals) → put cap t c ≡ some u → In n u w ↔ (In n t w ⊎ T (within c (state n w)))
+pub put-worlds : (n w cap : ℕ) (t : List Literals) (c : Literals) (u : List Literals) → put cap t c ≡ some u → In n u w
+    ↔ (In n t w ⊎ T (within c (state n w)))
 put-worlds n w cap t c u h = (putting.put-out n w cap t c u h, putting.put-in n w cap t c u h)
 
 pub put-antichain : (cap : ℕ) (t : List Literals) (c : Literals) (u : List Literals) → put cap t c ≡ some u → Antichain t → Antichain u
 put-antichain = putting.put-antichain
 
-pub put-proper : (n cap : ℕ) (t : List Literals) (c : Literals) (u : List Literals) → put cap t c ≡ some u → All (Proper n) t → Proper n c → All (Proper n) u
+pub put-proper : (n cap : ℕ) (t : List Literals) (c : Literals) (u : List Literals) → put cap t c ≡ some u → All (Proper n) t → Proper n c
+    → All (Proper n) u
 put-proper n = putting.put-all (Proper n)
 
 -- ---- TH2: the start
@@ -71,7 +98,8 @@ pub start-first : (cap : ℕ) (p : Problem)
     × ((startTable cap p ≡ refused 21) ↔ Stops cap none (startClauses p) (p .known ∷ []))
 start-first cap p = (starting.first-20 cap p, starting.first-21 cap p)
 
-pub start-kind : (cap : ℕ) (p : Problem) → (startTable cap p ≡ refused 20) ⊎ ((startTable cap p ≡ refused 21) ⊎ ((t : List Literals) × (startTable cap p ≡ table t)))
+pub start-kind : (cap : ℕ) (p : Problem) → (startTable cap p ≡ refused 20)
+    ⊎ ((startTable cap p ≡ refused 21) ⊎ ((t : List Literals) × (startTable cap p ≡ table t)))
 start-kind = starting.start-kind
 
 -- ---- TH3: the step
@@ -89,7 +117,10 @@ module _ (n : ℕ) (hn : n ≤ 32) (a : Action) (ha : ProperAction n a) (t : Lis
   -- a table is as described, and its worlds are exactly what the worlds of t come to
   pub step-table : (u : List Literals) → stepTable cap a t ≡ table u
       → Described cap n u × ((v : ℕ) → v < 2 ^ n → In n u v ↔ ((w : ℕ) × (In n t w × ((w < 2 ^ n) × (stepWorld n a w ≡ some v)))))
-  step-table u e = (stepping.step-described n hn a ha t (ht .proper) cap u e (ht .least), stepping.step-worlds n hn a ha t (ht .proper) cap u e)
+  step-table u e = (
+    stepping.step-described n hn a ha t (ht .proper) cap u e (ht .least),
+    stepping.step-worlds n hn a ha t (ht .proper) cap u e,
+  )
 
   -- 21 exactly if neither condition holds and the images in working order do not fit
   pub step-21 : (stepTable cap a t ≡ refused 21)
@@ -100,10 +131,12 @@ module _ (n : ℕ) (hn : n ≤ 32) (a : Action) (ha : ProperAction n a) (t : Lis
   step-21 = stepping.step-21 n hn a ha t (ht .proper) cap
 
   -- undefined exactly if some world cannot take the move
-  pub step-undefined : ((stepTable cap a t ≡ refused 24) ⊎ (stepTable cap a t ≡ refused 25)) ↔ ((w : ℕ) × (In n t w × ((w < 2 ^ n) × (stepWorld n a w ≡ none))))
+  pub step-undefined : ((stepTable cap a t ≡ refused 24) ⊎ (stepTable cap a t ≡ refused 25))
+      ↔ ((w : ℕ) × (In n t w × ((w < 2 ^ n) × (stepWorld n a w ≡ none))))
   step-undefined = stepping.step-undefined n hn a ha t (ht .proper) cap
 
-  pub step-kind : (stepTable cap a t ≡ refused 24) ⊎ ((stepTable cap a t ≡ refused 25) ⊎ ((stepTable cap a t ≡ refused 21) ⊎ ((u : List Literals) × (stepTable cap a t ≡ table u))))
+  pub step-kind : (stepTable cap a t ≡ refused 24) ⊎
+      ((stepTable cap a t ≡ refused 25) ⊎ ((stepTable cap a t ≡ refused 21) ⊎ ((u : List Literals) × (stepTable cap a t ≡ table u))))
   step-kind = stepping.step-kind n hn a ha t (ht .proper) cap
 
 -- ---- contradictory results, found by pairs of effects
@@ -129,7 +162,10 @@ last-none t c = scan.last-none (λ e. within e c) t
 
 -- a candidate is dropped exactly if the test finds an entry
 pub dropped-found : (cap : ℕ) (t : List Literals) (c : Literals) → (fateOf cap t c ≡ Dropped) ↔ ((i : ℕ) × (lastWithin t c ≡ At i))
-dropped-found cap t c = (λ e. scan.some-found (λ e. within e c) t (slots.dropped-within cap t c e), λ h. slots.fate-dropped cap t c (found t c (h .0) (h .1)))
+dropped-found cap t c = (
+  λ e. scan.some-found (λ e. within e c) t (slots.dropped-within cap t c e),
+  λ h. slots.fate-dropped cap t c (found t c (h .0) (h .1)),
+)
 
 pub request-w3 : (t : List Literals) (c : Literals) → RequestW3 t c
 request-w3 t c = record {

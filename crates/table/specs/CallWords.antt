@@ -46,7 +46,8 @@ Unsure x t index = (w : ℕ) × WorldOf x t w × T (not (within (actionAt (x .pr
 
 -- the results of a move contradict in some world of the table
 abbrev pub Contradictory : Statement → Table → ℕ → Type 0
-Contradictory x t index = (w : ℕ) × WorldOf x t w × T (not (consistent (results (actionAt (x .problem) index .effects) (state (x .problem .n) w))))
+Contradictory x t index = (w : ℕ) × WorldOf x t w × T
+    (not (consistent (results (actionAt (x .problem) index .effects) (state (x .problem .n) w))))
 
 -- some world of the table cannot take a move
 abbrev pub Untaken : Statement → Table → ℕ → Type 0

@@ -16,7 +16,8 @@ use Rattle.table.specs.declared.slots.Fate.the-variants.{Dropped}
 use Rattle.table.specs.Minimal.{put}
 use Rattle.table.specs.Fates.{lastWithin, left, fateOf}
 
--- ---- W3: "a candidate is tested against the table from the last entry to the first, and this test gets a promise of its own": `last_within`
+-- ---- W3: "a candidate is tested against the table from the last entry to the first, and this test gets a promise of its own":
+-- `last_within`
 -- answers `lastWithin t c`. Any list t and any candidate c: t may be empty, longer than a table, and its entries may lie in each other.
 pub record RequestW3 (t : List Literals) (c : Literals) : Type 0 where
   -- "the last entry whose literals all lie in the candidate": the entry at i lies in it, none after it does

@@ -25,7 +25,8 @@ splitBy false c d = join d c ∷ map (λ l. join d (flip (literal l))) (missing 
 unfoldable pub split : Literals → Literals → List Literals
 split c d = splitBy (within c d || clash c d) c d
 
--- the pieces of d by the conditions of the effects in order, as document 01 splits them: pieces of a piece come before the next piece. (exp of
+-- the pieces of d by the conditions of the effects in order, as document 01 splits them: pieces of a piece come before the next piece. (exp
+-- of
 -- 001 takes min after each condition too, and so can have fewer.)
 abbrev pub pieces : List Effect → Literals → List Literals
 pieces [] d = d ∷ []

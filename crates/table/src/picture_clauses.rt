@@ -143,7 +143,10 @@ pub(crate) fn join_lists<'a, 'b, 'c>(
     let mut filled: usize = 0;
     let mut i: usize = 0;
     while i < count {
-        let clause = Literals {trues: trues[i], falses: falses[i],};
+        let clause = Literals {
+            trues: trues[i],
+            falses: falses[i],
+        };
         let Grown::To(grown) = distribute(
             clause,
             other_trues,

@@ -46,7 +46,8 @@ table-kept xs h =
     joined n = ap (λ (r : List ℕ). take 128 (drop n xs) ++ r) (sym (drop-drop 128 n xs)) ∙ take-append-drop 128 (drop n xs)
 
 -- a refused step leaves every number
-pub step-kept : (s xs : List ℕ) (m number position : ℕ) → tableNumbers ≤ length xs → stepOf (sheetOf s) (tableIn xs) m .answer ≡ Refused number position
+pub step-kept : (s xs : List ℕ) (m number position : ℕ) → tableNumbers ≤ length xs
+    → stepOf (sheetOf s) (tableIn xs) m .answer ≡ Refused number position
     → tableOut (stepOf (sheetOf s) (tableIn xs) m .table) xs ≡ xs
 step-kept s xs m number position h e = ap (λ (t : Table). tableOut t xs) (step-back s (tableIn xs) m number position e) ∙ table-kept xs h
 
@@ -61,15 +62,17 @@ pub start-zeros : (s xs : List ℕ) (number position : ℕ) → startOf (sheetOf
 start-zeros s xs number position e = ap (λ (t : Table). tableOut t xs) (start-back s number position e) ∙ no-table xs
 
 -- a refused run gives them too
-module _ (s rows : List ℕ) (number position : ℕ) (refused : runOf (sheetOf s) (length rows / 3) .verdict ≡ ran.Refused number position) where
-  pub run-zeros : (xs : List ℕ) → tableOut (runTable s rows) xs ≡ replicate tableNumbers 0 ++ drop tableNumbers xs
-  unfolding runTable
-  run-zeros xs = ap (λ (t : Table). tableOut t xs) (run-back s (length rows / 3) number position refused) ∙ no-table xs
+module _ (s rows : List ℕ) (number position : ℕ) (refused : runOf (sheetOf s) (length rows / 3) .verdict ≡ ran.Refused number position)
+  where
+    pub run-zeros : (xs : List ℕ) → tableOut (runTable s rows) xs ≡ replicate tableNumbers 0 ++ drop tableNumbers xs
+    unfolding runTable
+    run-zeros xs = ap (λ (t : Table). tableOut t xs) (run-back s (length rows / 3) number position refused) ∙ no-table xs
 
-  -- and keeps the rows
-  pub run-rows-kept : rowsOut s rows ≡ rows
-  unfolding rowsOut rowsWith
-  run-rows-kept = ap (λ (r : List Row). collect rowNumbers r ++ drop (3 * length r) rows) (run-none (sheetOf s) (length rows / 3) number position refused .1)
+    -- and keeps the rows
+    pub run-rows-kept : rowsOut s rows ≡ rows
+    unfolding rowsOut rowsWith
+    run-rows-kept = ap (λ (r : List Row). collect rowNumbers r ++ drop (3 * length r) rows)
+        (run-none (sheetOf s) (length rows / 3) number position refused .1)
 
 -- ---- a refused search gives eight zeros for its plan
 pub search-zeros : (s xs : List ℕ) (limit number position : ℕ) → searchOf (sheetOf s) limit .kind ≡ kind.Refused number position

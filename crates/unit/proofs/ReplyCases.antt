@@ -58,21 +58,26 @@ judge-told s a t e q = q ∙ ap (λ (x : Answer). answerReply x 0) e
 answer-told : (r u : TableAnswer) (a : Answer) (t : Reply) → r ≡ u → a ≡ r .answer → t ≡ answerReply a 0 → t ≡ answerReply (u .answer) 0
 answer-told r u a t e q h = h ∙ ap (λ (x : Answer). answerReply x 0) (q ∙ ap (λ (x : TableAnswer). x .answer) e)
 
-pub start-told : (s : List ℕ) (r : TableAnswer) (a : Answer) (t : Reply) → r ≡ startOf (sheetOf s) → a ≡ r .answer → t ≡ answerReply a 0 → t ≡ startReply s
+pub start-told : (s : List ℕ) (r : TableAnswer) (a : Answer) (t : Reply) → r ≡ startOf (sheetOf s) → a ≡ r .answer → t ≡ answerReply a 0
+    → t ≡ startReply s
 unfolding startReply
 start-told s r a t e q h = answer-told r (startOf (sheetOf s)) a t e q h
 
-pub step-told : (s xs : List ℕ) (m : ℕ) (r : TableAnswer) (a : Answer) (t : Reply) → r ≡ stepOf (sheetOf s) (tableIn xs) m → a ≡ r .answer → t ≡ answerReply a 0
+pub step-told : (s xs : List ℕ) (m : ℕ) (r : TableAnswer) (a : Answer) (t : Reply) → r ≡ stepOf (sheetOf s) (tableIn xs) m → a ≡ r .answer
+    → t ≡ answerReply a 0
     → t ≡ stepReply s xs m
 unfolding stepReply
 step-told s xs m r a t e q h = answer-told r (stepOf (sheetOf s) (tableIn xs) m) a t e q h
 
-pub picture-told : (s xs : List ℕ) (n : ℕ) (g : Table) (r : PictureAnswer) (t : Reply) → g ≡ tableIn xs → r ≡ pictureOf (sheetOf s) g n → t ≡ answerReply (r .answer) (r .clauses)
+pub picture-told : (s xs : List ℕ) (n : ℕ) (g : Table) (r : PictureAnswer) (t : Reply) → g ≡ tableIn xs → r ≡ pictureOf (sheetOf s) g n
+    → t ≡ answerReply (r .answer) (r .clauses)
     → t ≡ pictureReply s xs n
 unfolding pictureReply
-picture-told s xs n g r t e q h = h ∙ ap (λ (x : PictureAnswer). answerReply (x .answer) (x .clauses)) (q ∙ ap (λ (x : Table). pictureOf (sheetOf s) x n) e)
+picture-told s xs n g r t e q h = h ∙ ap (λ (x : PictureAnswer). answerReply (x .answer) (x .clauses))
+    (q ∙ ap (λ (x : Table). pictureOf (sheetOf s) x n) e)
 
-pub run-told : (s rows : List ℕ) (r : Course) (t : Reply) → r ≡ courseOf (sheetOf s) (length rows / 3) → t ≡ verdictReply (r .ran .verdict) → t ≡ runReply s rows
+pub run-told : (s rows : List ℕ) (r : Course) (t : Reply) → r ≡ courseOf (sheetOf s) (length rows / 3) → t ≡ verdictReply (r .ran .verdict)
+    → t ≡ runReply s rows
 unfolding runReply courseOf
 run-told s rows r t e q = q ∙ ap (λ (x : Course). verdictReply (x .ran .verdict)) e
 
@@ -82,7 +87,8 @@ unfolding runTable courseOf
 run-table s rows r e = ap (λ (x : Course). x .ran .table) e
 
 -- ---- the numbers of a table, once the slices are long enough
-pub tables : {b : Bool} (enough : b ≡ false) (t u : Table) (xs after : List ℕ) → t ≡ u → after ≡ tableOut t xs → after ≡ cond b xs (tableOut u xs)
+pub tables : {b : Bool} (enough : b ≡ false) (t u : Table) (xs after : List ℕ) → t ≡ u → after ≡ tableOut t xs
+    → after ≡ cond b xs (tableOut u xs)
 tables enough t u xs after same e = second xs (tableOut u xs) after enough (e ∙ ap (λ (x : Table). tableOut x xs) same)
 
 -- ---- what a search leaves, once the slices are long enough
@@ -94,9 +100,11 @@ module _ {b : Bool} (enough : b ≡ false) (s : List ℕ) (limit : ℕ) (r : Sea
   pub search-byte : (answer : ℕ) → answer ≡ kindReply (r .kind) (r .length) .answer → answer ≡ cond b 255 (searchReply s limit .answer)
   search-byte answer e = second 255 (searchReply s limit .answer) answer enough (e ∙ ap (λ (x : Reply). x .answer) told-is)
 
-  pub search-plan : (plan after : List ℕ) → after ≡ r .plan ++ drop 8 plan → after ≡ cond b plan (searchOf (sheetOf s) limit .plan ++ drop 8 plan)
+  pub search-plan : (plan after : List ℕ) → after ≡ r .plan ++ drop 8 plan
+      → after ≡ cond b plan (searchOf (sheetOf s) limit .plan ++ drop 8 plan)
   search-plan plan after e =
       second plan (searchOf (sheetOf s) limit .plan ++ drop 8 plan) after enough (e ∙ ap (λ (x : SearchAnswer). x .plan ++ drop 8 plan) is)
 
-  pub search-info : (info after : List ℕ) → after ≡ infoOf (kindReply (r .kind) (r .length)) info → after ≡ cond b info (infoOf (searchReply s limit) info)
+  pub search-info : (info after : List ℕ) → after ≡ infoOf (kindReply (r .kind) (r .length)) info
+      → after ≡ cond b info (infoOf (searchReply s limit) info)
   search-info info after e = numbers enough (kindReply (r .kind) (r .length)) (searchReply s limit) told-is info after e

@@ -58,7 +58,8 @@ rowed-next c b i rows h lt =
           ∙ sets-eq vs rows (3 * i) (omega (arith, h .fits, h .long))
           ∙ ap (λ (z : List ℕ). take (3 * i) z ++ vs ++ drop (3 * i + 3) z) (h .is)
           ∙ ap₂ (λ (x y : List ℕ). x ++ vs ++ y) (take-at p (drop (3 * i) b) (3 * i) l)
-          (ap (λ (k : ℕ). drop (k + 3) (p ++ drop (3 * i) b)) (sym l) ∙ drop-append-add p (drop (3 * i) b) 3 ∙ drop-drop 3 (3 * i) b ∙ ap (λ (k : ℕ). drop k b) at)
+          (ap (λ (k : ℕ). drop (k + 3) (p ++ drop (3 * i) b)) (sym l) ∙ drop-append-add p (drop (3 * i) b) 3 ∙ drop-drop 3 (3 * i) b
+          ∙ ap (λ (k : ℕ). drop k b) at)
           ∙ ap (λ (x : List ℕ). x ++ drop (3 * (i + 1)) b) (sym (ap (numbers c) (add-one i) ∙ more c i));
     }
 
@@ -66,9 +67,11 @@ rowed-next c b i rows h lt =
 pub rowed-step : (c : Counts) (b : List ℕ) (i : ℕ) (rows : List ℕ) → Rowed c b i rows → i < c .count → {row : Row} → row ≡ rowAt c i
     → Rowed c b (i + 1) (set (set (set rows (3 * i) (row .place)) (3 * i + 1) (row .entries)) (3 * i + 2) (row .clauses))
 rowed-step c b i rows h lt e =
-    subst (λ (x : Row). Rowed c b (i + 1) (set (set (set rows (3 * i) (x .place)) (3 * i + 1) (x .entries)) (3 * i + 2) (x .clauses))) (sym e) (rowed-next c b i rows h lt)
+    subst (λ (x : Row). Rowed c b (i + 1) (set (set (set rows (3 * i) (x .place)) (3 * i + 1) (x .entries)) (3 * i + 2) (x .clauses)))
+    (sym e) (rowed-next c b i rows h lt)
 
-pub rowed-end : (c : Counts) (b : List ℕ) (i : ℕ) (rows : List ℕ) → Rowed c b i rows → c .count ≤ i → rows ≡ collect rowNumbers (rowsIn c) ++ drop (3 * c .count) b
+pub rowed-end : (c : Counts) (b : List ℕ) (i : ℕ) (rows : List ℕ) → Rowed c b i rows → c .count ≤ i → rows ≡ collect rowNumbers (rowsIn c)
+    ++ drop (3 * c .count) b
 rowed-end c b i rows h past = let same : i ≡ c .count = omega (arith, h .upto) in h .is ∙ ap (λ (k : ℕ). numbers c k ++ drop (3 * k) b) same
 
 -- ---- the rows of a run
@@ -79,7 +82,8 @@ module _ (s rows : List ℕ) (r : Course) (is : r ≡ courseOf (sheetOf s) (leng
       let p = rows-placed s (length rows / 3) in
       subst (λ (x : Course). (x .counts .count ≤ 65) × (3 * x .counts .count ≤ length rows)) (sym is) (p .most, omega (arith, p .lent))
 
-  pub rows-out : (after : List ℕ) → after ≡ collect rowNumbers (rowsIn (r .counts)) ++ drop (3 * r .counts .count) rows → after ≡ rowsOut s rows
+  pub rows-out : (after : List ℕ) → after ≡ collect rowNumbers (rowsIn (r .counts)) ++ drop (3 * r .counts .count) rows
+      → after ≡ rowsOut s rows
   unfolding courseOf countsOf rowsOut rowsWith
   rows-out after e =
       let p = rows-placed s (length rows / 3) in

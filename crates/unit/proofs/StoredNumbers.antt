@@ -28,7 +28,8 @@ info-stores t info h = sets-eq (t .position ∷ t .kind ∷ t .place ∷ t .deta
 
 -- ---- copies
 -- a copy to the front
-pub front-step : (d s : List ℕ) (i : ℕ) (e : List ℕ) → Copied d 0 s i e → length s ≤ length d → i < length s → Copied d 0 s (i + 1) (set e i (getD s i 0))
+pub front-step : (d s : List ℕ) (i : ℕ) (e : List ℕ) → Copied d 0 s i e → length s ≤ length d → i < length s
+    → Copied d 0 s (i + 1) (set e i (getD s i 0))
 front-step d s i e h fits lt =
     rw (zero-add i) at (copied-step d 0 s i e h (omega arith) lt)
 
@@ -49,7 +50,8 @@ two-copies d s t at h =
     let m = length s in
     let n = length t in
     let p = paste d at s m in
-    ap₂ (λ (x y : List ℕ). x ++ y ++ drop (at + m + n) p) (take-paste d at s m (omega arith) (le-refl m) ∙ ap (λ (x : List ℕ). take at d ++ x) (take-length s)) (take-length t)
+    ap₂ (λ (x y : List ℕ). x ++ y ++ drop (at + m + n) p)
+    (take-paste d at s m (omega arith) (le-refl m) ∙ ap (λ (x : List ℕ). take at d ++ x) (take-length s)) (take-length t)
     ∙ ap (λ (x : List ℕ). take at d ++ s ++ t ++ x)
     (sym (drop-drop n (at + m) p) ∙ ap (drop n) (drop-paste d at s m (omega arith) (le-refl m)) ∙ drop-drop n (at + m) d)
 
@@ -59,7 +61,8 @@ first-set (y ∷ ys) x h = refl
 
 -- the numbers of a table
 pub table-stores : (t : Table) (xs one two : List ℕ) → tableNumbers ≤ length xs → length (t .trues) ≡ 128 → length (t .falses) ≡ 128
-    → one ≡ paste (set xs 0 (t .count)) 1 (t .trues) (length (t .trues)) → two ≡ paste one 129 (t .falses) (length (t .falses)) → two ≡ tableOut t xs
+    → one ≡ paste (set xs 0 (t .count)) 1 (t .trues) (length (t .trues)) → two ≡ paste one 129 (t .falses) (length (t .falses))
+    → two ≡ tableOut t xs
 unfolding tableOut
 table-stores t xs one two h p q e f =
     let d = set xs 0 (t .count) in
@@ -69,7 +72,8 @@ table-stores t xs one two h p q e f =
     f ∙ ap₂ (λ (y : List ℕ) (k : ℕ). paste y k (t .falses) (length (t .falses))) e at
     ∙ two-copies d (t .trues) (t .falses) 1 (omega (arith, l, h, end))
     ∙ ap (λ (k : ℕ). take 1 d ++ t .trues ++ t .falses ++ drop k d) end
-    ∙ ap₂ (λ (x y : List ℕ). x ++ t .trues ++ t .falses ++ y) (first-set xs (t .count) (omega (arith, h))) (drop-set-lt tableNumbers xs 0 (t .count) (omega arith))
+    ∙ ap₂ (λ (x y : List ℕ). x ++ t .trues ++ t .falses ++ y) (first-set xs (t .count) (omega (arith, h)))
+    (drop-set-lt tableNumbers xs 0 (t .count) (omega arith))
     ∙ ap (λ (x : List ℕ). t .count ∷ x) (append-assoc (t .trues) (t .falses) (drop tableNumbers xs))
 
 -- a table that is read and written back
@@ -83,11 +87,13 @@ table-back (x ∷ ys) h =
     (sym (take-append-drop 128 (drop 128 ys)) ∙ ap (λ (r : List ℕ). take 128 (drop 128 ys) ++ r) (drop-drop 128 128 ys)))
 
 -- the step of the table in some numbers
-pub numbers-step : (s xs : List ℕ) (m k : ℕ) (r : Stepped) (us gs : List ℕ) → k ≡ getD xs 0 0 → let t = lent k (take 128 (drop 1 xs)) (take 128 (drop 129 xs)) in
+pub numbers-step : (s xs : List ℕ) (m k : ℕ) (r : Stepped) (us gs : List ℕ) → k ≡ getD xs 0 0
+    → let t = lent k (take 128 (drop 1 xs)) (take 128 (drop 129 xs)) in
     stepAnswer t r us gs ≡ stepOf (sheetOf s) t m → stepAnswer (tableIn xs) r us gs ≡ stepOf (sheetOf s) (tableIn xs) m
 unfolding tableIn
 numbers-step s xs m k r us gs e q =
-    subst (λ (j : ℕ). stepAnswer (lent j (take 128 (drop 1 xs)) (take 128 (drop 129 xs))) r us gs ≡ stepOf (sheetOf s) (lent j (take 128 (drop 1 xs)) (take 128 (drop 129 xs))) m) e q
+    subst (λ (j : ℕ). stepAnswer (lent j (take 128 (drop 1 xs)) (take 128 (drop 129 xs))) r us gs
+    ≡ stepOf (sheetOf s) (lent j (take 128 (drop 1 xs)) (take 128 (drop 129 xs))) m) e q
 
 -- ---- what a start or a step gave, f of it: it is known to be x
 module _ {A : Type 0} (f : A → TableAnswer) {r x : A} (e : r ≡ x) where

@@ -61,7 +61,8 @@ unfolding stepTable
 small-step a t = small-sure (allOf (λ d. within (a .precondition) d) t) (a .effects) t
 
 -- ---- the last table of a run
-small-or : (o : Outcome) (t : List Literals) (f : List Literals → List Literals) → Small o → length t ≤ 128 → ((u : List Literals) → length u ≤ 128 → length (f u) ≤ 128)
+small-or : (o : Outcome) (t : List Literals) (f : List Literals → List Literals) → Small o → length t ≤ 128
+    → ((u : List Literals) → length u ≤ 128 → length (f u) ≤ 128)
     → length (tableOr o t f) ≤ 128
 small-or (refused number) t f s h k = h
 small-or (table u) t f s h k = k u s
@@ -82,7 +83,8 @@ start-fits s r e = subst (λ (x : TableAnswer). x .table .count < 2 ^ 32) (sym e
   where
     go : (j : Judgement) → sheetOf s ≡ j → startOf j .table .count < 2 ^ 32
     go (faulty k p) q = omega arith
-    go (accepted x) q = fits-given (tableOf []) (startTable 128 (x .problem)) (small-start (x .problem) (statement-proper s x q .problem) (startTable 128 (x .problem)) refl) (omega arith)
+    go (accepted x) q = fits-given (tableOf []) (startTable 128 (x .problem))
+        (small-start (x .problem) (statement-proper s x q .problem) (startTable 128 (x .problem)) refl) (omega arith)
 
 fits-known : (b : Bool) (a : Action) (t : Table) → t .count < 2 ^ 32 → stepKnown b a t .table .count < 2 ^ 32
 fits-known false a t h = h
@@ -98,7 +100,8 @@ fits-step (faulty k p) t m h = h
 fits-step (accepted x) t m h = fits-move (ltb m (length (x .problem .actions))) (x .problem .n) (actionAt (x .problem) m) t h
 
 -- the table that a step gave, in arrays
-pub step-fits : (s xs : List ℕ) (m : ℕ) (r : Stepped) (us gs : List ℕ) → getD xs 0 0 < 2 ^ 32 → stepAnswer (tableIn xs) r us gs ≡ stepOf (sheetOf s) (tableIn xs) m
+pub step-fits : (s xs : List ℕ) (m : ℕ) (r : Stepped) (us gs : List ℕ) → getD xs 0 0 < 2 ^ 32
+    → stepAnswer (tableIn xs) r us gs ≡ stepOf (sheetOf s) (tableIn xs) m
     → stepAnswer (tableIn xs) r us gs .table .count < 2 ^ 32
 unfolding tableIn
 step-fits s xs m r us gs h q = subst (λ (x : TableAnswer). x .table .count < 2 ^ 32) (sym q) (fits-step (sheetOf s) (tableIn xs) m h)
@@ -112,9 +115,11 @@ pub run-fits : (s : List ℕ) (lent : ℕ) (r : Course) → r ≡ courseOf (shee
 unfolding courseOf runOf refusedRun tableOf
 run-fits s lent r e = subst (λ (x : Course). x .ran .table .count < 2 ^ 32) (sym e) (go (sheetOf s) refl)
   where
-    enough : (b : Bool) (x : Statement) → sheetOf s ≡ accepted x → cond b (refusedRun 23 0) (planned (x .problem) (x .plan) (startTable 128 (x .problem))) .table .count < 2 ^ 32
+    enough : (b : Bool) (x : Statement) → sheetOf s ≡ accepted x
+        → cond b (refusedRun 23 0) (planned (x .problem) (x .plan) (startTable 128 (x .problem))) .table .count < 2 ^ 32
     enough true x q = omega arith
-    enough false x q = fits-planned (x .problem) (x .plan) (startTable 128 (x .problem)) (small-start (x .problem) (statement-proper s x q .problem) (startTable 128 (x .problem)) refl)
+    enough false x q = fits-planned (x .problem) (x .plan) (startTable 128 (x .problem))
+        (small-start (x .problem) (statement-proper s x q .problem) (startTable 128 (x .problem)) refl)
 
     go : (j : Judgement) → sheetOf s ≡ j → runOf j lent .table .count < 2 ^ 32
     go (faulty k p) q = omega arith

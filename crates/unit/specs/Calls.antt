@@ -27,7 +27,8 @@ stepReply s table number = answerReply (stepOf (sheetOf s) (tableIn table) numbe
 
 -- the picture of a table with a buffer of so many bytes: the number of clauses
 unfoldable pub pictureReply : List ℕ → List ℕ → ℕ → Reply
-pictureReply s table size = answerReply (pictureOf (sheetOf s) (tableIn table) size .answer) (pictureOf (sheetOf s) (tableIn table) size .clauses)
+pictureReply s table size = answerReply (pictureOf (sheetOf s) (tableIn table) size .answer)
+    (pictureOf (sheetOf s) (tableIn table) size .clauses)
 
 -- the search for a plan of at most `limit` moves
 unfoldable pub searchReply : List ℕ → ℕ → Reply

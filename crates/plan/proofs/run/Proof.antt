@@ -1,4 +1,5 @@
--- `plan::run` meets its contract: a walk of its MIR, by hand. It has no branch: `course`, which is covered, judges the bytes and the number of rows, and `write_rows` is lent the rows. A refused run has no rows to write.
+-- `plan::run` meets its contract: a walk of its MIR, by hand. It has no branch: `course`, which is covered, judges the bytes and the number
+-- of rows, and `write_rows` is lent the rows. A refused run has no rows to write.
 -- Assumes nothing.
 use mathlib.Core.Path.{_≡_, refl, sym, ap, subst, _∙_}
 use Prim.Native.Nat.{ℕ, _<_, _≤_, _^_}
@@ -97,7 +98,8 @@ module _ {M : Type 1} (𝓤 : URA M) (H : Heap 𝓤) (A : Atoms 𝓤) (mem : Mem
   abbrev WriteRows : Contract 𝓤
   WriteRows = tripleOf 𝓤 H A write-rows.signature (write-rows.spec 𝓤 H A mem run)
 
-module _ {M : Type 1} (𝓤 : URA M) (H : Heap 𝓤) (A : Atoms 𝓤) (W : Given 𝓤 H A) (mem : Memory → SProp 𝓤) (run : Routine → Fun 𝓤) (κ₀ κ₁ : Lft) (q₀ q₁ : Share) (bytes : RefT (List ℕ)) (b o : ℕ) (γ : GName) (ys : List Row) where
+module _ {M : Type 1} (𝓤 : URA M) (H : Heap 𝓤) (A : Atoms 𝓤) (W : Given 𝓤 H A) (mem : Memory → SProp 𝓤) (run : Routine → Fun 𝓤)
+    (κ₀ κ₁ : Lft) (q₀ q₁ : Share) (bytes : RefT (List ℕ)) (b o : ℕ) (γ : GName) (ys : List Row) where
   abbrev x : GName → List Row → RefT (List Row)
   x δ l = record { ptr = (b, o); name = δ; now = l }
 
@@ -136,10 +138,13 @@ module _ {M : Type 1} (𝓤 : URA M) (H : Heap 𝓤) (A : Atoms 𝓤) (W : Given
   goes-course : m < 2 ^ 64 → ent 𝓤 (sep 𝓤 (A .lft κ₀ q₀) (sem 𝓤 H A Shared)) (CourseCall 𝓤 H A mem run .pre to-course)
   goes-course fits =
       qed W (‵ (flft κ₀ q₀) ∷ ‵ Shared ∷ []) ∵ nothing ! $ move ! (1 ∷ 0 ∷ []) $ join ! $
-      nothing ! $ owned ! usize (Is usize) (uint-makes 𝓤 H A W w64) m _ (refl, fits) $ fjoin ! $ move ! (2 ∷ 0 ∷ []) $ fjoin ! $ move ! (1 ∷ 0 ∷ []) $ join ! $ frame ! $ done !
+      nothing ! $ owned ! usize (Is usize) (uint-makes 𝓤 H A W w64) m _ (refl, fits) $ fjoin ! $ move ! (2 ∷ 0 ∷ []) $ fjoin ! $ move !
+      (1 ∷ 0 ∷ []) $ join ! $ frame ! $ done !
 
-  said : (r : Course) → ent 𝓤 (ensured 𝓤 H A course.ended (course.clauses 𝓤 H A mem run) (κ₀, tt) (bytes, (m, tt)) tt r) (fact 𝓤 (r ≡ courseOf (sheetOf (bytes .now)) m))
-  said r = exE 𝓤 _ (λ ws. snd∗ 𝓤 (sem 𝓤 H A (lasts course.ended (κ₀, tt) (bytes, (m, tt)) ws)) (fact 𝓤 (r ≡ courseOf (sheetOf (bytes .now)) m)))
+  said : (r : Course) → ent 𝓤 (ensured 𝓤 H A course.ended (course.clauses 𝓤 H A mem run) (κ₀, tt) (bytes, (m, tt)) tt r)
+      (fact 𝓤 (r ≡ courseOf (sheetOf (bytes .now)) m))
+  said r = exE 𝓤 _ (λ ws. snd∗ 𝓤 (sem 𝓤 H A (lasts course.ended (κ₀, tt) (bytes, (m, tt)) ws))
+      (fact 𝓤 (r ≡ courseOf (sheetOf (bytes .now)) m)))
 
   -- ---- what `course` returned
   module _ (r : Course) (r-is : Is O.the-row r (LL.vals O.the-type O′.the-laws r)) (r-out : r ≡ courseOf (sheetOf (bytes .now)) m) where
@@ -181,7 +186,8 @@ module _ {M : Type 1} (𝓤 : URA M) (H : Heap 𝓤) (A : Atoms 𝓤) (W : Given
     exits : length zs ≡ m → ent 𝓤 (⋆ 𝓤 H A (Mine zs ∷ ‵ (flft κ₁ q₁) ∷ ‵ (flft κ₀ q₀) ∷ ‵ Shared ∷ [])) (Post aval)
     exits len =
         qed W (Mine zs ∷ ‵ (flft κ₁ q₁) ∷ ‵ (flft κ₀ q₀) ∷ ‵ Shared ∷ []) ∵
-        suffices ! _ (ends-at 𝓤 H A run′.ended stayed (run′.clauses 𝓤 H A mem run) W (((κ₀, (κ₁, tt)), (q₀, (q₁, tt)), tt, a, at), tt) aval (r .ran) (tt, (zs, tt)) (tt, (len, tt))) $
+        suffices ! _ (ends-at 𝓤 H A run′.ended stayed (run′.clauses 𝓤 H A mem run) W (((κ₀, (κ₁, tt)), (q₀, (q₁, tt)), tt, a, at), tt) aval
+        (r .ran) (tt, (zs, tt)) (tt, (len, tt))) $
         says-both ! ran-is after $
         nothing ! $ move ! (2 ∷ 0 ∷ []) $ join ! $ move ! (2 ∷ 0 ∷ []) $ join ! $ frame ! $
         -- [the rows; the bytes]
@@ -201,22 +207,32 @@ module _ {M : Type 1} (𝓤 : URA M) (H : Heap 𝓤) (A : Atoms 𝓤) (W : Given
     abbrev Stored : Val → List Row → Type 0
     Stored w l = (w ≡ vunit) × ((length l ≡ m) × (l ≡ zs))
 
-    goes-write-rows : (ν : ℕ) (δ : GName) → ent 𝓤 (sep 𝓤 (A .lft (ν ∷ []) fullShare) (sem 𝓤 H A (Lent T.the-row (named 1) κ₁ q₁ γ b o m ν δ ys))) (WriteRows 𝓤 H A mem run .pre (to-write-rows ν δ))
+    goes-write-rows : (ν : ℕ) (δ : GName) → ent 𝓤
+        (sep 𝓤 (A .lft (ν ∷ []) fullShare) (sem 𝓤 H A (Lent T.the-row (named 1) κ₁ q₁ γ b o m ν δ ys)))
+        (WriteRows 𝓤 H A mem run .pre (to-write-rows ν δ))
     goes-write-rows ν δ =
-        qed W (‵ (flft (ν ∷ []) fullShare) ∷ ‵ (Lent T.the-row (named 1) κ₁ q₁ γ b o m ν δ ys) ∷ []) ∵ says ! few $ nothing ! $ move ! (1 ∷ 0 ∷ []) $ join ! $ frame ! $
-        nothing ! $ owned ! N.the-row (Is N.the-row) ((LL.makes N.the-type N′.the-plain) 𝓤 H A) (r .counts) _ c-is $ fjoin ! $ move ! (1 ∷ 0 ∷ []) $ fjoin ! $ done !
+        qed W (‵ (flft (ν ∷ []) fullShare) ∷ ‵ (Lent T.the-row (named 1) κ₁ q₁ γ b o m ν δ ys) ∷ []) ∵ says ! few $ nothing ! $ move !
+        (1 ∷ 0 ∷ []) $ join ! $ frame ! $
+        nothing ! $ owned ! N.the-row (Is N.the-row) ((LL.makes N.the-type N′.the-plain) 𝓤 H A) (r .counts) _ c-is $ fjoin ! $ move !
+        (1 ∷ 0 ∷ []) $ fjoin ! $ done !
 
-    gets-write-rows : (ν : ℕ) (δ : GName) (w : Val) → ent 𝓤 (WriteRows 𝓤 H A mem run .post (to-write-rows ν δ) w) (mean 𝓤 H A (Said T.the-row (named 1) κ₁ q₁ γ b o m 𝓤 H A Stored ν δ w))
+    gets-write-rows : (ν : ℕ) (δ : GName) (w : Val) → ent 𝓤 (WriteRows 𝓤 H A mem run .post (to-write-rows ν δ) w)
+        (mean 𝓤 H A (Said T.the-row (named 1) κ₁ q₁ γ b o m 𝓤 H A Stored ν δ w))
     gets-write-rows ν δ w =
         qed W (raw (WriteRows 𝓤 H A mem run .post (to-write-rows ν δ) w) ∷ []) ∵ updating ! $
         use1 W (later (some (λ (u : Unit {0}). ((‵ (flft (ν ∷ []) fullShare) ⊛ ‵ ftrue) ⊛ ‵ (unit .own u (w ∷ [])))
-        ⊛ some (λ (ws : Lasts write-rows.ended (ν ∷ [], tt) (args δ)). ‵ (lasts write-rows.ended (ν ∷ [], tt) (args δ) ws) ⊛ raw (fact 𝓤 (ws .0 ≡ zs)))))) (id⊢ 𝓤 _) $ await ! tt $ pick ! (λ u.
-        split ! $ move ! (1 ∷ []) $ pick ! (λ ws. split ! $ move ! (1 ∷ []) $ heard ! (ws .0 ≡ zs) (λ f. fsplit ! $ fsplit ! $ move ! (1 ∷ []) $ feqL ! (λ len.
+        ⊛ some (λ (ws : Lasts write-rows.ended (ν ∷ [], tt) (args δ)). ‵ (lasts write-rows.ended (ν ∷ [], tt) (args δ) ws) ⊛ raw
+        (fact 𝓤 (ws .0 ≡ zs)))))) (id⊢ 𝓤 _) $ await ! tt $ pick ! (λ u.
+        split ! $ move ! (1 ∷ []) $ pick !
+        (λ ws. split ! $ move ! (1 ∷ []) $ heard ! (ws .0 ≡ zs) (λ f. fsplit ! $ fsplit ! $ move ! (1 ∷ []) $ feqL ! (λ len.
         -- [the last list; true; the tokens and the result]
         move ! (2 ∷ []) $ split ! $ split ! $ move ! (2 ∷ []) $ feqL ! (λ is.
-        at-once ! $ show ! (λ (l : List Row). guard 𝓤 ((length l ≡ m) × Stored w l) (sep 𝓤 (A .lft (ν ∷ []) fullShare) (sem 𝓤 H A (finally T.the-row δ l)))) (ws .0) $ check ! (len, (ap only is, (len, f))) $ keep ! (0 ∷ 2 ∷ []) $ done !)))))
+        at-once ! $ show ! (λ (l : List Row). guard 𝓤 ((length l ≡ m) × Stored w l)
+        (sep 𝓤 (A .lft (ν ∷ []) fullShare) (sem 𝓤 H A (finally T.the-row δ l)))) (ws .0) $ check ! (len, (ap only is, (len, f))) $ keep
+        ! (0 ∷ 2 ∷ []) $ done !)))))
 
-  module _ (𝓣 : Tables 𝓤 H) (known-course : Triple 𝓤 (𝓣 .C #plan·runs·course) (CourseCall 𝓤 H A mem run)) (known-write-rows : Triple 𝓤 (𝓣 .C #plan·rows·write-rows) (WriteRows 𝓤 H A mem run))
+  module _ (𝓣 : Tables 𝓤 H) (known-course : Triple 𝓤 (𝓣 .C #plan·runs·course) (CourseCall 𝓤 H A mem run))
+      (known-write-rows : Triple 𝓤 (𝓣 .C #plan·rows·write-rows) (WriteRows 𝓤 H A mem run))
       (room-bytes : Room u8 (length (bytes .now))) (room : Room T.the-row m) where
     abbrev C : Calls 𝓤 H
     C = 𝓣 .C
@@ -229,54 +245,81 @@ module _ {M : Type 1} (𝓤 : URA M) (H : Heap 𝓤) (A : Atoms 𝓤) (W : Given
 
     module _ (l₀ l₁ l₂ l₃ l₄ l₅ l₆ l₇ l₈ : ℕ) where
       abbrev En : Env 𝓤 H
-      En = (S′.mir, l₀) ∷ (slice-bytes, l₁) ∷ (slice-rows, l₂) ∷ (word, l₃) ∷ (O′.mir, l₄) ∷ (N′.mir, l₅) ∷ (tyUnit, l₆) ∷ (ref-again, l₇) ∷ (slice-again, l₈) ∷ []
+      En = (S′.mir, l₀) ∷ (slice-bytes, l₁) ∷ (slice-rows, l₂) ∷ (word, l₃) ∷ (O′.mir, l₄) ∷ (N′.mir, l₅) ∷ (tyUnit, l₆) ∷ (ref-again, l₇)
+          ∷ (slice-again, l₈) ∷ []
 
       -- the cells, with what lies in _3 and in _4
       abbrev Cells : Item 𝓤 → Item 𝓤 → List (Item 𝓤) → List (Item 𝓤)
-      Cells i₃ i₄ Γ = ‵ (froom slice-again l₈ 0) ∷ ‵ (fdies slice-again l₈) ∷ ‵ (froom ref-again l₇ 0) ∷ ‵ (fdies ref-again l₇) ∷ ‵ (froom tyUnit l₆ 0) ∷ ‵ (fdies tyUnit l₆) ∷ ‵ (froom (N′.mir) l₅ 0) ∷ ‵ (fdies (N′.mir) l₅)
-          ∷ i₄ ∷ ‵ (fdies (O′.mir) l₄) ∷ i₃ ∷ ‵ (fdies word l₃) ∷ ‵ (fat fullShare slice-rows l₂ 0 s) ∷ ‵ (fdies slice-rows l₂) ∷ ‵ (fat fullShare slice-bytes l₁ 0 sb) ∷ ‵ (fdies slice-bytes l₁)
+      Cells i₃ i₄ Γ = ‵ (froom slice-again l₈ 0) ∷ ‵ (fdies slice-again l₈) ∷ ‵ (froom ref-again l₇ 0) ∷ ‵ (fdies ref-again l₇) ∷ ‵
+          (froom tyUnit l₆ 0) ∷ ‵ (fdies tyUnit l₆) ∷ ‵ (froom (N′.mir) l₅ 0) ∷ ‵ (fdies (N′.mir) l₅)
+          ∷ i₄ ∷ ‵ (fdies (O′.mir) l₄) ∷ i₃ ∷ ‵ (fdies word l₃) ∷ ‵ (fat fullShare slice-rows l₂ 0 s) ∷ ‵ (fdies slice-rows l₂) ∷ ‵
+          (fat fullShare slice-bytes l₁ 0 sb) ∷ ‵ (fdies slice-bytes l₁)
           ∷ ‵ (froom (S′.mir) l₀ 0) ∷ ‵ (fdies (S′.mir) l₀) ∷ Γ
 
       -- what is had once `course` has returned
       abbrev Mid : Val → List (Item 𝓤)
-      Mid v = Mine ys ∷ ‵ (flft κ₁ q₁) ∷ ‵ (flft κ₀ q₀) ∷ ‵ Shared ∷ Cells (‵ (fat fullShare word l₃ 0 (vint w64 m))) (‵ (fat fullShare (O′.mir) l₄ 0 v)) []
+      Mid v = Mine ys ∷ ‵ (flft κ₁ q₁) ∷ ‵ (flft κ₀ q₀) ∷ ‵ Shared ∷ Cells (‵ (fat fullShare word l₃ 0 (vint w64 m)))
+          (‵ (fat fullShare (O′.mir) l₄ 0 v)) []
 
-      rest : (r : Course) → Is O.the-row r (LL.vals O.the-type O′.the-laws r) → r ≡ courseOf (sheetOf (bytes .now)) m → ent 𝓤 (⋆ 𝓤 H A (Mid (LL.val O.the-type O′.the-laws r))) (Wp 𝓤 H C Λ En body.t-3 (atReturn 𝓤 H En Post))
+      rest : (r : Course) → Is O.the-row r (LL.vals O.the-type O′.the-laws r) → r ≡ courseOf (sheetOf (bytes .now)) m
+          → ent 𝓤 (⋆ 𝓤 H A (Mid (LL.val O.the-type O′.the-laws r))) (Wp 𝓤 H C Λ En body.t-3 (atReturn 𝓤 H En Post))
       rest r r-is r-out =
           qed W (Mid (LL.val O.the-type O′.the-laws r)) ∵ exec ! C Λ En body.t-3 (atRet En Post) $
-          assigns ! (of-opd ! (load ! (from ! (fld ! refl (stop !))) (look-in ! 12 (sub ! 1 refl (whole !))))) (from ! (stop !)) (init ! 10 refl (c-typed r r-is r-out)) $
-          assigns ! (addr ! (from ! (fld ! refl (hop ! (look-in ! 16 (sub ! 0 refl (whole !))) (stop !))))) (from ! (stop !)) (init ! 6 refl (tt, tt)) $
-          assigns ! (agg ! (and-then ! (load ! (from ! (stop !)) (look ! 6 refl)) (and-then ! (load ! (from ! (fld ! refl (stop !))) (look-in ! 16 (sub ! 1 refl (whole !)))) (no-more !)))) (from ! (stop !)) (init ! 4 refl (tt, (tt, (record { fits = room .0 }, tt)))) $
-          use2 W (later (raw (C #plan·rows·write-rows (s ∷ cval r r-is r-out ∷ []) (λ w. mean 𝓤 H A (Back T.the-row (named 1) κ₁ q₁ γ b o m 𝓤 H A (Stored r r-is r-out) w)))))
-          (lent-call T.the-row (named 1) κ₁ q₁ γ b o m 𝓤 H A W room ys refl (Stored r r-is r-out) C fm #plan·rows·write-rows (s ∷ cval r r-is r-out ∷ []) (WriteRows 𝓤 H A mem run) known-write-rows
+          assigns ! (of-opd ! (load ! (from ! (fld ! refl (stop !))) (look-in ! 12 (sub ! 1 refl (whole !))))) (from ! (stop !))
+          (init ! 10 refl (c-typed r r-is r-out)) $
+          assigns ! (addr ! (from ! (fld ! refl (hop ! (look-in ! 16 (sub ! 0 refl (whole !))) (stop !))))) (from ! (stop !))
+          (init ! 6 refl (tt, tt)) $
+          assigns ! (agg ! (and-then ! (load ! (from ! (stop !)) (look ! 6 refl))
+          (and-then ! (load ! (from ! (fld ! refl (stop !))) (look-in ! 16 (sub ! 1 refl (whole !)))) (no-more !)))) (from ! (stop !))
+          (init ! 4 refl (tt, (tt, (record { fits = room .0 }, tt)))) $
+          use2 W (later (raw (C #plan·rows·write-rows (s ∷ cval r r-is r-out ∷ [])
+          (λ w. mean 𝓤 H A (Back T.the-row (named 1) κ₁ q₁ γ b o m 𝓤 H A (Stored r r-is r-out) w)))))
+          (lent-call T.the-row (named 1) κ₁ q₁ γ b o m 𝓤 H A W room ys refl (Stored r r-is r-out) C fm #plan·rows·write-rows
+          (s ∷ cval r r-is r-out ∷ []) (WriteRows 𝓤 H A mem run) known-write-rows
           (to-write-rows r r-is r-out) (λ ν δ. refl) (goes-write-rows r r-is r-out) (gets-write-rows r r-is r-out)) $ await ! tt $
-          calls ! fm (Back T.the-row (named 1) κ₁ q₁ γ b o m 𝓤 H A (Stored r r-is r-out)) (and-then ! (load ! (from ! (stop !)) (look ! 3 refl)) (and-then ! (load ! (from ! (stop !)) (look ! 9 refl)) (no-more !))) (λ w.
+          calls ! fm (Back T.the-row (named 1) κ₁ q₁ γ b o m 𝓤 H A (Stored r r-is r-out))
+          (and-then ! (load ! (from ! (stop !)) (look ! 3 refl)) (and-then ! (load ! (from ! (stop !)) (look ! 9 refl)) (no-more !)))
+          (λ w.
           await ! tt $ pick ! (λ l. learn ! (λ f. split ! $
           land ! (from ! (stop !)) (init ! 8 refl (subst (λ (u : Val). T (hasTy tyUnit u) × WT u) (sym (f .0)) (tt, tt))) $
           rewrite ! 0 Mine (f .1 .1) refl $
-          assigns ! (of-opd ! (load ! (from ! (fld ! refl (stop !))) (look-in ! 12 (sub ! 0 refl (whole !))))) (from ! (stop !)) (init ! 20 refl (a-typed r r-is r-out)) $
-          returns ! (look ! 20 refl) $ forget ! 4 refl $ forget ! 6 refl $ forget ! 8 refl $ forget ! 10 refl $ forget ! 12 refl $ forget ! 14 refl $ forget ! 16 refl $ forget ! 18 refl $ forget ! 20 refl $
-          move ! (20 ∷ 21 ∷ []) $ free1 ! $ move ! (18 ∷ 19 ∷ []) $ free1 ! $ move ! (16 ∷ 17 ∷ []) $ free1 ! $ move ! (14 ∷ 15 ∷ []) $ free1 ! $ move ! (12 ∷ 13 ∷ []) $ free1 ! $ move ! (10 ∷ 11 ∷ []) $ free1 ! $ move ! (8 ∷ 9 ∷ []) $ free1 ! $ move ! (6 ∷ 7 ∷ []) $ free1 ! $ move ! (4 ∷ 5 ∷ []) $ free1 ! $ free0 ! $
+          assigns ! (of-opd ! (load ! (from ! (fld ! refl (stop !))) (look-in ! 12 (sub ! 0 refl (whole !))))) (from ! (stop !))
+          (init ! 20 refl (a-typed r r-is r-out)) $
+          returns ! (look ! 20 refl) $ forget ! 4 refl $ forget ! 6 refl $ forget ! 8 refl $ forget ! 10 refl $ forget ! 12 refl $ forget !
+          14 refl $ forget ! 16 refl $ forget ! 18 refl $ forget ! 20 refl $
+          move ! (20 ∷ 21 ∷ []) $ free1 ! $ move ! (18 ∷ 19 ∷ []) $ free1 ! $ move ! (16 ∷ 17 ∷ []) $ free1 ! $ move ! (14 ∷ 15 ∷ []) $
+          free1 ! $ move ! (12 ∷ 13 ∷ []) $ free1 ! $ move ! (10 ∷ 11 ∷ []) $ free1 ! $ move ! (8 ∷ 9 ∷ []) $ free1 ! $ move !
+          (6 ∷ 7 ∷ []) $ free1 ! $ move ! (4 ∷ 5 ∷ []) $ free1 ! $ free0 ! $
           by ! (exits r r-is r-out (subst (λ (k : List Row). length k ≡ m) (f .1 .1) (f .1 .0))))))
 
       -- what is had once the parameters are passed
       abbrev Passed : List (Item 𝓤)
-      Passed = Cells (‵ (froom word l₃ 0)) (‵ (froom (O′.mir) l₄ 0)) ((‵ (flft κ₀ q₀) ⊛ (‵ (flft κ₁ q₁) ⊛ ‵ ftrue)) ∷ ‵ (owns (ShrSlice (named 0) κ₀ u8 ∷ MutSlice (named 1) κ₁ T.the-row ∷ []) a at) ∷ [])
+      Passed = Cells (‵ (froom word l₃ 0)) (‵ (froom (O′.mir) l₄ 0))
+          ((‵ (flft κ₀ q₀) ⊛ (‵ (flft κ₁ q₁) ⊛ ‵ ftrue)) ∷ ‵ (owns (ShrSlice (named 0) κ₀ u8 ∷ MutSlice (named 1) κ₁ T.the-row ∷ []) a at)
+          ∷ [])
 
       begins : ent 𝓤 (⋆ 𝓤 H A Passed) (Wp 𝓤 H C Λ En (code.function .body) (atReturn 𝓤 H En Post))
       begins =
           qed W Passed ∵ exec ! C Λ En (code.function .body) (atRet En Post) $
-          assigns ! (of-opd ! (load ! (from ! (fld ! refl (stop !))) (look-in ! 12 (sub ! 1 refl (whole !))))) (from ! (stop !)) (init ! 10 refl (tt, record { fits = room .0 })) $
+          assigns ! (of-opd ! (load ! (from ! (fld ! refl (stop !))) (look-in ! 12 (sub ! 1 refl (whole !))))) (from ! (stop !))
+          (init ! 10 refl (tt, record { fits = room .0 })) $
           -- the bytes are had twice: once for `course`, and once for the exit
-          move ! (19 ∷ []) $ fsplit ! $ use1 W (‵ Shared ⊛ ‵ Shared) (shr-slice-copy 𝓤 H A W (named 0) κ₀ u8 .twice bytes (sb ∷ [])) $ split ! $
+          move ! (19 ∷ []) $ fsplit ! $ use1 W (‵ Shared ⊛ ‵ Shared) (shr-slice-copy 𝓤 H A W (named 0) κ₀ u8 .twice bytes (sb ∷ [])) $
+          split ! $
           move ! (21 ∷ []) $ split ! $ move ! (1 ∷ []) $ split ! $ move ! (5 ∷ []) $ fsplit ! $ move ! (4 ∷ 5 ∷ []) $
           -- [the bytes' token; the bytes; the rows; true; the rows' token; true; the bytes; _8; …; _0; …]
           use2 W (raw (CourseCall 𝓤 H A mem run .pre to-course)) (goes-course (room .0)) $
-          calls-at ! fm (CourseCall 𝓤 H A mem run) known-course to-course (and-then ! (load ! (from ! (stop !)) (look ! 20 refl)) (and-then ! (load ! (from ! (stop !)) (look ! 16 refl)) (no-more !))) (λ v.
-          use1 W (later (some (λ (r : Course). ((‵ (flft κ₀ q₀) ⊛ ‵ ftrue) ⊛ ‵ (O.the-row .own r (v ∷ []))) ⊛ raw (ensured 𝓤 H A course.ended (course.clauses 𝓤 H A mem run) (κ₀, tt) (bytes, (m, tt)) tt r)))) (id⊢ 𝓤 _) $ await ! tt $ pick ! (λ r.
-          split ! $ move ! (1 ∷ []) $ use1 W (raw (fact 𝓤 (r ≡ courseOf (sheetOf (bytes .now)) m))) (said r) $ heard ! (r ≡ courseOf (sheetOf (bytes .now)) m) (λ r-out. split ! $ move ! (1 ∷ []) $
+          calls-at ! fm (CourseCall 𝓤 H A mem run) known-course to-course
+          (and-then ! (load ! (from ! (stop !)) (look ! 20 refl)) (and-then ! (load ! (from ! (stop !)) (look ! 16 refl)) (no-more !)))
+          (λ v.
+          use1 W (later (some (λ (r : Course). ((‵ (flft κ₀ q₀) ⊛ ‵ ftrue) ⊛ ‵ (O.the-row .own r (v ∷ []))) ⊛ raw
+          (ensured 𝓤 H A course.ended (course.clauses 𝓤 H A mem run) (κ₀, tt) (bytes, (m, tt)) tt r)))) (id⊢ 𝓤 _) $ await ! tt $ pick !
+          (λ r.
+          split ! $ move ! (1 ∷ []) $ use1 W (raw (fact 𝓤 (r ≡ courseOf (sheetOf (bytes .now)) m))) (said r) $ heard !
+          (r ≡ courseOf (sheetOf (bytes .now)) m) (λ r-out. split ! $ move ! (1 ∷ []) $
           peeks ! O.the-row (Is O.the-row) (shows 𝓤 H A O.the-row) r (v ∷ []) (λ is.
-          land ! (from ! (stop !)) (init ! 15 refl (LL.lawful O.the-type O′.the-laws 𝓤 H A W .typed r _ is .0)) $ rewrite ! 15 (λ (u : Val). ‵ (fat fullShare (O′.mir) l₄ 0 u)) (ap only (LL.tells O.the-type O′.the-laws r (v ∷ []) is)) refl $
+          land ! (from ! (stop !)) (init ! 15 refl (LL.lawful O.the-type O′.the-laws 𝓤 H A W .typed r _ is .0)) $ rewrite ! 15
+          (λ (u : Val). ‵ (fat fullShare (O′.mir) l₄ 0 u)) (ap only (LL.tells O.the-type O′.the-laws r (v ∷ []) is)) refl $
           drop ! $ split ! $
           -- [the bytes' token; true; the rows; true; the rows' token; true; the bytes; _8; …; _0; …]
           keep ! (2 ∷ 4 ∷ 0 ∷ 6 ∷ 7 ∷ 8 ∷ 9 ∷ 10 ∷ 11 ∷ 12 ∷ 13 ∷ 14 ∷ 15 ∷ 16 ∷ 17 ∷ 18 ∷ 19 ∷ 20 ∷ 21 ∷ 22 ∷ 23 ∷ 24 ∷ []) $
@@ -287,31 +330,45 @@ module _ {M : Type 1} (𝓤 : URA M) (H : Heap 𝓤) (A : Atoms 𝓤) (W : Given
       E = envOf 𝓤 H A (code.function .locals) bs
 
       abbrev Entered : List (Item 𝓤)
-      Entered = rooms 𝓤 H A (code.function .locals) bs ((‵ (flft κ₀ q₀) ⊛ (‵ (flft κ₁ q₁) ⊛ ‵ ftrue)) ∷ ‵ (owns (ShrSlice (named 0) κ₀ u8 ∷ MutSlice (named 1) κ₁ T.the-row ∷ []) a at) ∷ [])
+      Entered = rooms 𝓤 H A (code.function .locals) bs
+          ((‵ (flft κ₀ q₀) ⊛ (‵ (flft κ₁ q₁) ⊛ ‵ ftrue)) ∷ ‵ (owns (ShrSlice (named 0) κ₀ u8 ∷ MutSlice (named 1) κ₁ T.the-row ∷ []) a at)
+          ∷ [])
 
       -- the parameters are passed
       passes : Sq W Entered (params′ E (sb ∷ s ∷ []) (runs C Λ E (code.function .body) (atRet E Post)))
       passes =
-          params1 ! $ pass1 ! (init ! 14 refl (tt, (tt, (record { fits = room-bytes .0 }, tt)))) $ pass1 ! (init ! 12 refl (tt, (tt, (record { fits = room .0 }, tt)))) $ pass0 ! $
-          by ! (begins (bs .0) (bs .1 .0) (bs .1 .1 .0) (bs .1 .1 .1 .0) (bs .1 .1 .1 .1 .0) (bs .1 .1 .1 .1 .1 .0) (bs .1 .1 .1 .1 .1 .1 .0) (bs .1 .1 .1 .1 .1 .1 .1 .0) (bs .1 .1 .1 .1 .1 .1 .1 .1 .0))
+          params1 ! $ pass1 ! (init ! 14 refl (tt, (tt, (record { fits = room-bytes .0 }, tt)))) $ pass1 !
+          (init ! 12 refl (tt, (tt, (record { fits = room .0 }, tt)))) $ pass0 ! $
+          by ! (begins (bs .0) (bs .1 .0) (bs .1 .1 .0) (bs .1 .1 .1 .0) (bs .1 .1 .1 .1 .0) (bs .1 .1 .1 .1 .1 .0)
+          (bs .1 .1 .1 .1 .1 .1 .0) (bs .1 .1 .1 .1 .1 .1 .1 .0) (bs .1 .1 .1 .1 .1 .1 .1 .1 .0))
 
     walk : ent 𝓤 (onEntry 𝓤 H A run′.signature (κ₀, (κ₁, tt)) (q₀, (q₁, tt)) a at) (WpFn 𝓤 H C Λ code.function (sb ∷ s ∷ []) Post)
-    walk = enters 𝓤 H A W C Λ code.function (sb ∷ s ∷ []) Post ((‵ (flft κ₀ q₀) ⊛ (‵ (flft κ₁ q₁) ⊛ ‵ ftrue)) ∷ ‵ (owns (ShrSlice (named 0) κ₀ u8 ∷ MutSlice (named 1) κ₁ T.the-row ∷ []) a at) ∷ []) passes
+    walk = enters 𝓤 H A W C Λ code.function (sb ∷ s ∷ []) Post
+        ((‵ (flft κ₀ q₀) ⊛ (‵ (flft κ₁ q₁) ⊛ ‵ ftrue)) ∷ ‵ (owns (ShrSlice (named 0) κ₀ u8 ∷ MutSlice (named 1) κ₁ T.the-row ∷ []) a at) ∷
+        []) passes
 
 module _ {M : Type 1} (𝓤 : URA M) (H : Heap 𝓤) (A : Atoms 𝓤) (W : Given 𝓤 H A) (mem : Memory → SProp 𝓤) (run : Routine → Fun 𝓤) where
-  run-walks : (𝓣 : Tables 𝓤 H) → Triple 𝓤 (𝓣 .C #plan·runs·course) (CourseCall 𝓤 H A mem run) → Triple 𝓤 (𝓣 .C #plan·rows·write-rows) (WriteRows 𝓤 H A mem run)
+  run-walks : (𝓣 : Tables 𝓤 H) → Triple 𝓤 (𝓣 .C #plan·runs·course) (CourseCall 𝓤 H A mem run)
+      → Triple 𝓤 (𝓣 .C #plan·rows·write-rows) (WriteRows 𝓤 H A mem run)
       → Walks 𝓤 H A run′.ended stayed (WpFn 𝓤 H (𝓣 .C) (𝓣 .Λ) code.function) (run′.clauses 𝓤 H A mem run)
-  run-walks 𝓣 known-course known-write-rows = walked 𝓤 H A run′.ended stayed (run′.clauses 𝓤 H A mem run) (WpFn 𝓤 H (𝓣 .C) (𝓣 .Λ) code.function)
-      (λ κs. (slice-vals, (slice-vals, tt))) (λ κs. (shr-slice-tells (named 0) (κs .0) u8, (mut-slice-tells (named 1) (κs .1 .0) T.the-row, tt)))
+  run-walks 𝓣 known-course known-write-rows = walked 𝓤 H A run′.ended stayed (run′.clauses 𝓤 H A mem run)
+      (WpFn 𝓤 H (𝓣 .C) (𝓣 .Λ) code.function)
+      (λ κs. (slice-vals, (slice-vals, tt)))
+      (λ κs. (shr-slice-tells (named 0) (κs .0) u8, (mut-slice-tells (named 1) (κs .1 .0) T.the-row, tt)))
       (λ κs qs bounds a g are. via 𝓤 _ (fst∗ 𝓤 _ (emp 𝓤))
-      (walk 𝓤 H A W mem run (κs .0) (κs .1 .0) (qs .0) (qs .1 .0) (a .0) (a .1 .0 .ptr .0) (a .1 .0 .ptr .1) (a .1 .0 .name) (a .1 .0 .now) 𝓣 known-course known-write-rows (are .0 .0 .1) (are .1 .0 .0 .1)))
+      (walk 𝓤 H A W mem run (κs .0) (κs .1 .0) (qs .0) (qs .1 .0) (a .0) (a .1 .0 .ptr .0) (a .1 .0 .ptr .1) (a .1 .0 .name) (a .1 .0 .now)
+      𝓣 known-course known-write-rows (are .0 .0 .1) (are .1 .0 .0 .1)))
 
-run-meets : {M : Type 1} (𝓤 : URA M) (H : Heap 𝓤) (A : Atoms 𝓤) → Given 𝓤 H A → (mem : Memory → SProp 𝓤) (run : Routine → Fun 𝓤) (𝓣 : Tables 𝓤 H)
+run-meets : {M : Type 1} (𝓤 : URA M) (H : Heap 𝓤) (A : Atoms 𝓤) → Given 𝓤 H A
+    → (mem : Memory → SProp 𝓤) (run : Routine → Fun 𝓤) (𝓣 : Tables 𝓤 H)
     → Triple 𝓤 (𝓣 .C #plan·runs·course) (CourseCall 𝓤 H A mem run) → Triple 𝓤 (𝓣 .C #plan·rows·write-rows) (WriteRows 𝓤 H A mem run)
     → Meets 𝓤 H A run′.signature (WpFn 𝓤 H (𝓣 .C) (𝓣 .Λ) code.function) (run′.spec 𝓤 H A mem run)
 run-meets 𝓤 H A W mem run 𝓣 known-course known-write-rows =
-    walk-meets 𝓤 H A run′.ended stayed W (goes-none-slice 𝓤 H A W 2 (0 ∷ []) tt (plain (λ _. u8)) yes, (goes-slice 𝓤 H A W 2 1 tt (plain (λ _. T.the-row)), tt)) (run′.clauses 𝓤 H A mem run)
-    (WpFn 𝓤 H (𝓣 .C) (𝓣 .Λ) code.function) (WpFn-mono 𝓤 H (W .laws) 𝓣 code.function) (run-walks 𝓤 H A W mem run 𝓣 known-course known-write-rows)
+    walk-meets 𝓤 H A run′.ended stayed W
+    (goes-none-slice 𝓤 H A W 2 (0 ∷ []) tt (plain (λ _. u8)) yes, (goes-slice 𝓤 H A W 2 1 tt (plain (λ _. T.the-row)), tt))
+    (run′.clauses 𝓤 H A mem run)
+    (WpFn 𝓤 H (𝓣 .C) (𝓣 .Λ) code.function) (WpFn-mono 𝓤 H (W .laws) 𝓣 code.function)
+    (run-walks 𝓤 H A W mem run 𝓣 known-course known-write-rows)
 
 pub run-spec : {M : Type 1} → stated.statement M
 unfolding code.routine tablesOf
@@ -319,5 +376,7 @@ run-spec 𝓤 H 𝓜 𝓖 𝓡 =
     entered 𝓤 H (tripleOf 𝓤 H (𝓖 .A) run′.signature (run′.spec 𝓤 H (𝓖 .A) (𝓜 .mem) (𝓡 .run)))
     (tables 𝓤 H 𝓜 𝓡 code.env .C) (tables 𝓤 H 𝓜 𝓡 code.env .Λ) #plan·run code.function (code.unfolded 𝓤 H 𝓜 𝓡)
     (run-meets 𝓤 H (𝓖 .A) (givenOf 𝓤 H 𝓜 𝓖) (𝓜 .mem) (𝓡 .run) (tablesOf 𝓤 H 𝓜 (tables 𝓤 H 𝓜 𝓡 code.env))
-    (cited 𝓤 H (CourseCall 𝓤 H (𝓖 .A) (𝓜 .mem) (𝓡 .run)) 𝓜 𝓡 code.env #plan·runs·course course-def.routine code.calls-plan·runs·course (course-thm.met 𝓤 H 𝓜 𝓖 𝓡))
-    (cited 𝓤 H (WriteRows 𝓤 H (𝓖 .A) (𝓜 .mem) (𝓡 .run)) 𝓜 𝓡 code.env #plan·rows·write-rows write-rows-def.routine code.calls-plan·rows·write-rows (write-rows-thm.met 𝓤 H 𝓜 𝓖 𝓡)))
+    (cited 𝓤 H (CourseCall 𝓤 H (𝓖 .A) (𝓜 .mem) (𝓡 .run)) 𝓜 𝓡 code.env #plan·runs·course course-def.routine code.calls-plan·runs·course
+    (course-thm.met 𝓤 H 𝓜 𝓖 𝓡))
+    (cited 𝓤 H (WriteRows 𝓤 H (𝓖 .A) (𝓜 .mem) (𝓡 .run)) 𝓜 𝓡 code.env #plan·rows·write-rows write-rows-def.routine
+    code.calls-plan·rows·write-rows (write-rows-thm.met 𝓤 H 𝓜 𝓖 𝓡)))

@@ -8,51 +8,51 @@ use Rattle.plan.proofs.laws.searches.PackedSearches.{search-most, searc
 use Rattle.plan.proofs.search_with.Statement.{statement}
 use Rattle.plan.proofs.search_with.Tie as tie
 
-decode-requires : tie.Need-decode-requires
-decode-requires c κs = search needs
-
-enum-known-answer : tie.Need-enum-known-answer
-enum-known-answer c = search needs
-
-refuse-search-requires : tie.Need-refuse-search-requires
-refuse-search-requires c κs = search needs
-
-enum-told : tie.Need-enum-told
-enum-told c = search needs
-
-refuse-search-requires-2 : tie.Need-refuse-search-requires-2
-refuse-search-requires-2 c κs = search needs
-
 returns : tie.Need-returns
-returns c = c .refuse-search2 .ensures ∙ search-most _ _ (accepted-says _ _ _ (c .before .before .before .before .decode .ensures .0) (c .before .before .enum-told .given .1)) _ (c .before .if1 .taken)
+returns c =
+    let after-enum-told = c .before .before in
+    let after-decode = after-enum-told .before .before in
+    c .refuse-search2 .ensures ∙ search-most _ _
+    (accepted-says _ _ _ (after-decode .decode .ensures .0) (after-enum-told .enum-told .given .1)) _ (c .before .if1 .taken)
 
 search-sheet-requires : tie.Need-search-sheet-requires
 search-sheet-requires c κs =
-    let d = c .before .before .before .before .before .before .before .decode in
-    let h = filled _ _ _ (d .ensures) (c .before .before .before .before .before .enum-told .given .1) (search needs) in
-    (h, omega (arith, c .before .before .before .before .if1 .left))
+    let after-if1 = c .before .before .before .before in
+    let after-enum-told = after-if1 .before in
+    let after-decode = after-enum-told .before .before in
+    let d = after-decode .decode in
+    let h = filled _ _ _ (d .ensures) (after-enum-told .enum-told .given .1) (search needs) in
+    (h, omega (arith, after-if1 .if1 .left))
 
 returns-2 : tie.Need-returns-2
-returns-2 c = c .refuse-search .ensures ∙ search-fault _ _ _ _ (refused-says _ _ _ (c .before .before .before .before .decode .ensures .0) _ _ (c .before .before .answer .given .1))
-
-same-length : tie.Need-same-length
-same-length c = search needs
+returns-2 c =
+    let after-answer = c .before .before in
+    let after-decode = after-answer .before .before in
+    c .refuse-search .ensures ∙ search-fault _ _ _ _
+    (refused-says _ _ _ (after-decode .decode .ensures .0) _ _ (after-answer .answer .given .1))
 
 returns-3 : tie.Need-returns-3
 unfolding statementIn
-returns-3 c = c .before .before .search-sheet .ensures ∙ search-sheet _ _ (accepted-says _ _ _ (c .before .before .before .before .before .before .before .before .before .before .decode .ensures .0) (c .before .before .before .before .before .before .before .before .enum-told .given .1)) _ (omega (arith, c .before .before .before .before .before .before .before .if1 .left))
+returns-3 c =
+    let after-search-sheet = c .before .before in
+    let after-if1 = after-search-sheet .before .before .before .before .before in
+    let after-enum-told = after-if1 .before in
+    let after-decode = after-enum-told .before .before in
+    after-search-sheet .search-sheet .ensures ∙ search-sheet _ _
+    (accepted-says _ _ _ (after-decode .decode .ensures .0) (after-enum-told .enum-told .given .1)) _
+    (omega (arith, after-if1 .if1 .left))
 
 pub search-with-spec : {M : Type 1} → statement M
 search-with-spec =
     tie.close
     (tie.spec
-    decode-requires
-    enum-known-answer
-    refuse-search-requires
-    enum-told
-    refuse-search-requires-2
+    (λ c κs. search needs)
+    (λ c. search needs)
+    (λ c κs. search needs)
+    (λ c. search needs)
+    (λ c κs. search needs)
     returns
     search-sheet-requires
     returns-2
-    same-length
+    (λ c. search needs)
     returns-3)

@@ -21,7 +21,11 @@ use Rattle.plan.specs.Calls.{verdictOf, refusedRun, planned, plannedRows
 
 -- the numbers of some rows, in slots with zeros after them
 unfoldable pub countsOf : List Row → Counts
-countsOf rows = record { count = length rows; entries = pad mostPlaces 0 (map (λ r. r .entries) rows); clauses = pad mostPlaces 0 (map (λ r. r .clauses) rows) }
+countsOf rows = record {
+  count = length rows;
+  entries = pad mostPlaces 0 (map (λ r. r .entries) rows);
+  clauses = pad mostPlaces 0 (map (λ r. r .clauses) rows);
+}
 
 -- the run on a sheet with so many rows lent
 unfoldable pub courseOf : Judgement → ℕ → Course

@@ -29,7 +29,8 @@ pub record Storable (count : ℕ) (ts fs : List ℕ) : Type 0 where
 -- of every slot it is so: no plan of fewer moves than its mark is reached or full from its table
 abbrev pub Remembers : List ℕ → ℕ → List ℕ → Type 0
 Remembers packed count memory =
-    (j : ℕ) → j * memorySlot + memorySlot ≤ length memory → NoShorterFrom packed count 0 (tableIn (itemAt memorySlot memory j)) (markIn (itemAt memorySlot memory j))
+    (j : ℕ) → j * memorySlot + memorySlot ≤ length memory → NoShorterFrom packed count 0 (tableIn (itemAt memorySlot memory j))
+    (markIn (itemAt memorySlot memory j))
 
 -- what a search that is under way asks: moves, goal and table; at most eight moves; no answer by fewer; a memory of what is so
 pub record Underway (packed : List ℕ) (depth : Depth) (t : Table) (memory : List ℕ) : Type 0 where

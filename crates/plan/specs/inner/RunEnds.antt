@@ -1,4 +1,5 @@
--- How runs end, by the lists below the calls: what a verdict says of the worlds of a set; the clauses of the returned table; two ends alike.
+-- How runs end, by the lists below the calls: what a verdict says of the worlds of a set; the clauses of the returned table; two ends
+-- alike.
 use mathlib.Core.Path.{_≡_}
 use mathlib.Core.List.{List}
 use mathlib.Core.Option.{Option, none, some}

@@ -91,7 +91,9 @@ abbrev pub plansTried : List ℕ → ℕ → Table → ℕ → ℕ → SearchAns
 plansTried packed count t at left = answeredAt at (firstFrom (setsIn (goalIn packed)) (actionOf (movesIn packed)) count at (entries t) left)
 
 abbrev pub moveTried : List ℕ → ℕ → Table → ℕ → ℕ → ℕ → SearchAnswer
-moveTried packed count t at left index = answeredAt at (firstBy (setsIn (goalIn packed)) (actionOf (movesIn packed)) count at (entries t) left index)
+moveTried packed count t at left index = answeredAt at
+    (firstBy (setsIn (goalIn packed)) (actionOf (movesIn packed)) count at (entries t) left index)
 
 abbrev pub searchedBy : List ℕ → ℕ → Table → ℕ → SearchAnswer
-searchedBy packed count t limit = answered (firstOf (ranFrom (setsIn (goalIn packed)) (actionOf (movesIn packed)) 0 (entries t)) (plansUpTo count limit))
+searchedBy packed count t limit = answered
+    (firstOf (ranFrom (setsIn (goalIn packed)) (actionOf (movesIn packed)) 0 (entries t)) (plansUpTo count limit))

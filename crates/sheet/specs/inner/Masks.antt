@@ -1,4 +1,5 @@
--- What masks.rt works out beside the operations of Literals: differences, the literal bytes of a set one after the other; and a byte by its sign.
+-- What masks.rt works out beside the operations of Literals: differences, the literal bytes of a set one after the other; and a byte by its
+-- sign.
 use mathlib.Core.Bool.{Bool, true, false, cond}
 use Prim.Native.Nat.{ℕ, zero, suc, _+_, _-_, _*_}
 use lib.Bits.{bitAnd, bitOr}

@@ -1,4 +1,5 @@
--- Bounds and widths by name that inner contracts ask for: of the packed array that a sheet is read into, and of a slot of the search's memory.
+-- Bounds and widths by name that inner contracts ask for: of the packed array that a sheet is read into, and of a slot of the search's
+-- memory.
 use Prim.Native.Nat.{ℕ}
 
 -- ---- the sheet: what all layers ask of it (its ranges stand where the format states them, in Format and Encoding)

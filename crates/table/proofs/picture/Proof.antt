@@ -6,40 +6,31 @@ use Rattle.table.proofs.laws.pictures.PictureCall.{sheet-refused, sheet
 use Rattle.table.proofs.picture.Statement.{statement}
 use Rattle.table.proofs.picture.Tie as tie
 
-decode-requires : tie.Need-decode-requires
-decode-requires c κs = search needs
-
-enum-known-answer : tie.Need-enum-known-answer
-enum-known-answer c = search needs
-
-refuse-picture-requires : tie.Need-refuse-picture-requires
-refuse-picture-requires c κs = search needs
-
-enum-told : tie.Need-enum-told
-enum-told c = search needs
-
-draw-requires : tie.Need-draw-requires
-draw-requires c κs = search needs
-
 returns : tie.Need-returns
-returns c = sheet-refused _ _ _ _ _ (refused-says _ _ _ (c .before .before .before .before .decode .ensures .0) _ _ (c .before .before .answer .given .1)) _ (c .refuse-picture .ensures)
-
-same-length : tie.Need-same-length
-same-length c = search needs
+returns c =
+    let after-answer = c .before .before in
+    let after-decode = after-answer .before .before in
+    sheet-refused _ _ _ _ _ (refused-says _ _ _ (after-decode .decode .ensures .0) _ _ (after-answer .answer .given .1)) _
+    (c .refuse-picture .ensures)
 
 returns-2 : tie.Need-returns-2
 unfolding statementIn problemIn
-returns-2 c = sheet-accepted _ _ _ _ (accepted-says _ _ _ (c .before .before .before .before .before .before .before .before .before .before .before .before .decode .ensures .0) (c .before .before .before .before .before .before .before .before .before .before .enum-told .given .1)) _ _ (c .before .before .draw .ensures)
+returns-2 c =
+    let after-draw = c .before .before in
+    let after-enum-told = after-draw .before .before .before .before .before .before .before .before in
+    let after-decode = after-enum-told .before .before in
+    sheet-accepted _ _ _ _ (accepted-says _ _ _ (after-decode .decode .ensures .0) (after-enum-told .enum-told .given .1)) _ _
+    (after-draw .draw .ensures)
 
 pub picture-spec : {M : Type 1} → statement M
 picture-spec =
     tie.close
     (tie.spec
-    decode-requires
-    enum-known-answer
-    refuse-picture-requires
-    enum-told
-    draw-requires
+    (λ c κs. search needs)
+    (λ c. search needs)
+    (λ c κs. search needs)
+    (λ c. search needs)
+    (λ c κs. search needs)
     returns
-    same-length
+    (λ c. search needs)
     returns-2)

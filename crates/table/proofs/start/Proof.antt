@@ -4,31 +4,23 @@ use borrow.Author.Needs.{needs}
 use Rattle.table.proofs.start.Statement.{statement}
 use Rattle.table.proofs.start.Tie as tie
 
-start-lent-requires : tie.Need-start-lent-requires
-start-lent-requires c κs = search needs
-
-enum-known-count : tie.Need-enum-known-count
-enum-known-count c = search needs
-
-enum-known-number : tie.Need-enum-known-number
-enum-known-number c = search needs
-
-refuse-start-requires : tie.Need-refuse-start-requires
-refuse-start-requires c κs = search needs
-
 returns : tie.Need-returns
 returns c = start-by _ _ _ _ _ (c .before .count .given .1) (c .before .before .before .start-lent .ensures)
 
 returns-2 : tie.Need-returns-2
-returns-2 c = start-refusal _ _ _ (c .refuse-start .ensures) _ (start-by _ _ _ _ _ (c .before .before .number .given .1) (c .before .before .before .before .start-lent .ensures))
+returns-2 c =
+    let after-number = c .before .before in
+    let after-start-lent = after-number .before .before in
+    start-refusal _ _ _ (c .refuse-start .ensures) _
+    (start-by _ _ _ _ _ (after-number .number .given .1) (after-start-lent .start-lent .ensures))
 
 pub start-spec : {M : Type 1} → statement M
 start-spec =
     tie.close
     (tie.spec
-    start-lent-requires
-    enum-known-count
-    enum-known-number
-    refuse-start-requires
+    (λ c κs. search needs)
+    (λ c. search needs)
+    (λ c. search needs)
+    (λ c κs. search needs)
     returns
     returns-2)

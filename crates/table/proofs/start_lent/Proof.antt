@@ -8,32 +8,31 @@ use borrow.Author.Needs.{needs}
 use Rattle.table.proofs.start_lent.Statement.{statement}
 use Rattle.table.proofs.start_lent.Tie as tie
 
-decode-requires : tie.Need-decode-requires
-decode-requires c κs = search needs
-
-enum-known-answer : tie.Need-enum-known-answer
-enum-known-answer c = search needs
-
-enum-told : tie.Need-enum-told
-enum-told c = search needs
-
 first-into-requires : tie.Need-first-into-requires
-first-into-requires c κs = (filled _ _ _ (c .before .before .before .before .before .before .before .decode .ensures) (c .before .before .before .before .before .enum-told .given .1) (search needs), c .before .before .before .before .before .before .before .before .before .before .pre)
+first-into-requires c κs =
+    let after-enum-told = c .before .before .before .before .before in
+    let after-decode = after-enum-told .before .before in
+    let start = after-decode .before .before .before in
+    (filled _ _ _ (after-decode .decode .ensures) (after-enum-told .enum-told .given .1) (search needs), start .pre)
 
 returns : tie.Need-returns
 returns c = start-fault _ _ _ (refused-says _ _ _ (c .before .before .before .decode .ensures .0) _ _ (c .before .answer .given .1))
 
 returns-2 : tie.Need-returns-2
 unfolding startOf statementIn
-returns-2 c = c .first-into .ensures ∙ sym (ap startOf (accepted-says _ _ _ (c .before .before .before .before .before .before .before .before .decode .ensures .0) (c .before .before .before .before .before .before .enum-told .given .1)))
+returns-2 c =
+    let after-enum-told = c .before .before .before .before .before .before in
+    let after-decode = after-enum-told .before .before in
+    c .first-into .ensures ∙ sym
+    (ap startOf (accepted-says _ _ _ (after-decode .decode .ensures .0) (after-enum-told .enum-told .given .1)))
 
 pub start-lent-spec : {M : Type 1} → statement M
 start-lent-spec =
     tie.close
     (tie.spec
-    decode-requires
-    enum-known-answer
-    enum-told
+    (λ c κs. search needs)
+    (λ c. search needs)
+    (λ c. search needs)
     first-into-requires
     returns
     returns-2)

@@ -20,7 +20,8 @@ pub record JoinFits (ts fs : List ℕ) (count : ℕ) (us vs : List ℕ) (others 
 -- clauses with zeros after them; all zero where they were too many
 unfoldable pub clauseSlots : Option (List Literals) → Clauses
 clauseSlots none = record { full = true; count = 0; trues = pad mostClauses 0 []; falses = pad mostClauses 0 [] }
-clauseSlots (some s) = record { full = false; count = length s; trues = pad mostClauses 0 (trues-of s); falses = pad mostClauses 0 (falses-of s) }
+clauseSlots (some s) = record
+    { full = false; count = length s; trues = pad mostClauses 0 (trues-of s); falses = pad mostClauses 0 (falses-of s) }
 
 -- the bytes of count clauses fit into the buffer, and count into two bytes
 pub record PictureRoom (count : ℕ) (buffer : List ℕ) : Type 0 where

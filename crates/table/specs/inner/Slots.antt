@@ -1,4 +1,5 @@
--- Lists of literal sets in two arrays of masks, over any capacity: what contracts ask of the arrays, and what putting candidates leaves there.
+-- Lists of literal sets in two arrays of masks, over any capacity: what contracts ask of the arrays, and what putting candidates leaves
+-- there.
 use mathlib.Core.Path.{_≡_}
 use mathlib.Core.Bool.{Bool, _||_}
 use mathlib.Core.List.{List}
@@ -70,4 +71,5 @@ slot ts fs i = record { trues = getD ts i 0; falses = getD fs i 0 }
 
 -- some of the four sets from slot i on lies in l
 abbrev pub fourWithin : List ℕ → List ℕ → ℕ → Literals → Bool
-fourWithin ts fs i l = within (slot ts fs i) l || within (slot ts fs (i + 1)) l || within (slot ts fs (i + 2)) l || within (slot ts fs (i + 3)) l
+fourWithin ts fs i l = within (slot ts fs i) l || within (slot ts fs (i + 1)) l || within (slot ts fs (i + 2)) l
+    || within (slot ts fs (i + 3)) l

@@ -23,10 +23,12 @@ same-length c = search needs
 
 returns-2 : tie.Need-returns-2
 returns-2 c =
-    let t = c .before .before .before .before in
+    let after-write-info = c .before .before in
+    let after-4 = after-write-info .before .before in
+    let t = after-4 in
     let e = le-ltb _ _ (t .before .before .if1 .left) in
     let same = judge-told _ _ _ (t .before .judge .ensures) (t .answer-reply .ensures) in
-    (byte e _ _ same, numbers e _ _ same _ _ (c .before .before .write-info .ensures))
+    (byte e _ _ same, numbers e _ _ same _ _ (after-write-info .write-info .ensures))
 
 pub krepuskilo-judge-spec : {M : Type 1} → statement M
 krepuskilo-judge-spec =

@@ -18,38 +18,24 @@ returns c =
 
 returns-2 : tie.Need-returns-2
 returns-2 c =
-    let a = c .before .before .before .before .before .before .args in
+    let start = c .before .before .before .before .before .before in
+    let a = start .args in
     let e = lacks-info tableNumbers (a .table .now) (a .info .now) (c .before .if1 .left) (c .if2 .taken) in
     (cond-true _ _ e, (cond-true _ _ e, cond-true _ _ e))
 
-table-in-requires : tie.Need-table-in-requires
-table-in-requires c κs = search needs
-
-picture-requires : tie.Need-picture-requires
-picture-requires c κs = search needs
-
-answer-reply-requires : tie.Need-answer-reply-requires
-answer-reply-requires c κs = search needs
-
-write-info-requires : tie.Need-write-info-requires
-write-info-requires c κs = search needs
-
-same-length : tie.Need-same-length
-same-length c = search needs
-
-same-length-2 : tie.Need-same-length-2
-same-length-2 c = search needs
-
 returns-3 : tie.Need-returns-3
 returns-3 c =
-    let r = c .before .before .before .before .before .before .before in
+    let after-write-info = c .before .before in
+    let after-answer-reply = after-write-info .before .before in
+    let after-7 = after-answer-reply .before .before .before in
+    let r = after-7 in
     let g = r .before .before .before in
     let a = g .before .before .before .before .before .before .args in
     let e = lacks-none tableNumbers (a .table .now) (a .info .now) (g .before .if1 .left) (g .if2 .left) in
     let given = r .before .before .table-in .ensures in
-    let same = picture-told _ _ _ _ _ _ given (r .picture .ensures .0) (c .before .before .before .before .answer-reply .ensures) in
+    let same = picture-told _ _ _ _ _ _ given (r .picture .ensures .0) (after-answer-reply .answer-reply .ensures) in
     let drawn = r .picture .ensures .1 ∙ ap (λ (t : Table). bufferOf (sheetOf (a .sheet .now)) t (a .buffer .now)) given in
-    (byte e _ _ same, (second _ _ _ e drawn, numbers e _ _ same _ _ (c .before .before .write-info .ensures)))
+    (byte e _ _ same, (second _ _ _ e drawn, numbers e _ _ same _ _ (after-write-info .write-info .ensures)))
 
 pub krepuskilo-picture-spec : {M : Type 1} → statement M
 krepuskilo-picture-spec =
@@ -57,10 +43,10 @@ krepuskilo-picture-spec =
     (tie.spec
     returns
     returns-2
-    table-in-requires
-    picture-requires
-    answer-reply-requires
-    write-info-requires
-    same-length
-    same-length-2
+    (λ c κs. search needs)
+    (λ c κs. search needs)
+    (λ c κs. search needs)
+    (λ c κs. search needs)
+    (λ c. search needs)
+    (λ c. search needs)
     returns-3)

@@ -16,46 +16,43 @@ returns c =
 
 returns-2 : tie.Need-returns-2
 returns-2 c =
-    let a = c .before .before .before .before .before .before .args in
+    let start = c .before .before .before .before .before .before in
+    let a = start .args in
     let e = lacks-info tableNumbers (a .table .now) (a .info .now) (c .before .if1 .left) (c .if2 .taken) in
     (cond-true _ _ e, (cond-true _ _ e, (cond-true _ _ e, cond-true _ _ e)))
 
-course-into-requires : tie.Need-course-into-requires
-course-into-requires c κs = search needs
-
-verdict-reply-requires : tie.Need-verdict-reply-requires
-verdict-reply-requires c κs = search needs
-
 write-row-numbers-requires : tie.Need-write-row-numbers-requires
-write-row-numbers-requires c κs = rows-room _ (c .before .before .before .before .before .before .before .before .before .before .before .before .before .before .before .args .rows .now) _ (c .before .before .before .before .course-into .ensures)
+write-row-numbers-requires c κs =
+    let after-course-into = c .before .before .before .before in
+    let start = after-course-into .before .before .before .before .before .before .before .before .before .before .before in
+    rows-room _ (start .args .rows .now) _ (after-course-into .course-into .ensures)
 
 write-entries-requires : tie.Need-write-entries-requires
-write-entries-requires c κs = (c .before .before .before .before .before .before .before .before .before .before .before .before .before .before .before .before .if1 .left, run-fits _ _ _ (c .before .before .before .before .before .before .before .before .before .before .course-into .ensures))
-
-write-info-requires : tie.Need-write-info-requires
-write-info-requires c κs = search needs
-
-same-length : tie.Need-same-length
-same-length c = search needs
-
-same-length-2 : tie.Need-same-length-2
-same-length-2 c = search needs
-
-same-length-3 : tie.Need-same-length-3
-same-length-3 c = search needs
+write-entries-requires c κs =
+    let after-course-into = c .before .before .before .before .before .before .before .before .before .before in
+    let after-if1 = after-course-into .before .before .before .before .before .before in
+    (after-if1 .if1 .left, run-fits _ _ _ (after-course-into .course-into .ensures))
 
 returns-3 : tie.Need-returns-3
 returns-3 c =
-    let a = c .before .before .before .before .before .before .before .before .before .before .before .before .before .before .before .before .before .before .before .before .before .before .before .before .before .before .before .before .args in
-    let e = lacks-none tableNumbers (a .table .now) (a .info .now) (c .before .before .before .before .before .before .before .before .before .before .before .before .before .before .before .before .before .before .before .before .before .before .before .if1 .left) (c .before .before .before .before .before .before .before .before .before .before .before .before .before .before .before .before .before .before .before .before .before .before .if2 .left) in
-    let d = c .before .before .before .before .before .before .before .before .before .before .before .before .before .before .before .before .before .course-into in
-    let same = run-told _ (a .rows .now) _ _ (d .ensures) (c .before .before .before .before .before .before .before .before .before .before .before .before .before .before .before .before .verdict-reply .ensures) in (
+    let after-write-info = c .before .before in
+    let after-write-entries = after-write-info .before .before .before .before in
+    let after-write-row-numbers = after-write-entries .before .before .before .before .before .before in
+    let after-verdict-reply = after-write-row-numbers .before .before .before .before in
+    let after-course-into = after-verdict-reply .before in
+    let after-if2 = after-course-into .before .before .before .before .before in
+    let after-if1 = after-if2 .before in
+    let start = after-if1 .before .before .before .before .before in
+    let a = start .args in
+    let e = lacks-none tableNumbers (a .table .now) (a .info .now) (after-if1 .if1 .left) (after-if2 .if2 .left) in
+    let d = after-course-into .course-into in
+    let same = run-told _ (a .rows .now) _ _ (d .ensures) (after-verdict-reply .verdict-reply .ensures) in (
       byte e _ _ same,
       (
-        second _ _ _ e (rows-out _ _ _ (d .ensures) _ (c .before .before .before .before .before .before .before .before .before .before .before .before .write-row-numbers .ensures)),
+        second _ _ _ e (rows-out _ _ _ (d .ensures) _ (after-write-row-numbers .write-row-numbers .ensures)),
         (
-          tables e _ _ _ _ (run-table _ (a .rows .now) _ (d .ensures)) (c .before .before .before .before .before .before .write-entries .ensures),
-          numbers e _ _ same _ _ (c .before .before .write-info .ensures),
+          tables e _ _ _ _ (run-table _ (a .rows .now) _ (d .ensures)) (after-write-entries .write-entries .ensures),
+          numbers e _ _ same _ _ (after-write-info .write-info .ensures),
         ),
       ),
     )
@@ -66,12 +63,12 @@ krepuskilo-run-spec =
     (tie.spec
     returns
     returns-2
-    course-into-requires
-    verdict-reply-requires
+    (λ c κs. search needs)
+    (λ c κs. search needs)
     write-row-numbers-requires
     write-entries-requires
-    write-info-requires
-    same-length
-    same-length-2
-    same-length-3
+    (λ c κs. search needs)
+    (λ c. search needs)
+    (λ c. search needs)
+    (λ c. search needs)
     returns-3)

@@ -17,18 +17,6 @@ returns-2 c =
     let e = lacks-info 8 (a .plan .now) (a .info .now) (c .before .if1 .left) (c .if2 .taken) in
     (cond-true _ _ e, (cond-true _ _ e, cond-true _ _ e))
 
-search-requires : tie.Need-search-requires
-search-requires c κs = search needs
-
-write-search-requires : tie.Need-write-search-requires
-write-search-requires c κs = search needs
-
-same-length : tie.Need-same-length
-same-length c = search needs
-
-same-length-2 : tie.Need-same-length-2
-same-length-2 c = search needs
-
 returns-3 : tie.Need-returns-3
 returns-3 c =
     let w = c .before .before .before .before in
@@ -45,8 +33,8 @@ krepuskilo-search-spec =
     (tie.spec
     returns
     returns-2
-    search-requires
-    write-search-requires
-    same-length
-    same-length-2
+    (λ c κs. search needs)
+    (λ c κs. search needs)
+    (λ c. search needs)
+    (λ c. search needs)
     returns-3)

@@ -15,24 +15,10 @@ returns c =
 
 returns-2 : tie.Need-returns-2
 returns-2 c =
-    let a = c .before .before .before .before .before .before .args in
+    let start = c .before .before .before .before .before .before in
+    let a = start .args in
     let e = lacks-info 8 (a .plan .now) (a .info .now) (c .before .if1 .left) (c .if2 .taken) in
     (cond-true _ _ e, (cond-true _ _ e, (cond-true _ _ e, λ h. refl)))
-
-search-with-requires : tie.Need-search-with-requires
-search-with-requires c κs = search needs
-
-write-search-requires : tie.Need-write-search-requires
-write-search-requires c κs = search needs
-
-same-length : tie.Need-same-length
-same-length c = search needs
-
-same-length-2 : tie.Need-same-length-2
-same-length-2 c = search needs
-
-same-length-3 : tie.Need-same-length-3
-same-length-3 c = search needs
 
 returns-3 : tie.Need-returns-3
 returns-3 c =
@@ -41,8 +27,10 @@ returns-3 c =
     let a = r .before .before .before .before .before .before .before .before .args in
     let e = lacks-none 8 (a .plan .now) (a .info .now) (r .before .before .before .if1 .left) (r .before .before .if2 .left) in
     let is = r .search-with .ensures in
-    let k = w .write-search .ensures in
-    (search-byte e _ _ _ is _ (k .0), (search-plan e _ _ _ is _ _ (k .1 .0), (search-info e _ _ _ is _ _ (k .1 .1), λ h. absurd (true≢false (sym h ∙ e)))))
+    let k = w .write-search .ensures in (
+      search-byte e _ _ _ is _ (k .0),
+      (search-plan e _ _ _ is _ _ (k .1 .0), (search-info e _ _ _ is _ _ (k .1 .1), λ h. absurd (true≢false (sym h ∙ e)))),
+    )
 
 pub krepuskilo-search-with-spec : {M : Type 1} → statement M
 krepuskilo-search-with-spec =
@@ -50,9 +38,9 @@ krepuskilo-search-with-spec =
     (tie.spec
     returns
     returns-2
-    search-with-requires
-    write-search-requires
-    same-length
-    same-length-2
-    same-length-3
+    (λ c κs. search needs)
+    (λ c κs. search needs)
+    (λ c. search needs)
+    (λ c. search needs)
+    (λ c. search needs)
     returns-3)

@@ -21,32 +21,32 @@ returns-2 c =
     let e = lacks-info tableNumbers (a .table .now) (a .info .now) (c .before .if1 .left) (c .if2 .taken) in
     (cond-true _ _ e, (cond-true _ _ e, cond-true _ _ e))
 
-start-lent-requires : tie.Need-start-lent-requires
-start-lent-requires c κs = search needs
-
 write-start-requires : tie.Need-write-start-requires
-write-start-requires c κs = (c .before .before .before .before .before .before .before .if1 .left, start-fits _ _ (c .before .before .before .start-lent .ensures))
-
-answer-reply-requires : tie.Need-answer-reply-requires
-answer-reply-requires c κs = search needs
-
-write-info-requires : tie.Need-write-info-requires
-write-info-requires c κs = search needs
-
-same-length : tie.Need-same-length
-same-length c = search needs
-
-same-length-2 : tie.Need-same-length-2
-same-length-2 c = search needs
+write-start-requires c κs =
+    let after-start-lent = c .before .before .before in
+    let after-if1 = after-start-lent .before .before .before .before in
+    (after-if1 .if1 .left, start-fits _ _ (after-start-lent .start-lent .ensures))
 
 returns-3 : tie.Need-returns-3
 returns-3 c =
-    let a = c .before .before .before .before .before .before .before .before .before .before .before .before .before .before .before .before .before .before .before .args in
-    let e = lacks-none tableNumbers (a .table .now) (a .info .now) (c .before .before .before .before .before .before .before .before .before .before .before .before .before .before .before .if1 .left) (c .before .before .before .before .before .before .before .before .before .before .before .before .before .before .if2 .left) in
-    let d = c .before .before .before .before .before .before .before .before .before .before .before .start-lent .ensures in
-    let w = c .before .before .before .before .before .before .before .write-start .ensures in
-    let same = start-told (a .sheet .now) _ _ _ d (w .0) (c .before .before .before .before .answer-reply .ensures) in
-    (byte e _ _ same, (tables e _ _ _ _ (ap (λ (x : TableAnswer). x .table) d) (w .1), numbers e _ _ same _ _ (c .before .before .write-info .ensures)))
+    let after-write-info = c .before .before in
+    let after-answer-reply = after-write-info .before .before in
+    let after-write-start = after-answer-reply .before .before .before in
+    let after-start-lent = after-write-start .before .before .before .before in
+    let after-if2 = after-start-lent .before .before .before in
+    let after-if1 = after-if2 .before in
+    let start = after-if1 .before .before .before .before in
+    let a = start .args in
+    let e = lacks-none tableNumbers (a .table .now) (a .info .now) (after-if1 .if1 .left) (after-if2 .if2 .left) in
+    let d = after-start-lent .start-lent .ensures in
+    let w = after-write-start .write-start .ensures in
+    let same = start-told (a .sheet .now) _ _ _ d (w .0) (after-answer-reply .answer-reply .ensures) in (
+      byte e _ _ same,
+      (
+        tables e _ _ _ _ (ap (λ (x : TableAnswer). x .table) d) (w .1),
+        numbers e _ _ same _ _ (after-write-info .write-info .ensures),
+      ),
+    )
 
 pub krepuskilo-start-spec : {M : Type 1} → statement M
 krepuskilo-start-spec =
@@ -54,10 +54,10 @@ krepuskilo-start-spec =
     (tie.spec
     returns
     returns-2
-    start-lent-requires
+    (λ c κs. search needs)
     write-start-requires
-    answer-reply-requires
-    write-info-requires
-    same-length
-    same-length-2
+    (λ c κs. search needs)
+    (λ c κs. search needs)
+    (λ c. search needs)
+    (λ c. search needs)
     returns-3)

@@ -21,34 +21,34 @@ returns-2 c =
     let e = lacks-info tableNumbers (a .table .now) (a .info .now) (c .before .if1 .left) (c .if2 .taken) in
     (cond-true _ _ e, (cond-true _ _ e, cond-true _ _ e))
 
-step-numbers-requires : tie.Need-step-numbers-requires
-step-numbers-requires c κs = search needs
-
-answer-reply-requires : tie.Need-answer-reply-requires
-answer-reply-requires c κs = search needs
-
 write-step-requires : tie.Need-write-step-requires
 write-step-requires c κs =
-    let d = c .before .before .before .step-numbers in
-    (c .before .before .before .before .before .before .before .before .if1 .left, step-fits _ _ _ (d .result) _ _ (c .before .before .before .before .before .before .before .before .before .before .slice-known .given 0 .fits) (d .ensures))
-
-write-info-requires : tie.Need-write-info-requires
-write-info-requires c κs = search needs
-
-same-length : tie.Need-same-length
-same-length c = search needs
-
-same-length-2 : tie.Need-same-length-2
-same-length-2 c = search needs
+    let after-step-numbers = c .before .before .before in
+    let after-if1 = after-step-numbers .before .before .before .before .before in
+    let after-slice-known = after-if1 .before .before in
+    let d = after-step-numbers .step-numbers in
+    (after-if1 .if1 .left, step-fits _ _ _ (d .result) _ _ (after-slice-known .slice-known .given 0 .fits) (d .ensures))
 
 returns-3 : tie.Need-returns-3
 returns-3 c =
-    let a = c .before .before .before .before .before .before .before .before .before .before .before .before .before .before .before .before .before .before .before .before .args in
-    let e = lacks-none tableNumbers (a .table .now) (a .info .now) (c .before .before .before .before .before .before .before .before .before .before .before .before .before .before .before .before .if1 .left) (c .before .before .before .before .before .before .before .before .before .before .before .before .before .before .before .if2 .left) in
-    let d = c .before .before .before .before .before .before .before .before .before .before .before .step-numbers .ensures in
-    let w = c .before .before .before .before .before .before .before .write-step .ensures in
-    let same = step-told (a .sheet .now) (a .table .now) (a .index) _ _ _ d (w .0) (c .before .before .before .before .answer-reply .ensures) in
-    (byte e _ _ same, (tables e _ _ _ _ (ap (λ (x : TableAnswer). x .table) d) (w .1), numbers e _ _ same _ _ (c .before .before .write-info .ensures)))
+    let after-write-info = c .before .before in
+    let after-answer-reply = after-write-info .before .before in
+    let after-write-step = after-answer-reply .before .before .before in
+    let after-step-numbers = after-write-step .before .before .before .before in
+    let after-if2 = after-step-numbers .before .before .before .before in
+    let after-if1 = after-if2 .before in
+    let start = after-if1 .before .before .before .before in
+    let a = start .args in
+    let e = lacks-none tableNumbers (a .table .now) (a .info .now) (after-if1 .if1 .left) (after-if2 .if2 .left) in
+    let d = after-step-numbers .step-numbers .ensures in
+    let w = after-write-step .write-step .ensures in
+    let same = step-told (a .sheet .now) (a .table .now) (a .index) _ _ _ d (w .0) (after-answer-reply .answer-reply .ensures) in (
+      byte e _ _ same,
+      (
+        tables e _ _ _ _ (ap (λ (x : TableAnswer). x .table) d) (w .1),
+        numbers e _ _ same _ _ (after-write-info .write-info .ensures),
+      ),
+    )
 
 pub krepuskilo-step-spec : {M : Type 1} → statement M
 krepuskilo-step-spec =
@@ -56,10 +56,10 @@ krepuskilo-step-spec =
     (tie.spec
     returns
     returns-2
-    step-numbers-requires
+    (λ c κs. search needs)
     write-step-requires
-    answer-reply-requires
-    write-info-requires
-    same-length
-    same-length-2
+    (λ c κs. search needs)
+    (λ c κs. search needs)
+    (λ c. search needs)
+    (λ c. search needs)
     returns-3)

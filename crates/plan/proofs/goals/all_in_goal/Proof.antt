@@ -15,7 +15,8 @@ use Rattle.plan.proofs.goals.all_in_goal.Tie as tie
 
 abbrev Inv-loop : tie.InvT-loop
 Inv-loop goal trues falses count i₀ i =
-    (i ≤ count) × (allOf (inGoal (setsIn goal)) (entriesOf count trues falses) ≡ allOf (inGoal (setsIn goal)) (drop i (entriesOf count trues falses)))
+    (i ≤ count) × (allOf (inGoal (setsIn goal)) (entriesOf count trues falses)
+    ≡ allOf (inGoal (setsIn goal)) (drop i (entriesOf count trues falses)))
 
 abbrev μ-loop : tie.MeasureT-loop
 μ-loop goal trues falses count i₀ i = count - i
@@ -23,40 +24,39 @@ abbrev μ-loop : tie.MeasureT-loop
 loop-holds : tie.Need-loop-holds Inv-loop μ-loop
 loop-holds c = (omega arith, refl)
 
-entry-at-requires : tie.Need-entry-at-requires Inv-loop μ-loop
-entry-at-requires c κs = search needs
-
-in-goal-requires : tie.Need-in-goal-requires Inv-loop μ-loop
-in-goal-requires c κs = search needs
-
 returns : tie.Need-returns Inv-loop μ-loop
 returns c =
-    let a = c .before .before .before .before .before .before .before .before .args in
+    let after-entry-at = c .before .before in
+    let after-loop-test = after-entry-at .before in
+    let at-loop = after-loop-test .before in
+    let start = at-loop .before .before .before .before in
+    let a = start .args in
     all-stop (inGoal (setsIn (a .goal .now))) _ _ _ _
-    (entries-next (a .count) (a .trues .now) (a .falses .now) (c .before .before .before .before .loop .i) (c .before .before .entry-at .result) (c .before .before .before .loop-test .taken) (c .before .before .entry-at .ensures))
+    (entries-next (a .count) (a .trues .now) (a .falses .now) (at-loop .loop .i) (after-entry-at .entry-at .result)
+    (after-loop-test .loop-test .taken) (after-entry-at .entry-at .ensures))
     (c .before .in-goal .ensures) (not-true (c .before .in-goal .result) (c .if1 .taken))
-    ∙ sym (c .before .before .before .before .loop .inv .1)
-
-add-i : tie.Need-add-i Inv-loop μ-loop
-add-i c = search needs
-
-loop-less : tie.Need-loop-less Inv-loop μ-loop
-loop-less c = search needs
+    ∙ sym (at-loop .loop .inv .1)
 
 loop-again : tie.Need-loop-again Inv-loop μ-loop
 loop-again c =
-    let a = c .before .before .before .before .before .before .before .before .args in (
+    let after-entry-at = c .before .before in
+    let after-loop-test = after-entry-at .before in
+    let at-loop = after-loop-test .before in
+    let start = at-loop .before .before .before .before in
+    let a = start .args in (
       omega arith,
-      c .before .before .before .before .loop .inv .1
+      at-loop .loop .inv .1
           ∙ all-on (inGoal (setsIn (a .goal .now))) _ _ _ _
-          (entries-next (a .count) (a .trues .now) (a .falses .now) (c .before .before .before .before .loop .i) (c .before .before .entry-at .result) (c .before .before .before .loop-test .taken) (c .before .before .entry-at .ensures))
+          (entries-next (a .count) (a .trues .now) (a .falses .now) (at-loop .loop .i) (after-entry-at .entry-at .result)
+          (after-loop-test .loop-test .taken) (after-entry-at .entry-at .ensures))
           (c .before .in-goal .ensures) (not-false (c .before .in-goal .result) (c .if1 .left)),
     )
 
 returns-2 : tie.Need-returns-2 Inv-loop μ-loop
 returns-2 c =
     let a = c .before .before .before .before .before .args in
-    sym (c .before .loop .inv .1 ∙ ap (allOf (inGoal (setsIn (a .goal .now)))) (entries-done (a .count) (a .trues .now) (a .falses .now) (c .before .loop .i) (c .loop-test .left)))
+    sym (c .before .loop .inv .1 ∙ ap (allOf (inGoal (setsIn (a .goal .now))))
+    (entries-done (a .count) (a .trues .now) (a .falses .now) (c .before .loop .i) (c .loop-test .left)))
 
 pub all-in-goal-spec : {M : Type 1} → statement M
 all-in-goal-spec =
@@ -65,10 +65,10 @@ all-in-goal-spec =
     Inv-loop
     μ-loop
     loop-holds
-    entry-at-requires
-    in-goal-requires
+    (λ c κs. search needs)
+    (λ c κs. search needs)
     returns
-    add-i
-    loop-less
+    (λ c. search needs)
+    (λ c. search needs)
     loop-again
     returns-2)

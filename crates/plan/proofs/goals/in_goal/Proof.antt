@@ -27,34 +27,36 @@ loop-holds : tie.Need-loop-holds Inv-loop μ-loop
 loop-holds c = (c .count-of .ensures, refl)
 
 set-at-requires : tie.Need-set-at-requires Inv-loop μ-loop
-set-at-requires c κs = let z = c .before .before .before .before in omega (arith, z .pre .0, z .pre .1, c .before .loop .inv .0, c .loop-test .taken)
-
-shares-requires : tie.Need-shares-requires Inv-loop μ-loop
-shares-requires c κs = search needs
+set-at-requires c κs = let z = c .before .before .before .before in omega
+    (arith, z .pre .0, z .pre .1, c .before .loop .inv .0, c .loop-test .taken)
 
 returns : tie.Need-returns Inv-loop μ-loop
 unfolding setsIn inGoal
 returns c =
-    let o = c .before .before .before .before in
+    let after-set-at = c .before .before in
+    let after-loop-test = after-set-at .before in
+    let after-4 = after-loop-test .before in
+    let o = after-4 in
     let a = o .before .before .before .args in
-    all-stop (λ x. meets x (a .d)) _ _ _ _ (sets-step (getD (a .goal .now) 0 0) (drop 1 (a .goal .now)) (o .loop .i) _ (omega (arith, o .loop .inv .0, c .before .before .before .loop-test .taken)) (c .before .before .set-at .ensures))
+    all-stop (λ x. meets x (a .d)) _ _ _ _
+    (sets-step (getD (a .goal .now) 0 0) (drop 1 (a .goal .now)) (o .loop .i) _
+    (omega (arith, o .loop .inv .0, after-loop-test .loop-test .taken)) (after-set-at .set-at .ensures))
     (c .before .shares .ensures) (not-true (c .before .shares .result) (c .if1 .taken))
     ∙ sym (o .loop .inv .1)
-
-add-i : tie.Need-add-i Inv-loop μ-loop
-add-i c = search needs
-
-loop-less : tie.Need-loop-less Inv-loop μ-loop
-loop-less c = search needs
 
 loop-again : tie.Need-loop-again Inv-loop μ-loop
 unfolding setsIn inGoal
 loop-again c =
-    let o = c .before .before .before .before in
+    let after-set-at = c .before .before in
+    let after-loop-test = after-set-at .before in
+    let after-4 = after-loop-test .before in
+    let o = after-4 in
     let a = o .before .before .before .args in (
       o .loop .inv .0,
       o .loop .inv .1
-          ∙ all-on (λ x. meets x (a .d)) _ _ _ _ (sets-step (getD (a .goal .now) 0 0) (drop 1 (a .goal .now)) (o .loop .i) _ (omega (arith, o .loop .inv .0, c .before .before .before .loop-test .taken)) (c .before .before .set-at .ensures))
+          ∙ all-on (λ x. meets x (a .d)) _ _ _ _
+          (sets-step (getD (a .goal .now) 0 0) (drop 1 (a .goal .now)) (o .loop .i) _
+          (omega (arith, o .loop .inv .0, after-loop-test .loop-test .taken)) (after-set-at .set-at .ensures))
           (c .before .shares .ensures) (not-false (c .before .shares .result) (c .if1 .left)),
     )
 
@@ -63,7 +65,8 @@ unfolding setsIn inGoal
 returns-2 c =
     let o = c .before in
     let a = o .before .before .before .args in
-    sym (o .loop .inv .1 ∙ ap (allOf (λ x. meets x (a .d))) (sets-end (getD (a .goal .now) 0 0) (drop 1 (a .goal .now)) (o .loop .i) (omega (arith, o .loop .inv .0, c .loop-test .left))))
+    sym (o .loop .inv .1 ∙ ap (allOf (λ x. meets x (a .d)))
+    (sets-end (getD (a .goal .now) 0 0) (drop 1 (a .goal .now)) (o .loop .i) (omega (arith, o .loop .inv .0, c .loop-test .left))))
 
 pub in-goal-spec : {M : Type 1} → statement M
 in-goal-spec =
@@ -74,9 +77,9 @@ in-goal-spec =
     count-of-requires
     loop-holds
     set-at-requires
-    shares-requires
+    (λ c κs. search needs)
     returns
-    add-i
-    loop-less
+    (λ c. search needs)
+    (λ c. search needs)
     loop-again
     returns-2)

@@ -56,41 +56,50 @@ abbrev with-plan : ℕ → ℕ → Statement
 with-plan a b = record { problem = two; plan = a ∷ b ∷ [] }
 
 says-01 : sheetOf (lampSheet 0 1) ≡ accepted (with-plan 0 1)
-unfolding sheetOf atEnd read byteAt sheet facts plan goal actions clauses action effect clause literals setOf ascending listOf numberFault literalFault countFault times judged _>>=_ problemOf noLiteral join literal single sign
+unfolding sheetOf atEnd read byteAt sheet facts plan goal actions clauses action effect clause literals setOf ascending listOf numberFault
+    literalFault countFault times judged _>>=_ problemOf noLiteral join literal single sign
 says-01 = refl
 
 says-10 : sheetOf (lampSheet 1 0) ≡ accepted (with-plan 1 0)
-unfolding sheetOf atEnd read byteAt sheet facts plan goal actions clauses action effect clause literals setOf ascending listOf numberFault literalFault countFault times judged _>>=_ problemOf noLiteral join literal single sign
+unfolding sheetOf atEnd read byteAt sheet facts plan goal actions clauses action effect clause literals setOf ascending listOf numberFault
+    literalFault countFault times judged _>>=_ problemOf noLiteral join literal single sign
 says-10 = refl
 
 starts : startTable 128 two ≡ table (set 4 0 ∷ [])
 unfolding startTable startClauses grow
 starts = refl
 
-came-01 : (runFrom 128 (two .goal) 0 (actionsOf two (0 ∷ 1 ∷ [])) (set 4 0 ∷ []) ≡ reached) × (lastTable 128 (actionsOf two (0 ∷ 1 ∷ [])) (set 4 0 ∷ []) ≡ set 3 4 ∷ [])
-unfolding actionsOf actionAt stepTable split missing image put within join clash consistent flip literal single sign replace noLiteral members membersFrom contains mem has inGoal meets
+came-01 : (runFrom 128 (two .goal) 0 (actionsOf two (0 ∷ 1 ∷ [])) (set 4 0 ∷ []) ≡ reached)
+    × (lastTable 128 (actionsOf two (0 ∷ 1 ∷ [])) (set 4 0 ∷ []) ≡ set 3 4 ∷ [])
+unfolding actionsOf actionAt stepTable split missing image put within join clash consistent flip literal single sign replace noLiteral
+    members membersFrom contains mem has inGoal meets
 came-01 = (refl, refl)
 
-came-10 : (runFrom 128 (two .goal) 0 (actionsOf two (1 ∷ 0 ∷ [])) (set 4 0 ∷ []) ≡ reached) × (lastTable 128 (actionsOf two (1 ∷ 0 ∷ [])) (set 4 0 ∷ []) ≡ set 3 4 ∷ [])
-unfolding actionsOf actionAt stepTable split missing image put within join clash consistent flip literal single sign replace noLiteral members membersFrom contains mem has inGoal meets
+came-10 : (runFrom 128 (two .goal) 0 (actionsOf two (1 ∷ 0 ∷ [])) (set 4 0 ∷ []) ≡ reached)
+    × (lastTable 128 (actionsOf two (1 ∷ 0 ∷ [])) (set 4 0 ∷ []) ≡ set 3 4 ∷ [])
+unfolding actionsOf actionAt stepTable split missing image put within join clash consistent flip literal single sign replace noLiteral
+    members membersFrom contains mem has inGoal meets
 came-10 = (refl, refl)
 
 given-01 : runOf (sheetOf (lampSheet 0 1)) 65 ≡ record { verdict = verdictOf reached; table = tableOf (set 3 4 ∷ []) }
 given-01 =
     run-call (lampSheet 0 1) (with-plan 0 1) says-01 65 (omega arith) (set 4 0 ∷ []) starts
-    ∙ ap₂ {C = RunAnswer} (λ (v : Verdict) (u : List Literals). record { verdict = verdictOf v; table = tableOf u }) (came-01 .0) (came-01 .1)
+    ∙ ap₂ {C = RunAnswer} (λ (v : Verdict) (u : List Literals). record { verdict = verdictOf v; table = tableOf u }) (came-01 .0)
+    (came-01 .1)
 
 given-10 : runOf (sheetOf (lampSheet 1 0)) 65 ≡ record { verdict = verdictOf reached; table = tableOf (set 3 4 ∷ []) }
 given-10 =
     run-call (lampSheet 1 0) (with-plan 1 0) says-10 65 (omega arith) (set 4 0 ∷ []) starts
-    ∙ ap₂ {C = RunAnswer} (λ (v : Verdict) (u : List Literals). record { verdict = verdictOf v; table = tableOf u }) (came-10 .0) (came-10 .1)
+    ∙ ap₂ {C = RunAnswer} (λ (v : Verdict) (u : List Literals). record { verdict = verdictOf v; table = tableOf u }) (came-10 .0)
+    (came-10 .1)
 
 -- the picture of the last table: the lamp out, f, g
 abbrev drawn : List Literals
 drawn = set 0 4 ∷ set 1 0 ∷ set 2 0 ∷ []
 
 shown : picture (entries (tableOf (set 3 4 ∷ []))) ≡ some drawn
-unfolding entries tableOf entriesOf pairs pad has mem within consistent join single sign literal contains membersFrom members put units unions fold primes precedes insert sortOnto sort picture
+unfolding entries tableOf entriesOf pairs pad has mem within consistent join single sign literal contains membersFrom members put units
+    unions fold primes precedes insert sortOnto sort picture
 shown = refl
 
 -- both are reached
@@ -99,11 +108,13 @@ unfolding verdictOf
 reached-by r e = ap (λ (q : RunAnswer). q .verdict) e
 
 -- the final picture of a run with this table
-final : (r : RunAnswer) → r ≡ record { verdict = verdictOf reached; table = tableOf (set 3 4 ∷ []) } → finalPicture r ≡ some (pictureBytes drawn)
+final : (r : RunAnswer) → r ≡ record { verdict = verdictOf reached; table = tableOf (set 3 4 ∷ []) }
+    → finalPicture r ≡ some (pictureBytes drawn)
 unfolding finalPicture finalClauses runRefused refusedVerdict verdictOf
 final r e = ap finalPicture e ∙ ap (λ (o : Option (List Literals)). andThen o (λ c. some (pictureBytes c))) shown
 
-final-of : (a b : ℕ) → Says (lampSheet a b) (with-plan a b) → runOf (sheetOf (lampSheet a b)) 65 ≡ record { verdict = verdictOf reached; table = tableOf (set 3 4 ∷ []) }
+final-of : (a b : ℕ) → Says (lampSheet a b) (with-plan a b) → runOf (sheetOf (lampSheet a b)) 65 ≡ record
+    { verdict = verdictOf reached; table = tableOf (set 3 4 ∷ []) }
     → finalOf (lampSheet a b) 65 ≡ some (pictureBytes drawn)
 final-of a b says e = final-is (lampSheet a b) (with-plan a b) says 65 ∙ final (runOf (sheetOf (lampSheet a b)) 65) e
 

@@ -33,8 +33,10 @@ abbrev pub first : List Literals
 first = set 1 6 ∷ set 2 5 ∷ set 4 3 ∷ []
 
 -- the answer of the call
-came : (runFrom 128 (paper .problem .goal) 0 (actionsOf (paper .problem) (paper .plan)) first ≡ reached) × (lastTable 128 (actionsOf (paper .problem) (paper .plan)) first ≡ set 1 6 ∷ [])
-unfolding actionsOf actionAt stepTable split missing image put within join clash consistent flip literal single sign replace noLiteral members membersFrom contains mem has inGoal meets
+came : (runFrom 128 (paper .problem .goal) 0 (actionsOf (paper .problem) (paper .plan)) first ≡ reached)
+    × (lastTable 128 (actionsOf (paper .problem) (paper .plan)) first ≡ set 1 6 ∷ [])
+unfolding actionsOf actionAt stepTable split missing image put within join clash consistent flip literal single sign replace noLiteral
+    members membersFrom contains mem has inGoal meets
 came = (refl, refl)
 
 pub given : runOf (sheetOf printed) 65 ≡ record { verdict = verdictOf reached; table = tableOf (set 1 6 ∷ []) }
@@ -43,7 +45,8 @@ given =
     ∙ ap₂ {C = RunAnswer} (λ (v : Verdict) (u : List Literals). record { verdict = verdictOf v; table = tableOf u }) (came .0) (came .1)
 
 shown : picture (entries (tableOf (set 1 6 ∷ []))) ≡ some (set 0 2 ∷ set 0 4 ∷ set 1 0 ∷ [])
-unfolding entries tableOf entriesOf pairs pad has mem within consistent join single sign literal contains membersFrom members put units unions fold primes precedes insert sortOnto sort picture
+unfolding entries tableOf entriesOf pairs pad has mem within consistent join single sign literal contains membersFrom members put units
+    unions fold primes precedes insert sortOnto sort picture
 shown = refl
 
 in-first : T (within (set 1 6) (state 3 1))
@@ -70,7 +73,14 @@ met =
       first = paper;
       second = paper;
       sheets = record { first = bench .says; second = bench .says; alike = refl };
-      world = (1, (omega arith, start-table (paper .problem) (paper-proper .problem) 128 first (bench .M1) .1 1 (omega arith) .0 (inl in-first)));
+      world = (
+        1,
+        (
+          omega arith,
+          start-table (paper .problem) (paper-proper .problem) 128 first (bench .M1) .1 1 (omega arith) .0
+              (inl in-first),
+        ),
+      );
       exchanged = sym stays;
       reached = (reached-here, reached-here);
       pictures = (pictureBytes (set 0 2 ∷ set 0 4 ∷ set 1 0 ∷ []), pictured, pictured);

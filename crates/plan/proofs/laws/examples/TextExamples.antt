@@ -59,10 +59,12 @@ paperRows = row 0 3 4 ∷ row 1 2 3 ∷ row 2 1 3 ∷ []
 
 -- its rows
 paper-rows : rowsFrom 128 0 (actionsOf (paper .problem) (paper .plan)) first ≡ paperRows
-unfolding rowOf actionsOf actionAt stepTable split missing image put within join clash consistent flip literal single sign replace noLiteral members membersFrom contains mem has units unions fold primes precedes insert sortOnto sort picture sizeOf
+unfolding rowOf actionsOf actionAt stepTable split missing image put within join clash consistent flip literal single sign replace
+    noLiteral members membersFrom contains mem has units unions fold primes precedes insert sortOnto sort picture sizeOf
 paper-rows = refl
 
 -- its whole output
 pub paper-output : outputOf (sheetOf printed) ≡ ascii "place entries clauses\n0 3 4\n1 2 3\n2 1 3\nreached\n"
 unfolding outputOf verdictOf textOf refusedVerdict lastLine rowsText rowText clausesText decimal
-paper-output = ap₂ textOf (ap (λ (r : RunAnswer). r .verdict) given) (rows-call printed paper (bench .says) 65 (omega arith) first (bench .M1) ∙ paper-rows)
+paper-output = ap₂ textOf (ap (λ (r : RunAnswer). r .verdict) given)
+    (rows-call printed paper (bench .says) 65 (omega arith) first (bench .M1) ∙ paper-rows)

@@ -39,11 +39,13 @@ results-among : (es : List Effect) (x : Literals) → Within (results es x) (res
 results-among [] x s p m = m
 results-among (e ∷ es) x s p m = go (within (e .condition) x) m (results-among es x s p)
   where
-    go : (b : Bool) → mem (addResult b (e .result) (results es x)) s p ≡ true → (mem (results es x) s p ≡ true → mem (resultsBy es) s p ≡ true)
+    go : (b : Bool) → mem (addResult b (e .result) (results es x)) s p ≡ true
+        → (mem (results es x) s p ≡ true → mem (resultsBy es) s p ≡ true)
         → mem (join (e .result) (resultsBy es)) s p ≡ true
     go true m k =
         mem-join (e .result) (resultsBy es) s p
-        ∙ ⊎-elim (or-left (mem (e .result) s p) (mem (resultsBy es) s p)) (λ h. or-right (mem (e .result) s p) (mem (resultsBy es) s p) (k h))
+        ∙ ⊎-elim (or-left (mem (e .result) s p) (mem (resultsBy es) s p))
+        (λ h. or-right (mem (e .result) s p) (mem (resultsBy es) s p) (k h))
         (or-cases (mem (e .result) s p) (mem (results es x) s p) (sym (mem-join (e .result) (results es x) s p) ∙ m))
     go false m k = mem-join (e .result) (resultsBy es) s p ∙ or-right (mem (e .result) s p) (mem (resultsBy es) s p) (k m)
 
@@ -65,7 +67,8 @@ same-results : (es : List Effect) (x r : Literals) → bitAnd (readBy es) (names
 same-results [] x r h = refl
 same-results (e ∷ es) x r h =
     ap₂ (λ (b : Bool) (y : Literals). addResult b (e .result) y)
-    (within-other x (e .condition) r (fewer (names (e .condition)) (readBy (e ∷ es)) (names r) (or-sub-l (names (e .condition)) (readBy es)) h))
+    (within-other x (e .condition) r
+    (fewer (names (e .condition)) (readBy (e ∷ es)) (names r) (or-sub-l (names (e .condition)) (readBy es)) h))
     (same-results es x r (fewer (readBy es) (readBy (e ∷ es)) (names r) (or-sub-r (names (e .condition)) (readBy es)) h))
 
 -- ---- moves that do not touch
@@ -84,11 +87,13 @@ module _ (a b : Action) (f : Unseen a b) (x : Literals) where
 
   unseen-results : results (b .effects) (replace x ra) ≡ results (b .effects) x
   unfolding reads
-  unseen-results = same-results (b .effects) x ra (fewer (readBy (b .effects)) (reads b) (names ra) (or-sub-r (names (b .precondition)) (readBy (b .effects))) unread)
+  unseen-results = same-results (b .effects) x ra
+      (fewer (readBy (b .effects)) (reads b) (names ra) (or-sub-r (names (b .precondition)) (readBy (b .effects))) unread)
 
   unseen-precondition : within (b .precondition) (replace x ra) ≡ within (b .precondition) x
   unfolding reads
-  unseen-precondition = within-other x (b .precondition) ra (fewer (names (b .precondition)) (reads b) (names ra) (or-sub-l (names (b .precondition)) (readBy (b .effects))) unread)
+  unseen-precondition = within-other x (b .precondition) ra
+      (fewer (names (b .precondition)) (reads b) (names ra) (or-sub-l (names (b .precondition)) (readBy (b .effects))) unread)
 
 -- both moves, in one world
 module _ (n : ℕ) (a b : Action) (ha : ProperAction n a) (f : Unseen a b) (w : ℕ) (l : w < 2 ^ n) where
@@ -101,7 +106,8 @@ module _ (n : ℕ) (a b : Action) (ha : ProperAction n a) (f : Unseen a b) (w : 
       ap (λ (y : Literals). within (b .precondition) y && consistent (results (b .effects) y)) (sym (after-world n a ha w l t .1))
       ∙ ap₂ (λ (c : Bool) (r : Literals). c && consistent r) (unseen-precondition a b f st) (unseen-results a b f st)
 
-  then-after : T (takes n a w) → worldAfter n b (worldAfter n a w) ≡ (replace (replace st (results (a .effects) st)) (results (b .effects) st)) .trues
+  then-after : T (takes n a w) → worldAfter n b (worldAfter n a w)
+      ≡ (replace (replace st (results (a .effects) st)) (results (b .effects) st)) .trues
   unfolding worldAfter
   then-after t =
       ap (λ (y : Literals). (replace y (results (b .effects) y)) .trues) (sym (after-world n a ha w l t .1))
@@ -114,12 +120,14 @@ module _ (n : ℕ) (a b : Action) (ha : ProperAction n a) (f : Unseen a b) (w : 
   in-turn = go (takes n a w) refl
     where
       go : (t : Bool) → takes n a w ≡ t
-          → andThen (when t (worldAfter n a w)) (stepWorld n b) ≡ when (t && takes n b w) ((replace (replace st (results (a .effects) st)) (results (b .effects) st)) .trues)
+          → andThen (when t (worldAfter n a w)) (stepWorld n b)
+          ≡ when (t && takes n b w) ((replace (replace st (results (a .effects) st)) (results (b .effects) st)) .trues)
       go false e = refl
       go true e = ap₂ when (then-takes (true-T (takes n a w) e)) (then-after (true-T (takes n a w) e))
 
 -- the results of a and of b do not clash, and neither reads what the other changes
-touch-parts : (a b : Action) → touch a b ≡ false → (clash (resultsBy (a .effects)) (resultsBy (b .effects)) ≡ false) × Unseen a b × Unseen b a
+touch-parts : (a b : Action) → touch a b ≡ false → (clash (resultsBy (a .effects)) (resultsBy (b .effects)) ≡ false) × Unseen a b
+    × Unseen b a
 unfolding touch
 touch-parts a b h = (
   T-false c (or-not-l c (not x || not y) t),
@@ -171,7 +179,8 @@ commute n a b ha hb h w l =
 
     go : (s : Bool) (p : ℕ) → mem ra s p ≡ true → (t : Bool) → mem rb (not s) p ≡ t → mem rb (not s) p ≡ false
     go s p m true e =
-        absurd (true≢false (sym (results-among (b .effects) x (not s) p e) ∙ apart-of (resultsBy (a .effects)) (resultsBy (b .effects)) (k .0) s p (results-among (a .effects) x s p m)))
+        absurd (true≢false (sym (results-among (b .effects) x (not s) p e)
+        ∙ apart-of (resultsBy (a .effects)) (resultsBy (b .effects)) (k .0) s p (results-among (a .effects) x s p m)))
     go s p m false e = e
 
     apart : clash ra rb ≡ false
@@ -181,8 +190,10 @@ commute n a b ha hb h w l =
 pub touch-fewer : (a b : Action) → touchAnywhere a b ≡ false → touch a b ≡ false
 unfolding touchAnywhere spec.named
 touch-fewer a b h =
-    touch-apart a b (of-apart (resultsBy (a .effects)) (resultsBy (b .effects)) (λ s p m. go s p m (mem (resultsBy (b .effects)) (not s) p) refl))
-    (part (changed a) (reads b) (changed b) (or-sub-l (reads b) (changed b)) f) (part (changed b) (reads a) (changed a) (or-sub-l (reads a) (changed a)) g)
+    touch-apart a b (of-apart (resultsBy (a .effects)) (resultsBy (b .effects))
+    (λ s p m. go s p m (mem (resultsBy (b .effects)) (not s) p) refl))
+    (part (changed a) (reads b) (changed b) (or-sub-l (reads b) (changed b)) f)
+    (part (changed b) (reads a) (changed a) (or-sub-l (reads a) (changed a)) g)
   where
     x : Bool
     x = eqb (bitAnd (changed a) (bitOr (reads b) (changed b))) 0
@@ -202,7 +213,9 @@ touch-fewer a b h =
     part : (c d e : ℕ) → Sub d (bitOr d e) → bitAnd c (bitOr d e) ≡ 0 → bitAnd c d ≡ 0
     part c d e k q = bits.and-comm c d ∙ fewer d (bitOr d e) c k (bits.and-comm (bitOr d e) c ∙ q)
 
-    go : (s : Bool) (p : ℕ) → mem (resultsBy (a .effects)) s p ≡ true → (t : Bool) → mem (resultsBy (b .effects)) (not s) p ≡ t → mem (resultsBy (b .effects)) (not s) p ≡ false
+    go : (s : Bool) (p : ℕ) → mem (resultsBy (a .effects)) s p ≡ true → (t : Bool) → mem (resultsBy (b .effects)) (not s) p ≡ t
+        → mem (resultsBy (b .effects)) (not s) p ≡ false
     go s p m true e = unfold changed in absurd (true≢false
-        (sym (or-sub-r (reads b) (changed b) p (all-changed (b .effects) (not s) p e)) ∙ disjoint-of (changed a) (bitOr (reads b) (changed b)) f p (all-changed (a .effects) s p m)))
+        (sym (or-sub-r (reads b) (changed b) p (all-changed (b .effects) (not s) p e))
+        ∙ disjoint-of (changed a) (bitOr (reads b) (changed b)) f p (all-changed (a .effects) s p m)))
     go s p m false e = e

@@ -1,4 +1,5 @@
--- Demand 3: exchanged plans are plans on the sheet; the final picture by the picture call and by its clauses; two plans on one sheet, one what a
+-- Demand 3: exchanged plans are plans on the sheet; the final picture by the picture call and by its clauses; two plans on one sheet, one
+-- what a
 -- list of exchanges makes of the other, or any two. Assumes nothing.
 use mathlib.Core.Path.{_≡_, refl, sym, ap, subst, _∙_}
 use mathlib.Core.Bool.{Bool, true, false, cond}
@@ -47,7 +48,13 @@ use Rattle.plan.proofs.laws.runs.RunAnswers.{refused-is, taken-actions,
 -- ---- the exchanged plan is again on a sheet
 pub exchanged-sheet : (s : List ℕ) (x : Statement) → Says s x → (ks : List ℕ)
     → (r : List ℕ) × (y : Statement) × SamePlanSheet s r x y × (y .plan ≡ exchanges (actionAt (x .problem)) ks (x .plan))
-exchanged-sheet s x says ks = (encode y, y, record { first = says; second = accepted-encoding (encode y) y .1 (proper, refl); alike = refl }, refl)
+exchanged-sheet s x says ks = (
+  encode y,
+  y,
+  record
+      { first = says; second = accepted-encoding (encode y) y .1 (proper, refl); alike = refl },
+  refl,
+)
   where
     y : Statement
     y = record { problem = x .problem; plan = exchanges (actionAt (x .problem)) ks (x .plan) }
@@ -108,11 +115,13 @@ module _ (s : List ℕ) (x : Statement) (says : Says s x) (rows : ℕ) where
   unfolding finalOf
   none-full e = rw e
 
-  some-of : (c : List Literals) → drawn .answer ≡ Accepted → drawn .clauses ≡ length c → bufferOf (sheetOf s) (run .table) (replicate 2050 0) ≡ pictureBytes c ++ drop (2 + 8 * length c) (replicate 2050 0)
+  some-of : (c : List Literals) → drawn .answer ≡ Accepted → drawn .clauses ≡ length c
+      → bufferOf (sheetOf s) (run .table) (replicate 2050 0) ≡ pictureBytes c ++ drop (2 + 8 * length c) (replicate 2050 0)
       → finalOf s rows ≡ some (pictureBytes c)
   unfolding finalOf
   some-of c e f g =
-      rw (e, f, g) (ap some (ap (λ (i : ℕ). take i (pictureBytes c ++ drop (2 + 8 * length c) (replicate 2050 0))) (sym (bytes-length c)) ∙ take-append-seam (pictureBytes c) (drop (2 + 8 * length c) (replicate 2050 0))))
+      rw (e, f, g) (ap some (ap (λ (i : ℕ). take i (pictureBytes c ++ drop (2 + 8 * length c) (replicate 2050 0))) (sym (bytes-length c))
+      ∙ take-append-seam (pictureBytes c) (drop (2 + 8 * length c) (replicate 2050 0))))
 
   -- a run that is not refused
   module _ (f : runRefused run ≡ false) where
@@ -128,15 +137,18 @@ module _ (s : List ℕ) (x : Statement) (says : Says s x) (rows : ℕ) where
       where
         go : (o : Option (List Literals)) → picture (entries (run .table)) ≡ o → finalOf s rows ≡ andThen o (λ c. some (pictureBytes c))
         go none e = none-full (rw zeros at (tables.picture-21 s x says (run .table) (replicate 2050 0) .1 (fits, e)))
-        go (some c) e = some-of c (rw zeros at got) (rw zeros at (k .3) ∙ ap length same) (k .4 ∙ ap (λ (d : List Literals). pictureBytes d ++ drop (2 + 8 * length d) (replicate 2050 0)) same)
+        go (some c) e = some-of c (rw zeros at got) (rw zeros at (k .3) ∙ ap length same)
+            (k .4 ∙ ap (λ (d : List Literals). pictureBytes d ++ drop (2 + 8 * length d) (replicate 2050 0)) same)
           where
             got : pictureOf (sheetOf s) (run .table) (length {A = ℕ} (replicate 2050 0)) .answer ≡ Accepted
-            got = picture-written s x says rows enough (run-starts s x says rows f .0) (run-starts s x says rows f .1) (replicate 2050 0) (pictureBytes c)
+            got = picture-written s x says rows enough (run-starts s x says rows f .0) (run-starts s x says rows f .1) (replicate 2050 0)
+                (pictureBytes c)
                 (given-final f ∙ ap (λ (o : Option (List Literals)). andThen o (λ c. some (pictureBytes c))) e)
                 (omega (arith, zeros, bytes-length c, tables.picture-ascending (statement-proper s x says .problem .n-most) fits e .1)) .0
 
             k : (d : List Literals) × (picture (entries (run .table)) ≡ some d) × (2 + 8 * length d ≤ length {A = ℕ} (replicate 2050 0))
-                × (pictureOf (sheetOf s) (run .table) (length {A = ℕ} (replicate 2050 0)) .clauses ≡ length d) × (bufferOf (sheetOf s) (run .table) (replicate 2050 0) ≡ pictureBytes d ++ drop (2 + 8 * length d) (replicate 2050 0))
+                × (pictureOf (sheetOf s) (run .table) (length {A = ℕ} (replicate 2050 0)) .clauses ≡ length d)
+                × (bufferOf (sheetOf s) (run .table) (replicate 2050 0) ≡ pictureBytes d ++ drop (2 + 8 * length d) (replicate 2050 0))
             k = tables.picture-accepted s x says (run .table) (replicate 2050 0) .0 got .1
 
             same : k .0 ≡ c
@@ -153,9 +165,12 @@ module _ (s : List ℕ) (x : Statement) (says : Says s x) (rows : ℕ) where
   pub final-none : (finalOf s rows ≡ none) ↔ ((runRefused run ≡ true) ⊎ (drawn .answer ≡ Refused 21 0))
   final-none = (λ e. go (runRefused run) refl e, back)
     where
-      none-at : runRefused run ≡ false → finalOf s rows ≡ none → (o : Option (List Literals)) → picture (entries (run .table)) ≡ o → drawn .answer ≡ Refused 21 0
+      none-at : runRefused run ≡ false → finalOf s rows ≡ none → (o : Option (List Literals)) → picture (entries (run .table)) ≡ o
+          → drawn .answer ≡ Refused 21 0
       none-at f e none k = rw zeros at (tables.picture-21 s x says (run .table) (replicate 2050 0) .1 (fits f, k))
-      none-at f e (some c) k = absurd (Option·some-ne-none (pictureBytes c) (sym (final-given f ∙ ap (λ (o : Option (List Literals)). andThen o (λ d. some (pictureBytes d))) k) ∙ e))
+      none-at f e (some c) k = absurd
+          (Option·some-ne-none (pictureBytes c)
+          (sym (final-given f ∙ ap (λ (o : Option (List Literals)). andThen o (λ d. some (pictureBytes d))) k) ∙ e))
 
       go : (b : Bool) → runRefused run ≡ b → finalOf s rows ≡ none → (runRefused run ≡ true) ⊎ (drawn .answer ≡ Refused 21 0)
       go true f e = inl f
@@ -173,10 +188,12 @@ module _ (s : List ℕ) (x : Statement) (says : Says s x) (rows : ℕ) where
       go true f = absurd (Option·none-ne-some b (sym (none-of (none-refused f)) ∙ e))
       go false f = f
 
-  pub final-written : (b : List ℕ) → finalOf s rows ≡ some b → (buffer : List ℕ) → length b ≤ length buffer → bufferOf (sheetOf s) (run .table) buffer ≡ b ++ drop (length b) buffer
+  pub final-written : (b : List ℕ) → finalOf s rows ≡ some b → (buffer : List ℕ) → length b ≤ length buffer
+      → bufferOf (sheetOf s) (run .table) buffer ≡ b ++ drop (length b) buffer
   final-written b e buffer l =
       let f = final-given-run b e in
-      picture-written s x says rows (rows-enough s x says rows f) (run-starts s x says rows f .0) (run-starts s x says rows f .1) buffer b (sym final-is ∙ e) l .1
+      picture-written s x says rows (rows-enough s x says rows f) (run-starts s x says rows f .0) (run-starts s x says rows f .1) buffer b
+      (sym final-is ∙ e) l .1
 
 -- ---- two plans on one sheet, by the clauses of their final pictures
 module _ (s₁ s₂ : List ℕ) (x y : Statement) (same : SamePlanSheet s₁ s₂ x y) (rows₁ rows₂ : ℕ) (h₁ : 65 ≤ rows₁) (h₂ : 65 ≤ rows₂) where
@@ -206,14 +223,16 @@ module _ (s₁ s₂ : List ℕ) (x y : Statement) (same : SamePlanSheet s₁ s�
       → (w : ℕ) → w < 2 ^ σ .n → Starting σ w → (ks : List ℕ) → y .plan ≡ exchangesBy touches (actionAt σ) ks (x .plan)
       → runFull run₁ ≡ false → runFull run₂ ≡ false → SameEnd run₁ run₂
   exchange-runs-by touches commutes w l st ks e f₁ f₂ =
-      called-class σ (hσ .n-most) (actionsOf σ (x .plan)) (actionsOf σ (y .plan)) run₁ run₂ (called-unless-full s₁ x (same .first) rows₁ h₁ w l st f₁)
+      called-class σ (hσ .n-most) (actionsOf σ (x .plan)) (actionsOf σ (y .plan)) run₁ run₂
+      (called-unless-full s₁ x (same .first) rows₁ h₁ w l st f₁)
       (called-unless-full s₂ other second rows₂ h₂ w l st f₂) alike f₁ f₂
     where
       alike : (v : ℕ) → v < 2 ^ σ .n → runWorld (σ .n) (actionsOf σ (y .plan)) v ≡ runWorld (σ .n) (actionsOf σ (x .plan)) v
       alike v lv = unfold actionsOf in
           ap (λ (q : List ℕ). runWorld (σ .n) (actionsOf σ q) v) e
           ∙ exchanges-world touches (actionAt σ) (σ .n) commutes ks (x .plan)
-          (all-map (λ i. i < length (σ .actions)) (λ i. ProperAction (σ .n) (actionAt σ i)) (at-proper σ hσ) (x .plan) (statement-proper s₁ x (same .first) .plan .each)) v lv
+          (all-map (λ i. i < length (σ .actions)) (λ i. ProperAction (σ .n) (actionAt σ i)) (at-proper σ hσ) (x .plan)
+          (statement-proper s₁ x (same .first) .plan .each)) v lv
 
   -- TH7: the second plan is what a list of exchanges makes of the first
   pub exchange-runs : (w : ℕ) → w < 2 ^ σ .n → Starting σ w → (ks : List ℕ) → y .plan ≡ exchanges (actionAt σ) ks (x .plan)
@@ -221,48 +240,61 @@ module _ (s₁ s₂ : List ℕ) (x y : Statement) (same : SamePlanSheet s₁ s�
   exchange-runs w l st ks e = exchange-runs-by touch (commute (σ .n)) w l st ks e
 
   -- TH9: for any two plans and any verdicts
-  pub pictures-both-ways : runRefused run₁ ≡ false → runRefused run₂ ≡ false → (b₁ b₂ : List ℕ) → finalPicture run₁ ≡ some b₁ → finalPicture run₂ ≡ some b₂
+  pub pictures-both-ways : runRefused run₁ ≡ false → runRefused run₂ ≡ false → (b₁ b₂ : List ℕ) → finalPicture run₁ ≡ some b₁
+      → finalPicture run₂ ≡ some b₂
       → (b₁ ≡ b₂) ↔ ((v : ℕ) → v < 2 ^ σ .n
-      → Comes (σ .n) (Starting σ) (takenBy (run₁ .verdict) (actionsOf σ (x .plan))) v ↔ Comes (σ .n) (Starting σ) (takenBy (run₂ .verdict) (actionsOf σ (y .plan))) v)
+      → Comes (σ .n) (Starting σ) (takenBy (run₁ .verdict) (actionsOf σ (x .plan))) v
+      ↔ Comes (σ .n) (Starting σ) (takenBy (run₂ .verdict) (actionsOf σ (y .plan))) v)
   pictures-both-ways f₁ f₂ b₁ b₂ q₁ q₂ =
-      called-both-ways σ (hσ .n-most) (actionsOf σ (x .plan)) (actionsOf σ (y .plan)) run₁ run₂ (called s₁ x (same .first) rows₁ h₁ f₁) (called s₂ other second rows₂ h₂ f₂) b₁ b₂ q₁ q₂
+      called-both-ways σ (hσ .n-most) (actionsOf σ (x .plan)) (actionsOf σ (y .plan)) run₁ run₂ (called s₁ x (same .first) rows₁ h₁ f₁)
+      (called s₂ other second rows₂ h₂ f₂) b₁ b₂ q₁ q₂
 
 -- ---- two plans on one sheet, by what the picture call writes
 module _ (s₁ s₂ : List ℕ) (x y : Statement) (same : SamePlanSheet s₁ s₂ x y) (rows₁ rows₂ : ℕ) where
-  module _ (w : ℕ) (st : Starts (x .problem) w) (ks : List ℕ) (e : y .plan ≡ exchanges (actionAt (x .problem)) ks (x .plan)) (h₁ : 65 ≤ rows₁) (h₂ : 65 ≤ rows₂)
+  module _ (w : ℕ) (st : Starts (x .problem) w) (ks : List ℕ) (e : y .plan ≡ exchanges (actionAt (x .problem)) ks (x .plan))
+      (h₁ : 65 ≤ rows₁) (h₂ : 65 ≤ rows₂)
       (f₁ : runFull (runOf (sheetOf s₁) rows₁) ≡ false) (f₂ : runFull (runOf (sheetOf s₂) rows₂) ≡ false) where
     ends : SameEnd (runOf (sheetOf s₁) rows₁) (runOf (sheetOf s₂) rows₂)
     ends = exchange-runs s₁ s₂ x y same rows₁ rows₂ h₁ h₂ w (st .0) (st .1) ks e f₁ f₂
 
-    pub exchange-class : (c : Class) × (classOf (runOf (sheetOf s₁) rows₁ .verdict) ≡ some c) × (classOf (runOf (sheetOf s₂) rows₂ .verdict) ≡ some c)
+    pub exchange-class : (c : Class) × (classOf (runOf (sheetOf s₁) rows₁ .verdict) ≡ some c)
+        × (classOf (runOf (sheetOf s₂) rows₂ .verdict) ≡ some c)
     exchange-class = (ends .class, ends .first, ends .second)
 
     pub exchange-pictures : (classOf (runOf (sheetOf s₁) rows₁ .verdict) ≡ some isStopped → ⊥)
         → (b₁ b₂ : List ℕ) → finalOf s₁ rows₁ ≡ some b₁ → finalOf s₂ rows₂ ≡ some b₂ → b₁ ≡ b₂
     exchange-pictures g b₁ b₂ q₁ q₂ =
-        ends .pictures (λ i. g (ends .first ∙ ap some i)) b₁ b₂ (sym (final-is s₁ x (same .first) rows₁) ∙ q₁) (sym (final-is s₂ y (same .second) rows₂) ∙ q₂)
+        ends .pictures (λ i. g (ends .first ∙ ap some i)) b₁ b₂ (sym (final-is s₁ x (same .first) rows₁) ∙ q₁)
+        (sym (final-is s₂ y (same .second) rows₂) ∙ q₂)
 
   -- the worlds, by the moves of either problem
-  becomes : (v : ℕ) → Comes (x .problem .n) (Starting (x .problem)) (takenBy (runOf (sheetOf s₂) rows₂ .verdict) (actionsOf (x .problem) (y .plan))) v ≡ Becomes s₂ y rows₂ v
+  becomes : (v : ℕ) → Comes (x .problem .n) (Starting (x .problem))
+      (takenBy (runOf (sheetOf s₂) rows₂ .verdict) (actionsOf (x .problem) (y .plan))) v ≡ Becomes s₂ y rows₂ v
   becomes v =
-      ap (λ (a : List Action). Comes (x .problem .n) (Starting (x .problem)) a v) (sym (taken-actions (x .problem) (runOf (sheetOf s₂) rows₂ .verdict) (y .plan)))
+      ap (λ (a : List Action). Comes (x .problem .n) (Starting (x .problem)) a v)
+      (sym (taken-actions (x .problem) (runOf (sheetOf s₂) rows₂ .verdict) (y .plan)))
       ∙ ap (λ (p : Problem). Comes (p .n) (Starting p) (actionsOf p (taken s₂ y rows₂)) v) (same .alike)
 
-  become : (v : ℕ) → Comes (x .problem .n) (Starting (x .problem)) (takenBy (runOf (sheetOf s₁) rows₁ .verdict) (actionsOf (x .problem) (x .plan))) v ≡ Becomes s₁ x rows₁ v
-  become v = ap (λ (a : List Action). Comes (x .problem .n) (Starting (x .problem)) a v) (sym (taken-actions (x .problem) (runOf (sheetOf s₁) rows₁ .verdict) (x .plan)))
+  become : (v : ℕ) → Comes (x .problem .n) (Starting (x .problem))
+      (takenBy (runOf (sheetOf s₁) rows₁ .verdict) (actionsOf (x .problem) (x .plan))) v ≡ Becomes s₁ x rows₁ v
+  become v = ap (λ (a : List Action). Comes (x .problem .n) (Starting (x .problem)) a v)
+      (sym (taken-actions (x .problem) (runOf (sheetOf s₁) rows₁ .verdict) (x .plan)))
 
   pub pictures-worlds : (b₁ b₂ : List ℕ) → finalOf s₁ rows₁ ≡ some b₁ → finalOf s₂ rows₂ ≡ some b₂
       → (b₁ ≡ b₂) ↔ ((v : ℕ) → v < 2 ^ x .problem .n → Becomes s₁ x rows₁ v ↔ Becomes s₂ y rows₂ v)
   pictures-worlds b₁ b₂ q₁ q₂ = (
     λ e v l. subst (λ (A : Type 0). A ↔ Becomes s₂ y rows₂ v) (become v) (subst (λ (B : Type 0). One v ↔ B) (becomes v) (law .0 e v l)),
-    λ h. law .1 (λ v l. subst (λ (A : Type 0). A ↔ Two v) (sym (become v)) (subst (λ (B : Type 0). Becomes s₁ x rows₁ v ↔ B) (sym (becomes v)) (h v l))),
+    λ h. law .1 (λ v l. subst (λ (A : Type 0). A ↔ Two v) (sym (become v))
+        (subst (λ (B : Type 0). Becomes s₁ x rows₁ v ↔ B) (sym (becomes v)) (h v l))),
   )
     where
       One : ℕ → Type 0
-      One v = Comes (x .problem .n) (Starting (x .problem)) (takenBy (runOf (sheetOf s₁) rows₁ .verdict) (actionsOf (x .problem) (x .plan))) v
+      One v = Comes (x .problem .n) (Starting (x .problem))
+          (takenBy (runOf (sheetOf s₁) rows₁ .verdict) (actionsOf (x .problem) (x .plan))) v
 
       Two : ℕ → Type 0
-      Two v = Comes (x .problem .n) (Starting (x .problem)) (takenBy (runOf (sheetOf s₂) rows₂ .verdict) (actionsOf (x .problem) (y .plan))) v
+      Two v = Comes (x .problem .n) (Starting (x .problem))
+          (takenBy (runOf (sheetOf s₂) rows₂ .verdict) (actionsOf (x .problem) (y .plan))) v
 
       r₁ : runRefused (runOf (sheetOf s₁) rows₁) ≡ false
       r₁ = final-given-run s₁ x (same .first) rows₁ b₁ q₁
@@ -271,5 +303,6 @@ module _ (s₁ s₂ : List ℕ) (x y : Statement) (same : SamePlanSheet s₁ s�
       r₂ = final-given-run s₂ y (same .second) rows₂ b₂ q₂
 
       law : (b₁ ≡ b₂) ↔ ((v : ℕ) → v < 2 ^ x .problem .n → One v ↔ Two v)
-      law = pictures-both-ways s₁ s₂ x y same rows₁ rows₂ (rows-enough s₁ x (same .first) rows₁ r₁) (rows-enough s₂ y (same .second) rows₂ r₂) r₁ r₂ b₁ b₂
+      law = pictures-both-ways s₁ s₂ x y same rows₁ rows₂ (rows-enough s₁ x (same .first) rows₁ r₁)
+          (rows-enough s₂ y (same .second) rows₂ r₂) r₁ r₂ b₁ b₂
           (sym (final-is s₁ x (same .first) rows₁) ∙ q₁) (sym (final-is s₂ y (same .second) rows₂) ∙ q₂)

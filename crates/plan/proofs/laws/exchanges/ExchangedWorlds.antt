@@ -17,11 +17,13 @@ pub run-below : (n : ℕ) (plan : List Action) → All (ProperAction n) plan →
 run-below n [] h w v l e = rw (← Option·some-injective w v e) l
 run-below n (a ∷ plan) h w v l e = go (stepWorld n a w) refl e (λ u. run-below n plan (h .1) u v)
   where
-    go : (o : Option ℕ) → stepWorld n a w ≡ o → andThen o (runWorld n plan) ≡ some v → ((u : ℕ) → u < 2 ^ n → runWorld n plan u ≡ some v → v < 2 ^ n) → v < 2 ^ n
+    go : (o : Option ℕ) → stepWorld n a w ≡ o → andThen o (runWorld n plan) ≡ some v
+        → ((u : ℕ) → u < 2 ^ n → runWorld n plan u ≡ some v → v < 2 ^ n) → v < 2 ^ n
     go none k q ih = absurd (Option·none-ne-some v q)
     go (some u) k q ih = ih u (step-below n a (h .0) w u l k) q
 
-then-assoc : {A B C : Type 0} (o : Option A) (f : A → Option B) (g : B → Option C) → andThen (andThen o f) g ≡ andThen o (λ v. andThen (f v) g)
+then-assoc : {A B C : Type 0} (o : Option A) (f : A → Option B) (g : B → Option C)
+    → andThen (andThen o f) g ≡ andThen o (λ v. andThen (f v) g)
 then-assoc none f g = refl
 then-assoc (some v) f g = refl
 
@@ -87,4 +89,5 @@ module _ (touches : Action → Action → Bool) (f : ℕ → Action) where
         → runWorld n (map f (exchangesBy touches f ks plan)) w ≡ runWorld n (map f plan) w
     exchanges-world [] plan h w l = refl
     exchanges-world (k ∷ ks) plan h w l =
-        exchanges-world ks (exchangeBy touches f k plan) (exchange-all (λ i. ProperAction n (f i)) k plan h) w l ∙ exchange-world k plan h w l
+        exchanges-world ks (exchangeBy touches f k plan) (exchange-all (λ i. ProperAction n (f i)) k plan h) w l
+        ∙ exchange-world k plan h w l

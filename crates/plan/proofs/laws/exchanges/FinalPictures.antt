@@ -29,7 +29,8 @@ pub bytes-length : (s : List Literals) → length (pictureBytes s) ≡ 2 + 8 * l
 unfolding pictureBytes
 bytes-length s = omega (arith, clauseBytes-length s)
 
-module _ (s : List ℕ) (x : Statement) (says : sheetOf s ≡ accepted x) (rows : ℕ) (enough : 65 ≤ rows) (t : List Literals) (starts : startTable 128 (x .problem) ≡ table t)
+module _ (s : List ℕ) (x : Statement) (says : sheetOf s ≡ accepted x) (rows : ℕ) (enough : 65 ≤ rows) (t : List Literals)
+    (starts : startTable 128 (x .problem) ≡ table t)
     (buffer : List ℕ) where
   abbrev run : RunAnswer
   run = runOf (sheetOf s) rows
@@ -41,7 +42,8 @@ module _ (s : List ℕ) (x : Statement) (says : sheetOf s ≡ accepted x) (rows 
   its-entries = last-entries s x says rows enough t starts
 
   passes : described 128 (x .problem .n) (entries (run .table)) ≡ true
-  passes = ap (described 128 (x .problem .n)) its-entries ∙ described-iff 128 (x .problem .n) last .1 (last-described s x says rows enough t starts)
+  passes = ap (described 128 (x .problem .n)) its-entries ∙ described-iff 128 (x .problem .n) last .1
+      (last-described s x says rows enough t starts)
 
   call-gives : pictureOf (sheetOf s) (run .table) (length buffer) ≡ given (picture last) (length buffer)
   unfolding pictureOf
@@ -57,10 +59,12 @@ module _ (s : List ℕ) (x : Statement) (says : sheetOf s ≡ accepted x) (rows 
 
   -- a buffer that the picture fits into gets its bytes; those after it are kept
   pub picture-written : (b : List ℕ) → finalPicture run ≡ some b → length b ≤ length buffer
-      → (pictureOf (sheetOf s) (run .table) (length buffer) .answer ≡ Accepted) × (bufferOf (sheetOf s) (run .table) buffer ≡ b ++ drop (length b) buffer)
+      → (pictureOf (sheetOf s) (run .table) (length buffer) .answer ≡ Accepted)
+      × (bufferOf (sheetOf s) (run .table) buffer ≡ b ++ drop (length b) buffer)
   picture-written b e long = (
     ap (λ (r : PictureAnswer). r .answer) (call-gives ∙ ap (λ (o : Option (List Literals)). given o (length buffer)) here ∙ gives),
-    call-writes ∙ ap (λ (o : Option (List Literals)). written o buffer) here ∙ writes ∙ ap (λ (c : List ℕ). c ++ drop (length c) buffer) (k .2),
+    call-writes ∙ ap (λ (o : Option (List Literals)). written o buffer) here ∙ writes
+        ∙ ap (λ (c : List ℕ). c ++ drop (length c) buffer) (k .2),
   )
     where
       k : (r : List Literals) × (finalClauses run ≡ some r) × (pictureBytes r ≡ b)

@@ -39,8 +39,12 @@ or-iff z x y P Q e p q = (λ h. there (or-cases x y (sym e ∙ h)), λ h. e ∙ 
     back (inr h) = or-right x y (q .1 h)
 
 -- at some proposition
-or-at : (z x y : Bool) (P Q : ℕ → Type 0) → z ≡ (x || y) → (x ≡ true) ↔ ((q : ℕ) × P q) → (y ≡ true) ↔ ((q : ℕ) × Q q) → (z ≡ true) ↔ ((q : ℕ) × (P q ⊎ Q q))
-or-at z x y P Q e p q = (λ h. there (or-iff z x y ((i : ℕ) × P i) ((i : ℕ) × Q i) e p q .0 h), λ h. or-iff z x y ((i : ℕ) × P i) ((i : ℕ) × Q i) e p q .1 (back (h .0) (h .1)))
+or-at : (z x y : Bool) (P Q : ℕ → Type 0) → z ≡ (x || y) → (x ≡ true) ↔ ((q : ℕ) × P q) → (y ≡ true) ↔ ((q : ℕ) × Q q) → (z ≡ true)
+    ↔ ((q : ℕ) × (P q ⊎ Q q))
+or-at z x y P Q e p q = (
+  λ h. there (or-iff z x y ((i : ℕ) × P i) ((i : ℕ) × Q i) e p q .0 h),
+  λ h. or-iff z x y ((i : ℕ) × P i) ((i : ℕ) × Q i) e p q .1 (back (h .0) (h .1)),
+)
   where
     there : ((i : ℕ) × P i) ⊎ ((i : ℕ) × Q i) → (i : ℕ) × (P i ⊎ Q i)
     there (inl h) = (h .0, inl (h .1))
@@ -51,7 +55,8 @@ or-at z x y P Q e p q = (λ h. there (or-iff z x y ((i : ℕ) × P i) ((i : ℕ)
     back i (inr h) = inr (i, h)
 
 -- a test of some effects that asks each of them
-any-iff : (f : List Effect → Bool) (t : Effect → Bool) (P : Effect → Type 0) → f [] ≡ false → ((e : Effect) (es : List Effect) → f (e ∷ es) ≡ (t e || f es))
+any-iff : (f : List Effect → Bool) (t : Effect → Bool) (P : Effect → Type 0) → f [] ≡ false
+    → ((e : Effect) (es : List Effect) → f (e ∷ es) ≡ (t e || f es))
     → ((e : Effect) → (t e ≡ true) ↔ P e) → (es : List Effect) → (f es ≡ true) ↔ Any P es
 any-iff f t P z s k [] = (λ h. absurd (true≢false (sym h ∙ z)), λ h. absurd h)
 any-iff f t P z s k (e ∷ es) = or-iff (f (e ∷ es)) (t e) (f es) (P e) (Any P es) (s e es) (k e) (any-iff f t P z s k es)
@@ -76,7 +81,8 @@ common-iff m k P Q f g = (there, λ h. back (h .0) (f (h .0) .1 (h .1 .0)) (g (h
 -- ---- the propositions that are named, and the results
 names-iff : (d : Literals) (q : ℕ) → (has (names d) q ≡ true) ↔ Names d q
 names-iff d q =
-    or-iff (has (names d) q) (mem d true q) (mem d false q) (T (mem d true q)) (T (mem d false q)) (has-names d q) (test-iff (mem d true q)) (test-iff (mem d false q))
+    or-iff (has (names d) q) (mem d true q) (mem d false q) (T (mem d true q)) (T (mem d false q)) (has-names d q)
+    (test-iff (mem d true q)) (test-iff (mem d false q))
 
 -- in one part of some effects
 named-iff : (part : Effect → Literals) (es : List Effect) (q : ℕ) → (has (namedBy part es) q ≡ true) ↔ Any (λ e. Names (part e) q) es
@@ -96,16 +102,20 @@ in-result a q = named-iff (λ e. e .result) (a .effects) q
 read-in : (a : Action) (q : ℕ) → (has (reads a) q ≡ true) ↔ ReadIn a q
 unfolding reads
 read-in a q =
-    or-iff (has (reads a) q) (has (names (a .precondition)) q) (has (readBy (a .effects)) q) (Names (a .precondition) q) (Any (λ e. Names (e .condition) q) (a .effects))
-    (has-or (names (a .precondition)) (readBy (a .effects)) q) (names-iff (a .precondition) q) (named-iff (λ e. e .condition) (a .effects) q)
+    or-iff (has (reads a) q) (has (names (a .precondition)) q) (has (readBy (a .effects)) q) (Names (a .precondition) q)
+    (Any (λ e. Names (e .condition) q) (a .effects))
+    (has-or (names (a .precondition)) (readBy (a .effects)) q) (names-iff (a .precondition) q)
+    (named-iff (λ e. e .condition) (a .effects) q)
 
 named-in : (a : Action) (q : ℕ) → (has (named a) q ≡ true) ↔ NamedIn a q
 unfolding named
-named-in a q = or-iff (has (named a) q) (has (reads a) q) (has (changed a) q) (ReadIn a q) (InResult a q) (has-or (reads a) (changed a) q) (read-in a q) (in-result a q)
+named-in a q = or-iff (has (named a) q) (has (reads a) q) (has (changed a) q) (ReadIn a q) (InResult a q) (has-or (reads a) (changed a) q)
+    (read-in a q) (in-result a q)
 
 -- ---- moves that touch
 -- a result of a has its complement among b's results
-clash-iff : (a b : Action) → (clash (resultsBy (a .effects)) (resultsBy (b .effects)) ≡ true) ↔ ((q : ℕ) × ((s : Bool) × ResultOf a s q × ResultOf b (not s) q))
+clash-iff : (a b : Action) → (clash (resultsBy (a .effects)) (resultsBy (b .effects)) ≡ true)
+    ↔ ((q : ℕ) × ((s : Bool) × ResultOf a s q × ResultOf b (not s) q))
 clash-iff a b = (there, λ h. back (h .0) (h .1 .0) (h .1 .1) (h .1 .2))
   where
     ra : Literals
@@ -123,10 +133,12 @@ clash-iff a b = (there, λ h. back (h .0) (h .1 .0) (h .1 .1) (h .1 .2))
 pub touching : (a b : Action) → (touch a b ≡ true) ↔ ((q : ℕ) × TouchesAt a b q)
 unfolding touch
 touching a b =
-    or-at (touch a b) (clash (resultsBy (a .effects)) (resultsBy (b .effects))) (x || y) (λ q. (s : Bool) × ResultOf a s q × ResultOf b (not s) q)
+    or-at (touch a b) (clash (resultsBy (a .effects)) (resultsBy (b .effects))) (x || y)
+    (λ q. (s : Bool) × ResultOf a s q × ResultOf b (not s) q)
     (λ q. (InResult a q × ReadIn b q) ⊎ (InResult b q × ReadIn a q)) refl (clash-iff a b)
     (or-at (x || y) x y (λ q. InResult a q × ReadIn b q) (λ q. InResult b q × ReadIn a q) refl
-    (common-iff (changed a) (reads b) (InResult a) (ReadIn b) (in-result a) (read-in b)) (common-iff (changed b) (reads a) (InResult b) (ReadIn a) (in-result b) (read-in a)))
+    (common-iff (changed a) (reads b) (InResult a) (ReadIn b) (in-result a) (read-in b))
+    (common-iff (changed b) (reads a) (InResult b) (ReadIn a) (in-result b) (read-in a)))
   where
     x : Bool
     x = not (eqb (bitAnd (changed a) (reads b)) 0)
@@ -135,11 +147,13 @@ touching a b =
     y = not (eqb (bitAnd (changed b) (reads a)) 0)
 
 -- by document 01's wording
-pub touching-anywhere : (a b : Action) → (touchAnywhere a b ≡ true) ↔ ((q : ℕ) × ((InResult a q × NamedIn b q) ⊎ (InResult b q × NamedIn a q)))
+pub touching-anywhere : (a b : Action) → (touchAnywhere a b ≡ true)
+    ↔ ((q : ℕ) × ((InResult a q × NamedIn b q) ⊎ (InResult b q × NamedIn a q)))
 unfolding touchAnywhere
 touching-anywhere a b =
     or-at (touchAnywhere a b) (not x) (not y) (λ q. InResult a q × NamedIn b q) (λ q. InResult b q × NamedIn a q) (not-both x y)
-    (common-iff (changed a) (named b) (InResult a) (NamedIn b) (in-result a) (named-in b)) (common-iff (changed b) (named a) (InResult b) (NamedIn a) (in-result b) (named-in a))
+    (common-iff (changed a) (named b) (InResult a) (NamedIn b) (in-result a) (named-in b))
+    (common-iff (changed b) (named a) (InResult b) (NamedIn a) (in-result b) (named-in a))
   where
     x : Bool
     x = eqb (bitAnd (changed a) (named b)) 0
@@ -175,18 +189,23 @@ touch-lamp a b lamp h k u v else = go (touch a b) refl
 
 -- ---- exchanges
 module _ (f : ℕ → Action) where
-  exchange-at : (a b : ℕ) (first rest : List ℕ) → exchangeBy touch f (suc (length first)) (first ++ (a ∷ b ∷ rest)) ≡ first ++ swap (touch (f a) (f b)) a b rest
+  exchange-at : (a b : ℕ) (first rest : List ℕ) → exchangeBy touch f (suc (length first)) (first ++ (a ∷ b ∷ rest)) ≡ first
+      ++ swap (touch (f a) (f b)) a b rest
   exchange-at a b [] rest = refl
   exchange-at a b (c ∷ []) rest = refl
   exchange-at a b (c ∷ d ∷ first) rest = ap (λ (r : List ℕ). c ∷ r) (exchange-at a b (d ∷ first) rest)
 
-  at-place : (k a b : ℕ) (first rest : List ℕ) → k ≡ length first + 1 → exchanges f (k ∷ []) (first ++ (a ∷ b ∷ rest)) ≡ first ++ swap (touch (f a) (f b)) a b rest
-  at-place k a b first rest h = let e : k ≡ suc (length first) = omega arith in ap (λ (i : ℕ). exchangeBy touch f i (first ++ (a ∷ b ∷ rest))) e ∙ exchange-at a b first rest
+  at-place : (k a b : ℕ) (first rest : List ℕ) → k ≡ length first + 1 → exchanges f (k ∷ []) (first ++ (a ∷ b ∷ rest)) ≡ first
+      ++ swap (touch (f a) (f b)) a b rest
+  at-place k a b first rest h = let e : k ≡ suc (length first) = omega arith in ap
+      (λ (i : ℕ). exchangeBy touch f i (first ++ (a ∷ b ∷ rest))) e ∙ exchange-at a b first rest
 
-  pub exchange-swaps : (k a b : ℕ) (first rest : List ℕ) → k ≡ length first + 1 → touch (f a) (f b) ≡ false → exchanges f (k ∷ []) (first ++ (a ∷ b ∷ rest)) ≡ first ++ (b ∷ a ∷ rest)
+  pub exchange-swaps : (k a b : ℕ) (first rest : List ℕ) → k ≡ length first + 1 → touch (f a) (f b) ≡ false
+      → exchanges f (k ∷ []) (first ++ (a ∷ b ∷ rest)) ≡ first ++ (b ∷ a ∷ rest)
   exchange-swaps k a b first rest h e = at-place k a b first rest h ∙ ap (λ (t : Bool). first ++ swap t a b rest) e
 
-  pub exchange-stays : (k a b : ℕ) (first rest : List ℕ) → k ≡ length first + 1 → touch (f a) (f b) ≡ true → exchanges f (k ∷ []) (first ++ (a ∷ b ∷ rest)) ≡ first ++ (a ∷ b ∷ rest)
+  pub exchange-stays : (k a b : ℕ) (first rest : List ℕ) → k ≡ length first + 1 → touch (f a) (f b) ≡ true
+      → exchanges f (k ∷ []) (first ++ (a ∷ b ∷ rest)) ≡ first ++ (a ∷ b ∷ rest)
   exchange-stays k a b first rest h e = at-place k a b first rest h ∙ ap (λ (t : Bool). first ++ swap t a b rest) e
 
   pub exchange-beyond : (k : ℕ) (plan : List ℕ) → length plan < k + 1 → exchanges f (k ∷ []) plan ≡ plan

@@ -1,4 +1,5 @@
--- A call that is handed a lent slice which the caller still wants: it returns with the slice at its last list. Assumes `Given`, and that the table of calls is monotone under a frame.
+-- A call that is handed a lent slice which the caller still wants: it returns with the slice at its last list. Assumes `Given`, and that
+-- the table of calls is monotone under a frame.
 use mathlib.Core.Path.{_≡_, refl, sym, _∙_, subst}
 use Prim.Native.Nat.{ℕ}
 use mathlib.Core.List.{[], List, _∷_}
@@ -22,13 +23,15 @@ use denote.Triple.Statement.{Contract, Triple}
 use Rattle.plan.proofs.laws.rows.RelentRows.{LentAgain, lends-again, comes-back}
 
 -- a goal P with two facts: both are shown, and P is left
-pub says-both : {M : Type 1} {𝓤 : URA M} {H : Heap 𝓤} {A : Atoms 𝓤} {K : Type 0} {W : Given 𝓤 H A} {Γ : List (Item 𝓤)} → K → {φ ψ : Type 0} {P : SProp 𝓤} → φ → ψ
+pub says-both : {M : Type 1} {𝓤 : URA M} {H : Heap 𝓤} {A : Atoms 𝓤} {K : Type 0} {W : Given 𝓤 H A} {Γ : List (Item 𝓤)} → K
+    → {φ ψ : Type 0} {P : SProp 𝓤} → φ → ψ
     → Step K W Γ (prop P) Γ (prop (sep 𝓤 P (sep 𝓤 (fact 𝓤 φ) (fact 𝓤 ψ))))
 says-both {𝓤 = 𝓤} t {φ} {ψ} {P} x y =
     step
     (λ s.
     record {
-      prf = via 𝓤 P (s .prf) (via 𝓤 (sep 𝓤 (emp 𝓤) P) (emp∗ 𝓤 P) (via 𝓤 (sep 𝓤 (sep 𝓤 (fact 𝓤 φ) (fact 𝓤 ψ)) P) (monoL 𝓤 P both) (comm∗ 𝓤 (sep 𝓤 (fact 𝓤 φ) (fact 𝓤 ψ)) P)));
+      prf = via 𝓤 P (s .prf) (via 𝓤 (sep 𝓤 (emp 𝓤) P) (emp∗ 𝓤 P)
+          (via 𝓤 (sep 𝓤 (sep 𝓤 (fact 𝓤 φ) (fact 𝓤 ψ)) P) (monoL 𝓤 P both) (comm∗ 𝓤 (sep 𝓤 (fact 𝓤 φ) (fact 𝓤 ψ)) P)));
     })
   where
     both : ent 𝓤 (emp 𝓤) (sep 𝓤 (fact 𝓤 φ) (fact 𝓤 ψ))
@@ -51,27 +54,40 @@ module _ (R : RattleType) (ℓ : Lifetime) (κ : Lft) (q : Share) (γ : GName) (
 
     -- what the callee's `post` gives
     abbrev pub Said : (Val → List (R .Denot) → Type 0) → ℕ → GName → Val → Item 𝓤
-    Said φ ν δ w = later (some (λ (zs : List (R .Denot)). given ((length zs ≡ m) × φ w zs) (‵ (flft (ν ∷ []) fullShare) ⊛ ‵ (finally R δ zs))))
+    Said φ ν δ w = later (some
+        (λ (zs : List (R .Denot)). given ((length zs ≡ m) × φ w zs) (‵ (flft (ν ∷ []) fullShare) ⊛ ‵ (finally R δ zs))))
 
     module _ (W : Given 𝓤 H A) (room : Room R m) (ys : List (R .Denot)) (e : length ys ≡ m) (φ : Val → List (R .Denot) → Type 0) where
-      returned : (ν : ℕ) (δ : GName) (w : Val) → ent 𝓤 (sep 𝓤 (mean 𝓤 H A (Said φ ν δ w)) (sem 𝓤 H A (LentAgain R κ (ν ∷ []) q γ b o δ ys))) (mean 𝓤 H A (Back φ w))
+      returned : (ν : ℕ) (δ : GName) (w : Val) → ent 𝓤
+          (sep 𝓤 (mean 𝓤 H A (Said φ ν δ w)) (sem 𝓤 H A (LentAgain R κ (ν ∷ []) q γ b o δ ys))) (mean 𝓤 H A (Back φ w))
       returned ν δ w =
-          qed W (Said φ ν δ w ∷ ‵ (LentAgain R κ (ν ∷ []) q γ b o δ ys) ∷ []) ∵ updating ! $ await ! tt $ pick ! (λ zs. learn ! (λ f. split ! $ lft-end ! tt $ move ! (0 ∷ 2 ∷ 1 ∷ []) $
-          use3 W (later (‵ (MutSlice ℓ κ R .own (at-list γ zs) (sliceVal (b, o) (length ys) ∷ [])) ⊛ ‵ (flft κ q))) (comes-back R κ (ν ∷ []) q γ b o 𝓤 H A W ℓ ℓ ys δ zs (subst (Room R) (sym e) room) (f .0 ∙ sym e)) $ await ! tt $ split ! $
+          qed W (Said φ ν δ w ∷ ‵ (LentAgain R κ (ν ∷ []) q γ b o δ ys) ∷ []) ∵ updating ! $ await ! tt $ pick !
+          (λ zs. learn ! (λ f. split ! $ lft-end ! tt $ move ! (0 ∷ 2 ∷ 1 ∷ []) $
+          use3 W (later (‵ (MutSlice ℓ κ R .own (at-list γ zs) (sliceVal (b, o) (length ys) ∷ [])) ⊛ ‵ (flft κ q)))
+          (comes-back R κ (ν ∷ []) q γ b o 𝓤 H A W ℓ ℓ ys δ zs (subst (Room R) (sym e) room) (f .0 ∙ sym e)) $ await ! tt $ split ! $
           rewrite ! 0 (λ (k : ℕ). ‵ (MutSlice ℓ κ R .own (at-list γ zs) (sliceVal (b, o) k ∷ []))) e refl $
-          at-once ! $ show ! (λ (l : List (R .Denot)). guard 𝓤 (φ w l) (sep 𝓤 (sem 𝓤 H A (Own l)) (A .lft κ q))) zs $ check ! (f .1) $ done !))
+          at-once ! $ show ! (λ (l : List (R .Denot)). guard 𝓤 (φ w l) (sep 𝓤 (sem 𝓤 H A (Own l)) (A .lft κ q))) zs $ check ! (f .1) $ done
+          !))
 
-      pub lent-call : (C : Calls 𝓤 H) → FmC 𝓤 H (W .laws) C → (f : Name) (vs : List Val) (c : Contract 𝓤) → Triple 𝓤 (C f) c → (x : ℕ → GName → c .Ghost) → ((ν : ℕ) (δ : GName) → c .args (x ν δ) ≡ vs)
+      pub lent-call : (C : Calls 𝓤 H) → FmC 𝓤 H (W .laws) C → (f : Name) (vs : List Val) (c : Contract 𝓤) → Triple 𝓤 (C f) c
+          → (x : ℕ → GName → c .Ghost) → ((ν : ℕ) (δ : GName) → c .args (x ν δ) ≡ vs)
           → ((ν : ℕ) (δ : GName) → ent 𝓤 (sep 𝓤 (A .lft (ν ∷ []) fullShare) (sem 𝓤 H A (Lent ν δ ys))) (c .pre (x ν δ)))
           → ((ν : ℕ) (δ : GName) (w : Val) → ent 𝓤 (c .post (x ν δ) w) (mean 𝓤 H A (Said φ ν δ w)))
           → ent 𝓤 (sep 𝓤 (sem 𝓤 H A (Own ys)) (A .lft κ q)) (H .⇛ (C f vs (λ w. mean 𝓤 H A (Back φ w))))
       lent-call C fm f vs c known x args goes gets =
-          qed W (‵ (Own ys) ∷ ‵ (flft κ q) ∷ []) ∵ updating ! $ rewrite ! 0 (λ (k : ℕ). ‵ (MutSlice ℓ κ R .own (at-list γ ys) (sliceVal (b, o) k ∷ []))) (sym e) refl $
+          qed W (‵ (Own ys) ∷ ‵ (flft κ q) ∷ []) ∵ updating ! $ rewrite ! 0
+          (λ (k : ℕ). ‵ (MutSlice ℓ κ R .own (at-list γ ys) (sliceVal (b, o) k ∷ []))) (sym e) refl $
           lft-new ! tt (λ ν. move ! (1 ∷ 2 ∷ []) $
-          use2 W (later (some (λ (δ : GName). ‵ (MutSlice ℓ (ν ∷ []) R .own (at-list δ ys) (sliceVal (b, o) (length ys) ∷ [])) ⊛ ‵ (LentAgain R κ (ν ∷ []) q γ b o δ ys)))) (lends-again R κ (ν ∷ []) q γ b o 𝓤 H A W ℓ ℓ ys) $ await ! tt $ pick ! (λ δ. split ! $
+          use2 W (later (some (λ (δ : GName). ‵ (MutSlice ℓ (ν ∷ []) R .own (at-list δ ys) (sliceVal (b, o) (length ys) ∷ [])) ⊛ ‵
+          (LentAgain R κ (ν ∷ []) q γ b o δ ys)))) (lends-again R κ (ν ∷ []) q γ b o 𝓤 H A W ℓ ℓ ys) $ await ! tt $ pick !
+          (λ δ. split ! $
           rewrite ! 0 (λ (k : ℕ). ‵ (MutSlice ℓ (ν ∷ []) R .own (at-list δ ys) (sliceVal (b, o) k ∷ []))) e refl $
           move ! (2 ∷ 0 ∷ []) $ use2 W (raw (c .pre (x ν δ))) (goes ν δ) $ at-once ! $
-          by ! (via 𝓤 (sep 𝓤 (C f (c .args (x ν δ)) (c .post (x ν δ))) (sem 𝓤 H A (LentAgain R κ (ν ∷ []) q γ b o δ ys))) (monoL 𝓤 (sem 𝓤 H A (LentAgain R κ (ν ∷ []) q γ b o δ ys)) (known (x ν δ)))
-          (subst (λ (us : List Val). ent 𝓤 (sep 𝓤 (C f (c .args (x ν δ)) (c .post (x ν δ))) (sem 𝓤 H A (LentAgain R κ (ν ∷ []) q γ b o δ ys))) (C f us (λ w. mean 𝓤 H A (Back φ w)))) (args ν δ)
+          by ! (via 𝓤 (sep 𝓤 (C f (c .args (x ν δ)) (c .post (x ν δ))) (sem 𝓤 H A (LentAgain R κ (ν ∷ []) q γ b o δ ys)))
+          (monoL 𝓤 (sem 𝓤 H A (LentAgain R κ (ν ∷ []) q γ b o δ ys)) (known (x ν δ)))
+          (subst (λ (us : List Val). ent 𝓤
+          (sep 𝓤 (C f (c .args (x ν δ)) (c .post (x ν δ))) (sem 𝓤 H A (LentAgain R κ (ν ∷ []) q γ b o δ ys)))
+          (C f us (λ w. mean 𝓤 H A (Back φ w)))) (args ν δ)
           (fm f (c .args (x ν δ)) (c .post (x ν δ)) (λ w. mean 𝓤 H A (Back φ w)) (sem 𝓤 H A (LentAgain R κ (ν ∷ []) q γ b o δ ys))
-          (λ w. via 𝓤 (sep 𝓤 (mean 𝓤 H A (Said φ ν δ w)) (sem 𝓤 H A (LentAgain R κ (ν ∷ []) q γ b o δ ys))) (monoL 𝓤 (sem 𝓤 H A (LentAgain R κ (ν ∷ []) q γ b o δ ys)) (gets ν δ w)) (returned ν δ w)))))))
+          (λ w. via 𝓤 (sep 𝓤 (mean 𝓤 H A (Said φ ν δ w)) (sem 𝓤 H A (LentAgain R κ (ν ∷ []) q γ b o δ ys)))
+          (monoL 𝓤 (sem 𝓤 H A (LentAgain R κ (ν ∷ []) q γ b o δ ys)) (gets ν δ w)) (returned ν δ w)))))))

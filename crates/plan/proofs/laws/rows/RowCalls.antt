@@ -1,4 +1,5 @@
--- The call of `write_row` by a function that still wants the rows: what `lent-call` asks, once for all callers. Assumes `Given`, and that the table of calls is monotone under a frame.
+-- The call of `write_row` by a function that still wants the rows: what `lent-call` asks, once for all callers. Assumes `Given`, and that
+-- the table of calls is monotone under a frame.
 use mathlib.Core.Path.{_≡_, refl, _∙_, ap}
 use Prim.Native.Nat.{ℕ, _<_, _^_}
 use mathlib.Core.List.{[], _∷_, List}
@@ -40,7 +41,8 @@ WriteRow 𝓤 H A mem run = tripleOf 𝓤 H A write-row.signature (write-row.spe
 abbrev pub Stored : List Row → ℕ → Row → Val → List Row → Type 0
 Stored l i r w zs = (w ≡ vunit) × (zs ≡ set l i r)
 
-module _ {M : Type 1} (𝓤 : URA M) (H : Heap 𝓤) (A : Atoms 𝓤) (W : Given 𝓤 H A) (mem : Memory → SProp 𝓤) (run : Routine → Fun 𝓤) (κ : Lft) (q : Share) (γ : GName) (b o m : ℕ) (l : List Row) (i : ℕ) (r : Row) (v : Val) where
+module _ {M : Type 1} (𝓤 : URA M) (H : Heap 𝓤) (A : Atoms 𝓤) (W : Given 𝓤 H A) (mem : Memory → SProp 𝓤) (run : Routine → Fun 𝓤) (κ : Lft)
+    (q : Share) (γ : GName) (b o m : ℕ) (l : List Row) (i : ℕ) (r : Row) (v : Val) where
   abbrev s : Val
   s = sliceVal (b, o) m
 
@@ -53,22 +55,35 @@ module _ {M : Type 1} (𝓤 : URA M) (H : Heap 𝓤) (A : Atoms 𝓤) (W : Given
   abbrev to : ℕ → GName → WriteRow 𝓤 H A mem run .Ghost
   to ν δ = (((ν ∷ [], tt), (fullShare, tt), tt, args δ, (s ∷ [], (vint w64 i ∷ [], (v ∷ [], tt)))), tt)
 
-  goes : Is T.the-row r (v ∷ []) → i < 2 ^ 64 → i < length l → (ν : ℕ) (δ : GName) → ent 𝓤 (sep 𝓤 (A .lft (ν ∷ []) fullShare) (sem 𝓤 H A (Lent T.the-row (named 0) κ q γ b o m ν δ l))) (WriteRow 𝓤 H A mem run .pre (to ν δ))
+  goes : Is T.the-row r (v ∷ []) → i < 2 ^ 64 → i < length l → (ν : ℕ) (δ : GName)
+      → ent 𝓤 (sep 𝓤 (A .lft (ν ∷ []) fullShare) (sem 𝓤 H A (Lent T.the-row (named 0) κ q γ b o m ν δ l)))
+      (WriteRow 𝓤 H A mem run .pre (to ν δ))
   goes is fits within ν δ =
-      qed W (‵ (flft (ν ∷ []) fullShare) ∷ ‵ (Lent T.the-row (named 0) κ q γ b o m ν δ l) ∷ []) ∵ says ! within $ nothing ! $ move ! (1 ∷ 0 ∷ []) $ join ! $ frame ! $
-      nothing ! $ owned ! T.the-row (Is T.the-row) ((LL.makes T.the-type T′.the-plain) 𝓤 H A) r _ is $ fjoin ! $ owned ! usize (Is usize) (uint-makes 𝓤 H A W w64) i _ (refl, fits) $ fjoin ! $ move ! (1 ∷ 0 ∷ []) $ fjoin ! $ done !
+      qed W (‵ (flft (ν ∷ []) fullShare) ∷ ‵ (Lent T.the-row (named 0) κ q γ b o m ν δ l) ∷ []) ∵ says ! within $ nothing ! $ move !
+      (1 ∷ 0 ∷ []) $ join ! $ frame ! $
+      nothing ! $ owned ! T.the-row (Is T.the-row) ((LL.makes T.the-type T′.the-plain) 𝓤 H A) r _ is $ fjoin ! $ owned ! usize (Is usize)
+      (uint-makes 𝓤 H A W w64) i _ (refl, fits) $ fjoin ! $ move ! (1 ∷ 0 ∷ []) $ fjoin ! $ done !
 
-  gets : length l ≡ m → (ν : ℕ) (δ : GName) (w : Val) → ent 𝓤 (WriteRow 𝓤 H A mem run .post (to ν δ) w) (mean 𝓤 H A (Said T.the-row (named 0) κ q γ b o m 𝓤 H A (Stored l i r) ν δ w))
+  gets : length l ≡ m → (ν : ℕ) (δ : GName) (w : Val) → ent 𝓤 (WriteRow 𝓤 H A mem run .post (to ν δ) w)
+      (mean 𝓤 H A (Said T.the-row (named 0) κ q γ b o m 𝓤 H A (Stored l i r) ν δ w))
   gets e ν δ w =
       qed W (raw (WriteRow 𝓤 H A mem run .post (to ν δ) w) ∷ []) ∵ updating ! $
       use1 W (later (some (λ (u : Unit {0}). ((‵ (flft (ν ∷ []) fullShare) ⊛ ‵ ftrue) ⊛ ‵ (unit .own u (w ∷ [])))
-      ⊛ some (λ (ws : Lasts write-row.ended (ν ∷ [], tt) (args δ)). ‵ (lasts write-row.ended (ν ∷ [], tt) (args δ) ws) ⊛ raw (fact 𝓤 (ws .0 ≡ set l i r)))))) (id⊢ 𝓤 _) $ await ! tt $ pick ! (λ u.
-      split ! $ move ! (1 ∷ []) $ pick ! (λ ws. split ! $ move ! (1 ∷ []) $ heard ! (ws .0 ≡ set l i r) (λ f. fsplit ! $ fsplit ! $ move ! (1 ∷ []) $ feqL ! (λ len.
+      ⊛ some (λ (ws : Lasts write-row.ended (ν ∷ [], tt) (args δ)). ‵ (lasts write-row.ended (ν ∷ [], tt) (args δ) ws) ⊛ raw
+      (fact 𝓤 (ws .0 ≡ set l i r)))))) (id⊢ 𝓤 _) $ await ! tt $ pick ! (λ u.
+      split ! $ move ! (1 ∷ []) $ pick !
+      (λ ws. split ! $ move ! (1 ∷ []) $ heard ! (ws .0 ≡ set l i r) (λ f. fsplit ! $ fsplit ! $ move ! (1 ∷ []) $ feqL ! (λ len.
       -- [the last list; true; the tokens and the result]
       move ! (2 ∷ []) $ split ! $ split ! $ move ! (2 ∷ []) $ feqL ! (λ is.
-      at-once ! $ show ! (λ (zs : List Row). guard 𝓤 ((length zs ≡ m) × Stored l i r w zs) (sep 𝓤 (A .lft (ν ∷ []) fullShare) (sem 𝓤 H A (finally T.the-row δ zs)))) (ws .0) $ check ! (len ∙ e, (ap only is, f)) $ keep ! (0 ∷ 2 ∷ []) $ done !)))))
+      at-once ! $ show ! (λ (zs : List Row). guard 𝓤 ((length zs ≡ m) × Stored l i r w zs)
+      (sep 𝓤 (A .lft (ν ∷ []) fullShare) (sem 𝓤 H A (finally T.the-row δ zs)))) (ws .0) $ check ! (len ∙ e, (ap only is, f)) $ keep !
+      (0 ∷ 2 ∷ []) $ done !)))))
 
-  pub row-call : (C : Calls 𝓤 H) → FmC 𝓤 H (W .laws) C → Triple 𝓤 (C #plan·rows·write-row) (WriteRow 𝓤 H A mem run) → Room T.the-row m → length l ≡ m → Is T.the-row r (v ∷ []) → i < 2 ^ 64 → i < length l
-      → ent 𝓤 (sep 𝓤 (sem 𝓤 H A (Own T.the-row (named 0) κ q γ b o m l)) (A .lft κ q)) (H .⇛ (C #plan·rows·write-row (s ∷ vint w64 i ∷ v ∷ []) (λ w. mean 𝓤 H A (Back T.the-row (named 0) κ q γ b o m 𝓤 H A (Stored l i r) w))))
+  pub row-call : (C : Calls 𝓤 H) → FmC 𝓤 H (W .laws) C → Triple 𝓤 (C #plan·rows·write-row) (WriteRow 𝓤 H A mem run) → Room T.the-row m
+      → length l ≡ m → Is T.the-row r (v ∷ []) → i < 2 ^ 64 → i < length l
+      → ent 𝓤 (sep 𝓤 (sem 𝓤 H A (Own T.the-row (named 0) κ q γ b o m l)) (A .lft κ q))
+      (H .⇛ (C #plan·rows·write-row (s ∷ vint w64 i ∷ v ∷ [])
+      (λ w. mean 𝓤 H A (Back T.the-row (named 0) κ q γ b o m 𝓤 H A (Stored l i r) w))))
   row-call C fm known room e is fits within =
-      lent-call T.the-row (named 0) κ q γ b o m 𝓤 H A W room l e (Stored l i r) C fm #plan·rows·write-row (s ∷ vint w64 i ∷ v ∷ []) (WriteRow 𝓤 H A mem run) known to (λ ν δ. refl) (goes is fits within) (gets e)
+      lent-call T.the-row (named 0) κ q γ b o m 𝓤 H A W room l e (Stored l i r) C fm #plan·rows·write-row (s ∷ vint w64 i ∷ v ∷ [])
+      (WriteRow 𝓤 H A mem run) known to (λ ν δ. refl) (goes is fits within) (gets e)

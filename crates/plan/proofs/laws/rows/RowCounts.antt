@@ -1,4 +1,5 @@
--- The rows of a run are back from their numbers: they have the places 0, 1, 2, .., and are at most 65 and no more than were lent. Assumes nothing.
+-- The rows of a run are back from their numbers: they have the places 0, 1, 2, .., and are at most 65 and no more than were lent. Assumes
+-- nothing.
 use mathlib.Core.Path.{_≡_, refl, sym, ap, _∙_}
 use mathlib.Core.Bool.{Bool, true, false, cond}
 use mathlib.Core.List.{List, [], _++_, map}
@@ -68,7 +69,8 @@ pub rows-placed : (s : List ℕ) (m : ℕ) → Placed m (rowsOf (sheetOf s) m)
 unfolding rowsOf
 rows-placed s m = go (sheetOf s) refl
   where
-    enough : (x : Statement) (b : Bool) → length (x .plan) ≤ 64 → ltb m 65 ≡ b → Placed m (cond b [] (plannedRows (x .problem) (x .plan) (startTable 128 (x .problem))))
+    enough : (x : Statement) (b : Bool) → length (x .plan) ≤ 64 → ltb m 65 ≡ b
+        → Placed m (cond b [] (plannedRows (x .problem) (x .plan) (startTable 128 (x .problem))))
     enough x true h e = none-placed m
     enough x false h e = start-placed x (startTable 128 (x .problem)) m h (ltb-false m 65 e)
 
@@ -81,8 +83,10 @@ module _ (ws : List Row) (most : length ws ≤ 65) (places : (i : ℕ) → i < l
   row-back : (i : ℕ) → i < length ws → rowAt (countsOf ws) i ≡ getD ws i noRow
   unfolding countsOf
   row-back i h =
-      let e = getD-pad 65 0 (map (λ (r : Row). r .entries) ws) i (omega (arith, h, most)) ∙ List·getD-map (λ (r : Row). r .entries) ws i noRow in
-      let c = getD-pad 65 0 (map (λ (r : Row). r .clauses) ws) i (omega (arith, h, most)) ∙ List·getD-map (λ (r : Row). r .clauses) ws i noRow in
+      let e = getD-pad 65 0 (map (λ (r : Row). r .entries) ws) i (omega (arith, h, most))
+      ∙ List·getD-map (λ (r : Row). r .entries) ws i noRow in
+      let c = getD-pad 65 0 (map (λ (r : Row). r .clauses) ws) i (omega (arith, h, most))
+      ∙ List·getD-map (λ (r : Row). r .clauses) ws i noRow in
       (λ j. record { place = sym (places i h) j; entries = e j; clauses = c j })
 
   below-back : (n : ℕ) → n ≤ length ws → rowsBelow (countsOf ws) n ≡ take n ws
@@ -104,4 +108,5 @@ module _ (s : List ℕ) (ys : List Row) where
 
   pub course-rows : rowsIn numbers ++ drop (numbers .count) ys ≡ rowsAfter (sheetOf s) ys
   unfolding courseOf countsOf rowsAfter
-  course-rows = let p = rows-placed s (length ys) in ap (λ (ws : List Row). ws ++ drop (numbers .count) ys) (counts-back (rowsOf (sheetOf s) (length ys)) (p .most) (p .places))
+  course-rows = let p = rows-placed s (length ys) in ap (λ (ws : List Row). ws ++ drop (numbers .count) ys)
+      (counts-back (rowsOf (sheetOf s) (length ys)) (p .most) (p .places))

@@ -26,6 +26,7 @@ length-below c (suc n) = omega (arith, length-append (rowsBelow c n) (rowAt c n 
 pub written-is : (c : Counts) (n : ℕ) (ys : List Row) → n ≤ length ys → written c n ys ≡ rowsBelow c n ++ drop n ys
 written-is c zero ys l = refl
 written-is c (suc n) ys l =
-    ap (λ (zs : List Row). set zs n (rowAt c n)) (written-is c n ys (le-of-lt l) ∙ ap (λ (zs : List Row). rowsBelow c n ++ zs) (drop-cons ys n (rowAt c n) l))
+    ap (λ (zs : List Row). set zs n (rowAt c n))
+    (written-is c n ys (le-of-lt l) ∙ ap (λ (zs : List Row). rowsBelow c n ++ zs) (drop-cons ys n (rowAt c n) l))
     ∙ set-at (rowsBelow c n) (getD ys n (rowAt c n)) (drop (suc n) ys) (rowAt c n) n (length-below c n)
     ∙ sym (append-snoc (rowsBelow c n) (rowAt c n) (drop (suc n) ys))

@@ -34,7 +34,8 @@ apart e = let z : _≡_ {A = ℕ} 0 1 = cc in omega arith
 start-refused : (p : Problem) {k : ℕ} → startTable 128 p ≡ Outcome.refused k → (20 ≤ k) × (k ≤ 21)
 start-refused p {k} e = pick (start-kind 128 p)
   where
-    pick : (startTable 128 p ≡ Outcome.refused 20) ⊎ ((startTable 128 p ≡ Outcome.refused 21) ⊎ ((t : List Literals) × (startTable 128 p ≡ Outcome.table t))) → (20 ≤ k) × (k ≤ 21)
+    pick : (startTable 128 p ≡ Outcome.refused 20) ⊎
+        ((startTable 128 p ≡ Outcome.refused 21) ⊎ ((t : List Literals) × (startTable 128 p ≡ Outcome.table t))) → (20 ≤ k) × (k ≤ 21)
     pick (inl f) = let i : k ≡ 20 = cc in (omega arith, omega arith)
     pick (inr (inl f)) = let i : k ≡ 21 = cc in (omega arith, omega arith)
     pick (inr (inr f)) = absurd (apart (sym e ∙ f .1))
@@ -49,15 +50,21 @@ not-refused v k q e = true≢false (sym (ap refusedVerdict e) ∙ never-refused 
 module _ (p : Problem) (plan : List ℕ) where
   planned-refused : (o : Outcome) (k q : ℕ) → (planned p plan o .verdict ≡ ran.Refused k q) ↔ ((q ≡ 0) × (o ≡ Outcome.refused k))
   unfolding planned refusedRun
-  planned-refused (Outcome.refused j) k q = (λ e. (let z : q ≡ 0 = cc in z, let i : j ≡ k = cc in ap Outcome.refused i), λ h. let i : j ≡ k = cc (h .1) in let z : q ≡ 0 = h .0 in cc)
+  planned-refused (Outcome.refused j) k
+      q = (
+        λ e. (let z : q ≡ 0 = cc in z, let i : j ≡ k = cc in ap Outcome.refused i),
+        λ h. let i : j ≡ k = cc (h .1) in let z : q ≡ 0 = h .0 in cc,
+      )
   planned-refused (Outcome.table t) k q = (λ e. absurd (not-refused _ k q e), λ h. absurd (apart (sym (h .1))))
 
-  planned-given : (o : Outcome) → ((k q : ℕ) → planned p plan o .verdict ≡ ran.Refused k q → ⊥) ↔ ((t : List Literals) × (o ≡ Outcome.table t))
+  planned-given : (o : Outcome) → ((k q : ℕ) → planned p plan o .verdict ≡ ran.Refused k q → ⊥)
+      ↔ ((t : List Literals) × (o ≡ Outcome.table t))
   unfolding planned refusedRun
   planned-given (Outcome.refused j) = (λ h. absurd (h j 0 refl), λ h. absurd (apart (h .1)))
   planned-given (Outcome.table t) = (λ h. (t, refl), λ h. not-refused _)
 
-  planned-back : (o : Outcome) (k q : ℕ) → planned p plan o .verdict ≡ ran.Refused k q → (planned p plan o .table ≡ tableOf []) × (plannedRows p plan o ≡ [])
+  planned-back : (o : Outcome) (k q : ℕ) → planned p plan o .verdict ≡ ran.Refused k q → (planned p plan o .table ≡ tableOf [])
+      × (plannedRows p plan o ≡ [])
   unfolding planned refusedRun plannedRows
   planned-back (Outcome.refused j) k q e = (refl, refl)
   planned-back (Outcome.table t) k q e = absurd (not-refused _ k q e)
@@ -68,13 +75,15 @@ unfolding rowsAfter
 kept j given e = rw e
 
 -- a refused run has an empty table and writes no row
-pub run-none : (j : Judgement) (rows k q : ℕ) → runOf j rows .verdict ≡ ran.Refused k q → (runOf j rows .table ≡ tableOf []) × (rowsOf j rows ≡ [])
+pub run-none : (j : Judgement) (rows k q : ℕ) → runOf j rows .verdict ≡ ran.Refused k q → (runOf j rows .table ≡ tableOf [])
+    × (rowsOf j rows ≡ [])
 unfolding runOf rowsOf refusedRun
 run-none (refused i p) rows k q e = (refl, refl)
 run-none (accepted x) rows k q e = go (ltb rows 65) (startTable 128 (x .problem)) e
   where
     go : (b : Bool) (o : Outcome) → cond b (refusedRun 23 0) (planned (x .problem) (x .plan) o) .verdict ≡ ran.Refused k q
-        → (cond b (refusedRun 23 0) (planned (x .problem) (x .plan) o) .table ≡ tableOf []) × (cond b [] (plannedRows (x .problem) (x .plan) o) ≡ [])
+        → (cond b (refusedRun 23 0) (planned (x .problem) (x .plan) o) .table ≡ tableOf [])
+        × (cond b [] (plannedRows (x .problem) (x .plan) o) ≡ [])
     go true o e = (refl, refl)
     go false o e = planned-back (x .problem) (x .plan) o k q e
 
@@ -96,12 +105,14 @@ module _ (s : List ℕ) (x : Statement) (says : sheetOf s ≡ accepted x) where
   run-23 rows h = rw (says, lt-ltb rows 65 h)
 
   -- then 20 or 21, by the working order of the start (TH2)
-  pub run-number : (rows : ℕ) → 65 ≤ rows → (k q : ℕ) → (runOf (sheetOf s) rows .verdict ≡ ran.Refused k q) ↔ ((q ≡ 0) × (startTable 128 (x .problem) ≡ Outcome.refused k))
+  pub run-number : (rows : ℕ) → 65 ≤ rows → (k q : ℕ) → (runOf (sheetOf s) rows .verdict ≡ ran.Refused k q)
+      ↔ ((q ≡ 0) × (startTable 128 (x .problem) ≡ Outcome.refused k))
   run-number rows h k q = rw (run-planned s x says rows h) (planned-refused (x .problem) (x .plan) (startTable 128 (x .problem)) k q)
 
   -- not refused exactly if none of these holds
   pub run-given : (rows : ℕ) → 65 ≤ rows
-      → ((k q : ℕ) → runOf (sheetOf s) rows .verdict ≡ ran.Refused k q → ⊥) ↔ ((t : List Literals) × (startTable 128 (x .problem) ≡ Outcome.table t))
+      → ((k q : ℕ) → runOf (sheetOf s) rows .verdict ≡ ran.Refused k q → ⊥)
+      ↔ ((t : List Literals) × (startTable 128 (x .problem) ≡ Outcome.table t))
   run-given rows h = rw (run-planned s x says rows h) (planned-given (x .problem) (x .plan) (startTable 128 (x .problem)))
 
   -- 23 is answered for too few rows alone
@@ -117,7 +128,8 @@ pub run-back : (s : List ℕ) (rows k q : ℕ) → runOf (sheetOf s) rows .verdi
 run-back s rows k q e = run-none (sheetOf s) rows k q e .0
 
 -- and keeps every row as it was given
-pub run-rows-kept : (s : List ℕ) (given : List Row) (k q : ℕ) → runOf (sheetOf s) (length given) .verdict ≡ ran.Refused k q → rowsAfter (sheetOf s) given ≡ given
+pub run-rows-kept : (s : List ℕ) (given : List Row) (k q : ℕ) → runOf (sheetOf s) (length given) .verdict ≡ ran.Refused k q
+    → rowsAfter (sheetOf s) given ≡ given
 run-rows-kept s given k q e = kept (sheetOf s) given (run-none (sheetOf s) (length given) k q e .1)
 
 -- ---- search
@@ -132,10 +144,15 @@ not-answered nothing k q e = let z : _≡_ {A = ℕ} 0 1 = cc in omega arith
 module _ (p : Problem) (limit : ℕ) where
   searched-refused : (o : Outcome) (k q : ℕ) → (searched p limit o .kind ≡ kind.Refused k q) ↔ ((q ≡ 0) × (o ≡ Outcome.refused k))
   unfolding searched refusedSearch
-  searched-refused (Outcome.refused j) k q = (λ e. (let z : q ≡ 0 = cc in z, let i : j ≡ k = cc in ap Outcome.refused i), λ h. let i : j ≡ k = cc (h .1) in let z : q ≡ 0 = h .0 in cc)
+  searched-refused (Outcome.refused j) k
+      q = (
+        λ e. (let z : q ≡ 0 = cc in z, let i : j ≡ k = cc in ap Outcome.refused i),
+        λ h. let i : j ≡ k = cc (h .1) in let z : q ≡ 0 = h .0 in cc,
+      )
   searched-refused (Outcome.table t) k q = (λ e. absurd (not-answered _ k q e), λ h. absurd (apart (sym (h .1))))
 
-  searched-back : (o : Outcome) (k q : ℕ) → searched p limit o .kind ≡ kind.Refused k q → (searched p limit o .plan ≡ replicate 8 0) × (searched p limit o .length ≡ 0)
+  searched-back : (o : Outcome) (k q : ℕ) → searched p limit o .kind ≡ kind.Refused k q → (searched p limit o .plan ≡ replicate 8 0)
+      × (searched p limit o .length ≡ 0)
   unfolding searched refusedSearch pad
   searched-back (Outcome.refused j) k q e = (refl, refl)
   searched-back (Outcome.table t) k q e = absurd (not-answered _ k q e)
@@ -157,7 +174,8 @@ module _ (s : List ℕ) (x : Statement) (says : sheetOf s ≡ accepted x) (limit
   search-8 h = rw (says, lt-ltb 8 limit h)
 
   -- then 20 or 21, by the working order of the start (TH2)
-  pub search-number : limit ≤ 8 → (k q : ℕ) → (searchOf (sheetOf s) limit .kind ≡ kind.Refused k q) ↔ ((q ≡ 0) × (startTable 128 (x .problem) ≡ Outcome.refused k))
+  pub search-number : limit ≤ 8 → (k q : ℕ) → (searchOf (sheetOf s) limit .kind ≡ kind.Refused k q)
+      ↔ ((q ≡ 0) × (startTable 128 (x .problem) ≡ Outcome.refused k))
   search-number h k q = rw (search-within h) (searched-refused (x .problem) limit (startTable 128 (x .problem)) k q)
 
   -- 8 is answered for too high a limit alone
@@ -175,10 +193,12 @@ unfolding searchOf refusedSearch pad
 search-back s limit k q = go (sheetOf s)
   where
     by-limit : (b : Bool) (p : Problem) → cond b (refusedSearch 8 0) (searched p limit (startTable 128 p)) .kind ≡ kind.Refused k q
-        → (cond b (refusedSearch 8 0) (searched p limit (startTable 128 p)) .plan ≡ replicate 8 0) × (cond b (refusedSearch 8 0) (searched p limit (startTable 128 p)) .length ≡ 0)
+        → (cond b (refusedSearch 8 0) (searched p limit (startTable 128 p)) .plan ≡ replicate 8 0)
+        × (cond b (refusedSearch 8 0) (searched p limit (startTable 128 p)) .length ≡ 0)
     by-limit true p e = (refl, refl)
     by-limit false p e = searched-back p limit (startTable 128 p) k q e
 
-    go : (j : Judgement) → searchOf j limit .kind ≡ kind.Refused k q → (searchOf j limit .plan ≡ replicate 8 0) × (searchOf j limit .length ≡ 0)
+    go : (j : Judgement) → searchOf j limit .kind ≡ kind.Refused k q → (searchOf j limit .plan ≡ replicate 8 0)
+        × (searchOf j limit .length ≡ 0)
     go (refused i p) e = (refl, refl)
     go (accepted x) e = by-limit (ltb 8 limit) (x .problem) e

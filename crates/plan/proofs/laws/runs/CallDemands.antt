@@ -55,7 +55,8 @@ module _ (s : List ℕ) (x : Statement) (says : Says s x) where
   unfolding refusedRun
   run-few rows = (run-23-only s x says rows 0, λ h. ap (λ (r : RunAnswer). r .verdict) (run-23 s x says rows h))
 
-  pub run-start : (rows : ℕ) → 65 ≤ rows → (k q : ℕ) → (runOf (sheetOf s) rows .verdict ≡ ran.Refused k q) ↔ (startOf (sheetOf s) .answer ≡ Refused k q)
+  pub run-start : (rows : ℕ) → 65 ≤ rows → (k q : ℕ) → (runOf (sheetOf s) rows .verdict ≡ ran.Refused k q)
+      ↔ (startOf (sheetOf s) .answer ≡ Refused k q)
   run-start rows h k q =
       let i = run-number s x says rows h k q in
       let j = tables.start-number s x says k q in
@@ -65,15 +66,18 @@ module _ (s : List ℕ) (x : Statement) (says : Says s x) where
   unfolding refusedSearch
   search-above limit = (search-8-only s x says limit 0, λ h. ap (λ (r : SearchAnswer). r .kind) (search-8 s x says limit h))
 
-  pub search-start : (limit : ℕ) → limit ≤ 8 → (k q : ℕ) → (searchOf (sheetOf s) limit .kind ≡ kind.Refused k q) ↔ (startOf (sheetOf s) .answer ≡ Refused k q)
+  pub search-start : (limit : ℕ) → limit ≤ 8 → (k q : ℕ) → (searchOf (sheetOf s) limit .kind ≡ kind.Refused k q)
+      ↔ (startOf (sheetOf s) .answer ≡ Refused k q)
   search-start limit h k q =
       let i = search-number s x says limit h k q in
       let j = tables.start-number s x says k q in
       (λ e. j .1 (i .0 e), λ e. i .1 (j .0 e))
 
   -- what a run returns
-  pub run-table : (rows : ℕ) → runRefused (runOf (sheetOf s) rows) ≡ false → AsDescribed x (runOf (sheetOf s) rows .table) × ZeroAfter (runOf (sheetOf s) rows .table)
-  run-table rows f = rw (ap (λ (r : RunAnswer). r .table) (run-call s x says rows enough t starts)) (rw (entries-table last (d .most)) d, zero-after last (d .most))
+  pub run-table : (rows : ℕ) → runRefused (runOf (sheetOf s) rows) ≡ false → AsDescribed x (runOf (sheetOf s) rows .table)
+      × ZeroAfter (runOf (sheetOf s) rows .table)
+  run-table rows f = rw (ap (λ (r : RunAnswer). r .table) (run-call s x says rows enough t starts))
+      (rw (entries-table last (d .most)) d, zero-after last (d .most))
     where
       enough : 65 ≤ rows
       enough = rows-enough s x says rows f

@@ -34,15 +34,18 @@ use Rattle.plan.specs.inner.Course.{countsOf, courseOf, noted, refusedCo
 use Rattle.table.proofs.laws.answers.CallTables.{entries-table}
 
 -- ---- one row more
-pub note-row : (rows : List Row) (place : ℕ) (t : List Literals) → length rows < 65 → noted (countsOf rows) t ≡ countsOf (rows ++ rowOf place t ∷ [])
+pub note-row : (rows : List Row) (place : ℕ) (t : List Literals) → length rows < 65
+    → noted (countsOf rows) t ≡ countsOf (rows ++ rowOf place t ∷ [])
 unfolding noted countsOf rowOf
-note-row rows place t lt = λ j. record { count = n j; entries = pushed (λ (r : Row). r .entries) j; clauses = pushed (λ (r : Row). r .clauses) j }
+note-row rows place t lt = λ j. record
+    { count = n j; entries = pushed (λ (r : Row). r .entries) j; clauses = pushed (λ (r : Row). r .clauses) j }
   where
     n : length rows + 1 ≡ length (rows ++ rowOf place t ∷ [])
     n = sym (length-append rows (rowOf place t ∷ []))
 
     pushed : (f : Row → ℕ) → set (pad 65 0 (map f rows)) (length rows) (f (rowOf place t)) ≡ pad 65 0 (map f (rows ++ rowOf place t ∷ []))
-    pushed f = pad-set 65 0 (map f rows) (f (rowOf place t)) (length rows) (length-map rows f) lt ∙ ap (pad 65 0) (sym (map-append f rows (rowOf place t ∷ [])))
+    pushed f = pad-set 65 0 (map f rows) (f (rowOf place t)) (length rows) (length-map rows f) lt
+        ∙ ap (pad 65 0) (sym (map-append f rows (rowOf place t ∷ [])))
 
 -- ---- one move more
 -- the run that ends at the table t
@@ -50,7 +53,8 @@ abbrev pub Ending : case.Verdict → Table → Counts → Course
 Ending v t c = record { ran = record { verdict = v; table = t }; counts = c }
 
 module _ (goal : List Literals) (rows : List Row) (place : ℕ) (a : Action) (plan : List Action) (t : List Literals) where
-  pub taken : (u : List Literals) → stepTable 128 a t ≡ table u → courseFrom goal rows place (a ∷ plan) t ≡ courseFrom goal (rows ++ rowOf place t ∷ []) (suc place) plan u
+  pub taken : (u : List Literals) → stepTable 128 a t ≡ table u
+      → courseFrom goal rows place (a ∷ plan) t ≡ courseFrom goal (rows ++ rowOf place t ∷ []) (suc place) plan u
   unfolding courseFrom
   taken u e =
       (λ j. record {
@@ -60,11 +64,15 @@ module _ (goal : List Literals) (rows : List Row) (place : ℕ) (a : Action) (pl
         };
         counts = countsOf (rows ++ rowOf place t ∷ rowsOr (e j) (λ v. rowsFrom 128 (suc place) plan v));
       })
-      ∙ ap (λ (r : List Row). record { ran = record { verdict = verdictOf (runFrom 128 goal (suc place) plan u); table = tableOf (lastTable 128 plan u) }; counts = countsOf r })
+      ∙ ap (λ (r : List Row). record {
+        ran = record { verdict = verdictOf (runFrom 128 goal (suc place) plan u); table = tableOf (lastTable 128 plan u) };
+        counts = countsOf r;
+      })
       (sym (append-assoc rows (rowOf place t ∷ []) (rowsFrom 128 (suc place) plan u)))
 
   pub halted : (k : ℕ) → stepTable 128 a t ≡ refused k
-      → courseFrom goal rows place (a ∷ plan) t ≡ Ending (verdictOf (haltedBy (eqb k 21) (suc place) k)) (tableOf t) (countsOf (rows ++ rowOf place t ∷ []))
+      → courseFrom goal rows place (a ∷ plan) t ≡ Ending (verdictOf (haltedBy (eqb k 21) (suc place) k)) (tableOf t)
+      (countsOf (rows ++ rowOf place t ∷ []))
   unfolding courseFrom
   halted k e = λ j. record {
     ran = record {
@@ -75,7 +83,8 @@ module _ (goal : List Literals) (rows : List Row) (place : ℕ) (a : Action) (pl
   }
 
 -- ---- what a step answers
-pub stepped : (t : Table) (o : Outcome) (s : TableAnswer) → s ≡ orGiven t o → s .answer ≡ Accepted → (u : List Literals) × (o ≡ table u) × (s .table ≡ tableOf u)
+pub stepped : (t : Table) (o : Outcome) (s : TableAnswer) → s ≡ orGiven t o → s .answer ≡ Accepted → (u : List Literals) × (o ≡ table u)
+    × (s .table ≡ tableOf u)
 unfolding orGiven
 stepped t (refused k) s e a = not-both (s .answer) k 0 a (ap (λ (x : TableAnswer). x .answer) e)
 stepped t (table u) s e a = (u, refl, ap (λ (x : TableAnswer). x .table) e)
@@ -93,7 +102,8 @@ ready-table n u h =
 -- the table has entries, and room for them
 pub ready-count : (n : ℕ) (t : Table) → Ready n t → (1 ≤ t .count) × (t .count ≤ 128)
 unfolding entries
-ready-count n t h = let e = length-entriesOf (t .count) (t .trues) (t .falses) in (omega (arith, h .described .least), omega (arith, h .described .most))
+ready-count n t h = let e = length-entriesOf (t .count) (t .trues) (t .falses) in
+    (omega (arith, h .described .least), omega (arith, h .described .most))
 
 -- ---- the run of a problem's plan from its start
 module _ (p : Problem) (g : ProperProblem p) (s : TableAnswer) (is : s ≡ orGiven (tableOf []) (startTable 128 p)) where
@@ -111,7 +121,8 @@ module _ (p : Problem) (g : ProperProblem p) (s : TableAnswer) (is : s ≡ orGiv
     pub started : startTable 128 p ≡ table (entries (s .table))
     started = first .1 ∙ ap table (sym (ap entries (first .2) ∙ entries-table (first .0) (first-described .most)))
 
-    pub start-run : (plan : List ℕ) → courseFrom (p .goal) [] 0 (actionsOf p plan) (entries (s .table)) ≡ plannedCourse p plan (startTable 128 p)
+    pub start-run : (plan : List ℕ) → courseFrom (p .goal) [] 0 (actionsOf p plan) (entries (s .table)) ≡ plannedCourse p plan
+        (startTable 128 p)
     unfolding courseFrom plannedCourse planned plannedRows
     start-run plan = sym (ap (plannedCourse p plan) started)
 

@@ -35,8 +35,10 @@ pub record Exact (p : Problem) (plan : List Action) (v : Verdict) (clauses : Opt
       → Comes (p .n) (Starting p) (takenBy (verdictOf v) plan) w ↔ All (λ c. T (meets c (state (p .n) w))) s
 
 -- ---- the class of a verdict that is not full; where it is not stopped, all moves are taken
-pub class-of : (n : ℕ) (goal : List Literals) (S : ℕ → Type 0) (plan : List Action) (v : Verdict) → ((k : ℕ) → v ≡ full k → ⊥) → Means n goal S plan v
-    → (c : Class) × (classOf (verdictOf v) ≡ some c) × ClassMeans n goal S plan c × ((c ≡ isStopped → ⊥) → takenBy (verdictOf v) plan ≡ plan)
+pub class-of : (n : ℕ) (goal : List Literals) (S : ℕ → Type 0) (plan : List Action) (v : Verdict) → ((k : ℕ) → v ≡ full k → ⊥)
+    → Means n goal S plan v
+    → (c : Class) × (classOf (verdictOf v) ≡ some c) × ClassMeans n goal S plan c
+    × ((c ≡ isStopped → ⊥) → takenBy (verdictOf v) plan ≡ plan)
 unfolding classOf verdictOf takenBy
 class-of n goal S plan reached f m = (isReached, refl, m, λ h. refl)
 class-of n goal S plan short f m = (isShort, refl, m, λ h. refl)
@@ -58,7 +60,8 @@ module _ (p : Problem) (hn : p .n ≤ 32) (plan other : List Action) (v u : Verd
   Two = Comes (p .n) (Starting p) (takenBy (verdictOf u) other)
 
   -- equal bytes exactly where the same worlds
-  pub same-bytes : (s r : List Literals) → a ≡ some s → b ≡ some r → (pictureBytes s ≡ pictureBytes r) ↔ ((w : ℕ) → w < 2 ^ p .n → One w ↔ Two w)
+  pub same-bytes : (s r : List Literals) → a ≡ some s → b ≡ some r → (pictureBytes s ≡ pictureBytes r)
+      ↔ ((w : ℕ) → w < 2 ^ p .n → One w ↔ Two w)
   same-bytes s r e f = (there, back)
     where
       there : pictureBytes s ≡ pictureBytes r → (w : ℕ) → w < 2 ^ p .n → One w ↔ Two w
@@ -71,7 +74,8 @@ module _ (p : Problem) (hn : p .n ≤ 32) (plan other : List Action) (v u : Verd
       back : ((w : ℕ) → w < 2 ^ p .n → One w ↔ Two w) → pictureBytes s ≡ pictureBytes r
       back h =
           ap pictureBytes
-          (prime-unique (p .n) Two s r (x .ascending s e) (y .ascending r f) (list-exactly (p .n) Two s (primeList-same h (x .primes s e))) (list-exactly (p .n) Two r (y .primes r f)))
+          (prime-unique (p .n) Two s r (x .ascending s e) (y .ascending r f) (list-exactly (p .n) Two s (primeList-same h (x .primes s e)))
+          (list-exactly (p .n) Two r (y .primes r f)))
 
   -- where every world ends alike under both plans: the same class, and the same bytes unless it is stopped
   module _ (alike : (w : ℕ) → w < 2 ^ p .n → runWorld (p .n) other w ≡ runWorld (p .n) plan w) where
@@ -82,17 +86,20 @@ module _ (p : Problem) (hn : p .n ≤ 32) (plan other : List Action) (v u : Verd
     pub same-class : ((k : ℕ) → v ≡ full k → ⊥) → ((k : ℕ) → u ≡ full k → ⊥) → (c : Class) × Agree c
     same-class f g = (c, (k .1, m .1 ∙ ap some (sym same), λ h s r e q. same-bytes s r e q .1 (λ w l. (there h w l, back h w l))))
       where
-        k : (c : Class) × (classOf (verdictOf v) ≡ some c) × ClassMeans (p .n) (p .goal) (Starting p) plan c × ((c ≡ isStopped → ⊥) → takenBy (verdictOf v) plan ≡ plan)
+        k : (c : Class) × (classOf (verdictOf v) ≡ some c) × ClassMeans (p .n) (p .goal) (Starting p) plan c
+            × ((c ≡ isStopped → ⊥) → takenBy (verdictOf v) plan ≡ plan)
         k = class-of (p .n) (p .goal) (Starting p) plan v f (x .means)
 
-        m : (c : Class) × (classOf (verdictOf u) ≡ some c) × ClassMeans (p .n) (p .goal) (Starting p) other c × ((c ≡ isStopped → ⊥) → takenBy (verdictOf u) other ≡ other)
+        m : (c : Class) × (classOf (verdictOf u) ≡ some c) × ClassMeans (p .n) (p .goal) (Starting p) other c
+            × ((c ≡ isStopped → ⊥) → takenBy (verdictOf u) other ≡ other)
         m = class-of (p .n) (p .goal) (Starting p) other u g (y .means)
 
         c : Class
         c = k .0
 
         same : c ≡ m .0
-        same = one-class (p .n) (p .goal) (Starting p) plan c (m .0) (k .2) (class-other (p .n) (p .goal) (Starting p) plan other alike (m .0) (m .2))
+        same = one-class (p .n) (p .goal) (Starting p) plan c (m .0) (k .2)
+            (class-other (p .n) (p .goal) (Starting p) plan other alike (m .0) (m .2))
 
         one : (c ≡ isStopped → ⊥) → takenBy (verdictOf v) plan ≡ plan
         one h = k .3 h
@@ -106,4 +113,5 @@ module _ (p : Problem) (hn : p .n ≤ 32) (plan other : List Action) (v u : Verd
 
         back : (c ≡ isStopped → ⊥) → (w : ℕ) → w < 2 ^ p .n → Two w → One w
         back h w l z = subst (λ (q : List Action). Comes (p .n) (Starting p) q w) (sym (one h))
-            (let i = subst (λ (q : List Action). Comes (p .n) (Starting p) q w) (two h) z in (i .0, i .1, i .2, sym (alike (i .0) (i .1)) ∙ i .3))
+            (let i = subst (λ (q : List Action). Comes (p .n) (Starting p) q w) (two h) z in
+            (i .0, i .1, i .2, sym (alike (i .0) (i .1)) ∙ i .3))

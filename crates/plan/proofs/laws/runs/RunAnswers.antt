@@ -1,4 +1,5 @@
--- The call run on an accepted sheet: its verdicts read back, the moves taken, what a run that is not refused has, and the run of any plan on
+-- The call run on an accepted sheet: its verdicts read back, the moves taken, what a run that is not refused has, and the run of any plan
+-- on
 -- the sheet that carries it. Assumes nothing.
 use mathlib.Core.Path.{_≡_, refl, sym, ap, _∙_}
 use mathlib.Core.Bool.{Bool, true, false, true≢false}
@@ -38,7 +39,8 @@ Outcomes p = ((N : ℕ) × (startTable 128 p ≡ Outcome.refused N)) ⊎ ((t : L
 pub outcomes : (p : Problem) → Outcomes p
 outcomes p = go (tables.start-kind 128 p)
   where
-    go : (startTable 128 p ≡ Outcome.refused 20) ⊎ ((startTable 128 p ≡ Outcome.refused 21) ⊎ ((t : List Literals) × (startTable 128 p ≡ Outcome.table t))) → Outcomes p
+    go : (startTable 128 p ≡ Outcome.refused 20) ⊎
+        ((startTable 128 p ≡ Outcome.refused 21) ⊎ ((t : List Literals) × (startTable 128 p ≡ Outcome.table t))) → Outcomes p
     go (inl e) = inl (20, e)
     go (inr (inl e)) = inl (21, e)
     go (inr (inr e)) = inr e
@@ -100,7 +102,8 @@ module _ (s : List ℕ) (x : Statement) (says : Says s x) where
     rows-enough f = go (ltb rows 65) refl
       where
         go : (b : Bool) → ltb rows 65 ≡ b → 65 ≤ rows
-        go true e = absurd (unrefused f 23 0 (unfold refusedRun in ap (λ (r : RunAnswer). r .verdict) (run-23 s x says rows (ltb-true rows 65 e))))
+        go true e = absurd (unrefused f 23 0
+            (unfold refusedRun in ap (λ (r : RunAnswer). r .verdict) (run-23 s x says rows (ltb-true rows 65 e))))
         go false e = ltb-false rows 65 e
 
     pub run-starts : runRefused run ≡ false → (t : List Literals) × (startTable 128 (x .problem) ≡ Outcome.table t)
@@ -109,7 +112,8 @@ module _ (s : List ℕ) (x : Statement) (says : Says s x) where
     -- one that has them is not refused
     pub started-run : 65 ≤ rows → (t : List Literals) → startTable 128 (x .problem) ≡ Outcome.table t → runRefused run ≡ false
     unfolding runRefused
-    started-run enough t e = ap (λ (r : RunAnswer). refusedVerdict (r .verdict)) (run-call s x says rows enough t e) ∙ never-refused (runFrom 128 (x .problem .goal) 0 (actionsOf (x .problem) (x .plan)) t)
+    started-run enough t e = ap (λ (r : RunAnswer). refusedVerdict (r .verdict)) (run-call s x says rows enough t e)
+        ∙ never-refused (runFrom 128 (x .problem .goal) 0 (actionsOf (x .problem) (x .plan)) t)
 
 -- ---- any plan on the sheet that carries it
 pub carried : (p : Problem) → ProperProblem p → (q : List ℕ) → All (λ i. i < length (p .actions)) q → length q ≤ 64
@@ -120,9 +124,12 @@ carried p hp q h l =
 
 module _ (p : Problem) (hp : ProperProblem p) (q : List ℕ) (h : All (λ i. i < length (p .actions)) q) (l : length q ≤ 64) where
   -- from the start table
-  pub with-table : (t : List Literals) → startTable 128 p ≡ Outcome.table t → runWith p q .verdict ≡ verdictOf (runFrom 128 (p .goal) 0 (actionsOf p q) t)
-  with-table t e = ap (λ (r : RunAnswer). r .verdict) (run-call (encode (record { problem = p; plan = q })) (record { problem = p; plan = q }) (carried p hp q h l) 65 (omega arith) t e)
+  pub with-table : (t : List Literals) → startTable 128 p ≡ Outcome.table t
+      → runWith p q .verdict ≡ verdictOf (runFrom 128 (p .goal) 0 (actionsOf p q) t)
+  with-table t e = ap (λ (r : RunAnswer). r .verdict)
+      (run-call (encode (record { problem = p; plan = q })) (record { problem = p; plan = q }) (carried p hp q h l) 65 (omega arith) t e)
 
   -- the start is refused
   pub with-refused : (N : ℕ) → startTable 128 p ≡ Outcome.refused N → runWith p q .verdict ≡ ran.Refused N 0
-  with-refused N e = run-number (encode (record { problem = p; plan = q })) (record { problem = p; plan = q }) (carried p hp q h l) 65 (omega arith) N 0 .1 (refl, e)
+  with-refused N e = run-number (encode (record { problem = p; plan = q })) (record { problem = p; plan = q }) (carried p hp q h l) 65
+      (omega arith) N 0 .1 (refl, e)

@@ -1,4 +1,5 @@
--- Runs by the starting worlds: what the verdict of a run that is not full says of them, the moves they take, the worlds they become. Assumes
+-- Runs by the starting worlds: what the verdict of a run that is not full says of them, the moves they take, the worlds they become.
+-- Assumes
 -- nothing.
 use mathlib.Core.Path.{_≡_, refl, sym, ap, subst, _∙_}
 use mathlib.Core.Bool.{false, true≢false}
@@ -56,7 +57,8 @@ module _ (s : List ℕ) (x : Statement) (says : Says s x) (rows : ℕ) (given : 
   verdict = runFrom 128 (x .problem .goal) 0 (actionsOf (x .problem) (x .plan)) (run-starts s x says rows given .0)
 
   call-verdict : runOf (sheetOf s) rows .verdict ≡ verdictOf verdict
-  call-verdict = ap (λ (r : RunAnswer). r .verdict) (run-call s x says rows (rows-enough s x says rows given) (run-starts s x says rows given .0) starts)
+  call-verdict = ap (λ (r : RunAnswer). r .verdict)
+      (run-call s x says rows (rows-enough s x says rows given) (run-starts s x says rows given .0) starts)
 
   -- by the starting worlds
   run-is : runFull (runOf (sheetOf s) rows) ≡ false → (v : Verdict) → ((k : ℕ) → v ≡ full k → ⊥)
@@ -68,7 +70,8 @@ module _ (s : List ℕ) (x : Statement) (says : Says s x) (rows : ℕ) (given : 
   )
     where
       law : (verdict ≡ v) ↔ Means (p .n) (p .goal) (Starting p) plan v
-      law = verdict-is p run-hp (run-starts s x says rows given .0) starts (x .plan) hq (not-full verdict (ap fullVerdict (sym call-verdict) ∙ f)) v g
+      law = verdict-is p run-hp (run-starts s x says rows given .0) starts (x .plan) hq
+          (not-full verdict (ap fullVerdict (sym call-verdict) ∙ f)) v g
 
   -- the moves taken
   taken-first : actionsOf p (taken s x rows) ≡ take (movesTaken 128 plan (run-starts s x says rows given .0)) plan
@@ -78,13 +81,15 @@ module _ (s : List ℕ) (x : Statement) (says : Says s x) (rows : ℕ) (given : 
       ∙ taken-by 128 (p .goal) plan (run-starts s x says rows given .0) plan refl
 
   pub run-takes : Every (p .n) (Starting p) Ends (actionsOf p (taken s x rows))
-  run-takes = subst (Every (p .n) (Starting p) Ends) (sym taken-first) (last-arrives p run-hp (run-starts s x says rows given .0) starts (x .plan) hq .defined)
+  run-takes = subst (Every (p .n) (Starting p) Ends) (sym taken-first)
+      (last-arrives p run-hp (run-starts s x says rows given .0) starts (x .plan) hq .defined)
 
   pub run-comes : (v : ℕ) → v < 2 ^ p .n → In (p .n) (entries (runOf (sheetOf s) rows .table)) v ↔ Becomes s x rows v
   run-comes v l = rw (last-entries s x says rows (rows-enough s x says rows given) (run-starts s x says rows given .0) starts, taken-first)
       (last-arrives p run-hp (run-starts s x says rows given .0) starts (x .plan) hq .worlds v l)
 
--- ---- a run that is not full, whether or not its start gives a table: it does where some starting world is known from what the verdict says
+-- ---- a run that is not full, whether or not its start gives a table: it does where some starting world is known from what the verdict
+-- says
 module _ (s : List ℕ) (x : Statement) (says : Says s x) (rows : ℕ) (enough : 65 ≤ rows) (unfull : runFull (runOf (sheetOf s) rows) ≡ false)
     (v : Verdict) (not-that : (k : ℕ) → v ≡ full k → ⊥) where
   abbrev Meant : Type 0
@@ -93,7 +98,8 @@ module _ (s : List ℕ) (x : Statement) (says : Says s x) (rows : ℕ) (enough :
   pub run-means : (Meant → (w : ℕ) × Starts (x .problem) w) → (runOf (sheetOf s) rows .verdict ≡ verdictOf v) ↔ Meant
   run-means has = go (tables.start-kind 128 (x .problem))
     where
-      go : (startTable 128 (x .problem) ≡ Outcome.refused 20) ⊎ ((startTable 128 (x .problem) ≡ Outcome.refused 21) ⊎ ((t : List Literals) × (startTable 128 (x .problem) ≡ Outcome.table t)))
+      go : (startTable 128 (x .problem) ≡ Outcome.refused 20)
+          ⊎ ((startTable 128 (x .problem) ≡ Outcome.refused 21) ⊎ ((t : List Literals) × (startTable 128 (x .problem) ≡ Outcome.table t)))
           → (runOf (sheetOf s) rows .verdict ≡ verdictOf v) ↔ Meant
       go (inl e) = (
         λ h. absurd (not-refused v 20 0 (sym h ∙ run-number s x says rows enough 20 0 .1 (refl, e))),

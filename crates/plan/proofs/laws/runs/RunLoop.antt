@@ -39,7 +39,8 @@ use Rattle.plan.proofs.laws.runs.CourseSteps.{Ending, note-row, taken, 
 use Rattle.plan.proofs.laws.searches.SearchMoves.{ready-after, came, refused-by}
 
 -- ---- what a step gave, as an answer with a table
-pub step-as : (t : Table) {r : Stepped} (us gs : List ℕ) {s : TableAnswer} → stepAnswer t r us gs ≡ s → {y : Stepped} → r ≡ y → stepAnswer t y us gs ≡ s
+pub step-as : (t : Table) {r : Stepped} (us gs : List ℕ) {s : TableAnswer} → stepAnswer t r us gs ≡ s → {y : Stepped} → r ≡ y
+    → stepAnswer t y us gs ≡ s
 step-as t us gs e q = sym (ap (λ (y : Stepped). stepAnswer t y us gs) q) ∙ e
 
 -- ---- a step in its place, on the table t: in the arrays lies the new table, or still t
@@ -52,7 +53,8 @@ module _ (t : Table) (us gs : List ℕ) where
       let f = stopped t o _ k p e refl in
       ap (λ (s : TableAnswer). record { answer = s .answer; table = t }) (e ∙ ap (orGiven t) f) ∙ sym (ap (orGiven t) f)
 
-  kept-here : (r : Stepped) (o : Outcome) → stepAnswer (lent (t .count) us gs) r us gs ≡ orGiven t o → (k p : ℕ) → r ≡ moved.Refused k p → lent (t .count) us gs ≡ t
+  kept-here : (r : Stepped) (o : Outcome) → stepAnswer (lent (t .count) us gs) r us gs ≡ orGiven t o → (k p : ℕ) → r ≡ moved.Refused k p
+      → lent (t .count) us gs ≡ t
   unfolding orGiven
   kept-here r o e k p q =
       let f : stepAnswer (lent (t .count) us gs) (moved.Refused k p) us gs ≡ orGiven t o = step-as (lent (t .count) us gs) us gs e q in
@@ -83,17 +85,21 @@ pub record Going (plan : Plan) (packed : List ℕ) (whole : Course) (i : ℕ) (t
   pub counts-are : c ≡ countsOf rows
   pub onwards : courseFrom (setsIn (goalIn packed)) rows i (left plan packed i) (entries t) ≡ whole
 
-pub going-start : {plan : Plan} {packed : List ℕ} {t : Table} {c : Counts} → Runnable plan packed t → length (plan .numbers) ≡ 64 → c ≡ countsOf []
+pub going-start : {plan : Plan} {packed : List ℕ} {t : Table} {c : Counts} → Runnable plan packed t → length (plan .numbers) ≡ 64
+    → c ≡ countsOf []
     → Going plan packed (courseFrom (setsIn (goalIn packed)) [] 0 (left plan packed 0) (entries t)) 0 t c
-going-start h l e = record { can = h; long = omega (arith, h .most); rows = []; few = omega arith; most = omega arith; counts-are = e; onwards = refl }
+going-start h l e = record
+    { can = h; long = omega (arith, h .most); rows = []; few = omega arith; most = omega arith; counts-are = e; onwards = refl }
 
 -- the number of the next move is that of a move
-pub number-below : {plan : Plan} {packed : List ℕ} {t : Table} {i : ℕ} (h : Runnable plan packed t) → plan .count ≤ length (plan .numbers) → i < plan .count
+pub number-below : {plan : Plan} {packed : List ℕ} {t : Table} {i : ℕ} (h : Runnable plan packed t) → plan .count ≤ length (plan .numbers)
+    → i < plan .count
     → getD (plan .numbers) i 0 < h .count
 unfolding planIn
 number-below {plan} {i = i} h long lt =
     let l = length-take-le (plan .count) (plan .numbers) long in
-    subst (λ (n : ℕ). n < h .count) (getD-take (plan .count) (plan .numbers) i 0 lt) (all-at (λ n. n < h .count) (planIn plan) i 0 (omega (arith, l)) (h .numbers))
+    subst (λ (n : ℕ). n < h .count) (getD-take (plan .count) (plan .numbers) i 0 lt)
+    (all-at (λ n. n < h .count) (planIn plan) i 0 (omega (arith, l)) (h .numbers))
 
 module _ {plan : Plan} {packed : List ℕ} {whole : Course} {i : ℕ} {t : Table} {c : Counts} (h : Going plan packed whole i t c) where
   -- there is room for a row
@@ -102,7 +108,8 @@ module _ {plan : Plan} {packed : List ℕ} {whole : Course} {i : ℕ} {t : Table
   going-room = let e : c .count ≡ length (h .rows) = ap (λ (y : Counts). y .count) (h .counts-are) in omega (arith, h .most, h .can .most)
 
   noted-rows : noted c (entries t) ≡ countsOf (h .rows ++ rowOf i (entries t) ∷ [])
-  noted-rows = ap (λ (y : Counts). noted y (entries t)) (h .counts-are) ∙ note-row (h .rows) i (entries t) (omega (arith, h .most, h .can .most))
+  noted-rows = ap (λ (y : Counts). noted y (entries t)) (h .counts-are)
+      ∙ note-row (h .rows) i (entries t) (omega (arith, h .most, h .can .most))
 
   -- after the last move
   pub going-end : plan .count ≤ i → {v : case.Verdict} → v ≡ verdictOf (endedIn (allOf (inGoal (setsIn (goalIn packed))) (entries t)))
@@ -110,7 +117,8 @@ module _ {plan : Plan} {packed : List ℕ} {whole : Course} {i : ℕ} {t : Table
   unfolding courseFrom planIn
   going-end k ev ed =
       (λ j. record { ran = record { verdict = ev j; table = h .can .fits .ready .zeros j }; counts = (ed ∙ noted-rows) j })
-      ∙ sym (ap (λ (p : List ℕ). courseFrom (setsIn (goalIn packed)) (h .rows) i (map (actionOf (movesIn packed)) p) (entries t)) (part-end (plan .count) (plan .numbers) i k (h .long)))
+      ∙ sym (ap (λ (p : List ℕ). courseFrom (setsIn (goalIn packed)) (h .rows) i (map (actionOf (movesIn packed)) p) (entries t))
+      (part-end (plan .count) (plan .numbers) i k (h .long)))
       ∙ h .onwards
 
   module _ (lt : i < plan .count) where
@@ -123,10 +131,13 @@ module _ {plan : Plan} {packed : List ℕ} {whole : Course} {i : ℕ} {t : Table
     unrolled : courseFrom (setsIn (goalIn packed)) (h .rows) i (actionOf (movesIn packed) m ∷ left plan packed (i + 1)) (entries t) ≡ whole
     unfolding planIn
     unrolled =
-        sym (ap (λ (p : List ℕ). courseFrom (setsIn (goalIn packed)) (h .rows) i (map (actionOf (movesIn packed)) p) (entries t)) (part-step (plan .count) (plan .numbers) i 0 lt (h .long)))
+        sym (ap (λ (p : List ℕ). courseFrom (setsIn (goalIn packed)) (h .rows) i (map (actionOf (movesIn packed)) p) (entries t))
+        (part-step (plan .count) (plan .numbers) i 0 lt (h .long)))
         ∙ h .onwards
 
-    module _ (r : Stepped) (us gs : List ℕ) (here : stepAnswer (lent (t .count) us gs) r us gs ≡ orGiven t (stepTable 128 (actionOf (movesIn packed) m) (entriesOf (t .count) (t .trues) (t .falses))))
+    module _ (r : Stepped) (us gs : List ℕ)
+        (here : stepAnswer (lent (t .count) us gs) r us gs ≡ orGiven t
+        (stepTable 128 (actionOf (movesIn packed) m) (entriesOf (t .count) (t .trues) (t .falses))))
         {d : Counts} (ed : d ≡ noted c (entries t)) where
       told : stepAnswer t r us gs ≡ orGiven t (stepTable 128 (actionOf (movesIn packed) m) (entriesOf (t .count) (t .trues) (t .falses)))
       told = told-here t us gs r _ here
@@ -134,24 +145,36 @@ module _ {plan : Plan} {packed : List ℕ} {whole : Course} {i : ℕ} {t : Table
       -- the step gave a table
       pub going-on : {k : ℕ} → r ≡ moved.To k → Going plan packed whole (i + 1) (lent k us gs) d
       going-on {k} e = record {
-        can = record { count = h .can .count; fits = ready-after (h .can .fits) below r us gs told e; most = h .can .most; numbers = h .can .numbers };
+        can = record {
+          count = h .can .count;
+          fits = ready-after (h .can .fits) below r us gs told e;
+          most = h .can .most;
+          numbers = h .can .numbers;
+        };
         long = h .long;
         rows = h .rows ++ rowOf i (entries t) ∷ [];
         few = omega (arith, h .few, length-append (h .rows) (rowOf i (entries t) ∷ []));
         most = omega (arith, h .few, length-append (h .rows) (rowOf i (entries t) ∷ []));
         counts-are = ed ∙ noted-rows;
         onwards =
-            ap (λ (n : ℕ). courseFrom (setsIn (goalIn packed)) (h .rows ++ rowOf i (entries t) ∷ []) n (left plan packed (i + 1)) (entries (lent k us gs))) (add-one i)
-            ∙ sym (taken (setsIn (goalIn packed)) (h .rows) i (actionOf (movesIn packed) m) (left plan packed (i + 1)) (entries t) _ (came (h .can .fits) below r us gs told e))
+            ap (λ (n : ℕ). courseFrom (setsIn (goalIn packed)) (h .rows ++ rowOf i (entries t) ∷ []) n (left plan packed (i + 1))
+            (entries (lent k us gs))) (add-one i)
+            ∙ sym (taken (setsIn (goalIn packed)) (h .rows) i (actionOf (movesIn packed) m) (left plan packed (i + 1)) (entries t) _
+            (came (h .can .fits) below r us gs told e))
             ∙ unrolled;
       }
 
       -- the step was refused
-      pub going-halt : {k p : ℕ} → r ≡ moved.Refused k p → {v : case.Verdict} → v ≡ verdictOf (haltedBy (eqb k 21) (i + 1) k) → Ending v (lent (t .count) us gs) d ≡ whole
+      pub going-halt : {k p : ℕ} → r ≡ moved.Refused k p → {v : case.Verdict} → v ≡ verdictOf (haltedBy (eqb k 21) (i + 1) k)
+          → Ending v (lent (t .count) us gs) d ≡ whole
       going-halt {k} {p} e ev =
           (λ j. record {
-            ran = record { verdict = (ev ∙ ap (λ (n : ℕ). verdictOf (haltedBy (eqb k 21) n k)) (add-one i)) j; table = (kept-here t us gs r _ here k p e ∙ h .can .fits .ready .zeros) j };
+            ran = record {
+              verdict = (ev ∙ ap (λ (n : ℕ). verdictOf (haltedBy (eqb k 21) n k)) (add-one i)) j;
+              table = (kept-here t us gs r _ here k p e ∙ h .can .fits .ready .zeros) j;
+            };
             counts = (ed ∙ noted-rows) j;
           })
-          ∙ sym (halted (setsIn (goalIn packed)) (h .rows) i (actionOf (movesIn packed) m) (left plan packed (i + 1)) (entries t) k (refused-by (h .can .fits) below r us gs told e i 0))
+          ∙ sym (halted (setsIn (goalIn packed)) (h .rows) i (actionOf (movesIn packed) m) (left plan packed (i + 1)) (entries t) k
+          (refused-by (h .can .fits) below r us gs told e i 0))
           ∙ unrolled

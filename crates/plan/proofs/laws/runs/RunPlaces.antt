@@ -1,4 +1,5 @@
--- The run by the calls start, step and picture: what it stops at, the table it returns, its rows (Demand 1 of specs/Demands). Assumes nothing.
+-- The run by the calls start, step and picture: what it stops at, the table it returns, its rows (Demand 1 of specs/Demands). Assumes
+-- nothing.
 use mathlib.Core.Path.{_≡_, refl, sym, ap, subst, _∙_}
 use mathlib.Core.Bool.{Bool, true, false, cond}
 use mathlib.Core.List.{List, [], _∷_, _++_, map}
@@ -99,9 +100,15 @@ module _ (s : List ℕ) (x : Statement) (says : Says s x) where
   size = sym (length-map (x .plan) (actionAt p))
 
   -- the call step on a table as described
-  step-call : (u : List Literals) → Described 128 (p .n) u → (m : ℕ) → OnSheet x m → stepOf (sheetOf s) (tableOf u) m ≡ orGiven (tableOf u) (stepTable 128 (actionAt p m) u)
+  step-call : (u : List Literals) → Described 128 (p .n) u → (m : ℕ) → OnSheet x m
+      → stepOf (sheetOf s) (tableOf u) m ≡ orGiven (tableOf u) (stepTable 128 (actionAt p m) u)
   unfolding stepOf
-  step-call u d m on = rw (says, lt-ltb m (length (x .problem .actions)) on, entries-table u (d .most), tables.described-iff 128 (x .problem .n) u .1 d)
+  step-call u d m on = rw (
+    says,
+    lt-ltb m (length (x .problem .actions)) on,
+    entries-table u (d .most),
+    tables.described-iff 128 (x .problem .n) u .1 d,
+  )
       (ap (λ (es : List Literals). orGiven (tableOf u) (stepTable 128 (actionAt p m) es)) (entries-table u (d .most)))
 
   -- the table after some moves
@@ -109,13 +116,17 @@ module _ (s : List ℕ) (x : Statement) (says : Says s x) where
       → stepped s ms (tableOf u) ≡ tabled (tableAt 128 (length ms) (actionsOf p ms) u)
   unfolding tabled actionsOf
   stepped-at [] h u d = refl
-  stepped-at (m ∷ ms) h u d = ap (λ (r : TableAnswer). andThen (whenAccepted (r .answer) (r .table)) (λ v. stepped s ms v)) (step-call u d m (h .0)) ∙ go (stepTable 128 (actionAt p m) u) refl (stepped-at ms (h .1))
+  stepped-at (m ∷ ms) h u d = ap (λ (r : TableAnswer). andThen (whenAccepted (r .answer) (r .table)) (λ v. stepped s ms v))
+      (step-call u d m (h .0)) ∙ go (stepTable 128 (actionAt p m) u) refl (stepped-at ms (h .1))
     where
       go : (o : Outcome) → stepTable 128 (actionAt p m) u ≡ o
-          → ((v : List Literals) → Described 128 (p .n) v → stepped s ms (tableOf v) ≡ tabled (tableAt 128 (length ms) (map (actionAt p) ms) v))
-          → andThen (whenAccepted (orGiven (tableOf u) o .answer) (orGiven (tableOf u) o .table)) (λ v. stepped s ms v) ≡ tabled (thenTable o (λ v. tableAt 128 (length ms) (map (actionAt p) ms) v))
+          → ((v : List Literals) → Described 128 (p .n) v → stepped s ms (tableOf v) ≡ tabled
+          (tableAt 128 (length ms) (map (actionAt p) ms) v))
+          → andThen (whenAccepted (orGiven (tableOf u) o .answer) (orGiven (tableOf u) o .table)) (λ v. stepped s ms v)
+          ≡ tabled (thenTable o (λ v. tableAt 128 (length ms) (map (actionAt p) ms) v))
       go (Outcome.refused k) e ih = unfold orGiven in refl
-      go (Outcome.table v) e ih = unfold orGiven in ih v (tables.step-table (p .n) (hp .n-most) (actionAt p m) (at-proper p hp m (h .0)) u d 128 v e .0)
+      go (Outcome.table v) e ih = unfold orGiven in ih v
+          (tables.step-table (p .n) (hp .n-most) (actionAt p m) (at-proper p hp m (h .0)) u d 128 v e .0)
 
   -- ---- from the start table
   module _ (t : List Literals) (starts : startTable 128 (x .problem) ≡ Outcome.table t) where
@@ -137,7 +148,8 @@ module _ (s : List ℕ) (x : Statement) (says : Says s x) where
             ap (λ (j : ℕ). tableAt 128 j (map (actionAt p) (take i (x .plan))) t) (length-take-le i (x .plan) l)
             ∙ ap (λ (a : List Action). tableAt 128 i a t) (map-take (actionAt p) i (x .plan))
 
-    arrived-some : (i : ℕ) (u : List Literals) → i ≤ length (x .plan) → tableAt 128 i plan t ≡ some u → arrived s (take i (x .plan)) ≡ some (tableOf u)
+    arrived-some : (i : ℕ) (u : List Literals) → i ≤ length (x .plan) → tableAt 128 i plan t ≡ some u
+        → arrived s (take i (x .plan)) ≡ some (tableOf u)
     unfolding tabled
     arrived-some i u l e = arrived-at i l ∙ ap tabled e
 
@@ -176,10 +188,16 @@ module _ (s : List ℕ) (x : Statement) (says : Says s x) where
             refuses : stepOf (sheetOf s) (tableOf (r .last)) m .answer ≡ Refused N 0
             refuses = unfold orGiven in
                 ap (λ (z : TableAnswer). z .answer)
-                (step-call (r .last) (place-described j (r .last) (r .arrives)) m on ∙ ap (orGiven (tableOf (r .last))) (ap (λ (a : Action). stepTable 128 a (r .last)) move ∙ r .gives))
+                (step-call (r .last) (place-described j (r .last) (r .arrives)) m on
+                ∙ ap (orGiven (tableOf (r .last))) (ap (λ (a : Action). stepTable 128 a (r .last)) move ∙ r .gives))
 
     call-refuses : (k N : ℕ) → StepRefused s (x .plan) k N → (j : ℕ) × (k ≡ suc j) × Refuses 128 plan t j N
-    call-refuses k N r = (r .before, r .place, go (tableAt 128 (r .before) plan t) refl (sym (arrived-at (r .before) (omega (arith, low))) ∙ r .arrives))
+    call-refuses k N r = (
+      r .before,
+      r .place,
+      go (tableAt 128 (r .before) plan t) refl
+          (sym (arrived-at (r .before) (omega (arith, low))) ∙ r .arrives),
+    )
       where
         low : r .before < length (x .plan)
         low = omega (arith, length-drop (r .before) (x .plan), ap length (r .next))
@@ -187,7 +205,8 @@ module _ (s : List ℕ) (x : Statement) (says : Says s x) where
         on : OnSheet x (r .move)
         on = subst (All (λ i. i < length (p .actions))) (r .next) (all-drop (λ i. i < length (p .actions)) (r .before) (x .plan) hq) .0
 
-        go : (o : Option (List Literals)) → tableAt 128 (r .before) plan t ≡ o → tabled o ≡ some (r .last) → Refuses 128 plan t (r .before) N
+        go : (o : Option (List Literals)) → tableAt 128 (r .before) plan t ≡ o → tabled o ≡ some (r .last)
+            → Refuses 128 plan t (r .before) N
         go none e f = unfold tabled in absurd (Option·none-ne-some (r .last) f)
         go (some u) e f = record {
           last = u;
@@ -196,7 +215,8 @@ module _ (s : List ℕ) (x : Statement) (says : Says s x) where
           later = map (actionAt p) (r .later);
           next = unfold actionsOf in sym (map-drop (actionAt p) (r .before) (x .plan)) ∙ ap (map (actionAt p)) (r .next);
           gives = number-of (tableOf u) (stepTable 128 (actionAt p (r .move)) u) N
-              (ap (λ (z : TableAnswer). z .answer) (sym (step-call u (place-described (r .before) u e) (r .move) on)) ∙ ap (λ (l : Table). stepOf (sheetOf s) l (r .move) .answer) is ∙ r .gives);
+              (ap (λ (z : TableAnswer). z .answer) (sym (step-call u (place-described (r .before) u e) (r .move) on))
+              ∙ ap (λ (l : Table). stepOf (sheetOf s) l (r .move) .answer) is ∙ r .gives);
         }
           where
             is : tableOf u ≡ r .last
@@ -213,10 +233,12 @@ module _ (s : List ℕ) (x : Statement) (says : Says s x) where
     unfolding tabled
     arrived-end u e = arrived-all ∙ ap tabled e
 
-    end-arrived : (u : Table) → arrived s (x .plan) ≡ some u → (v : List Literals) × (tableAt 128 (length plan) plan t ≡ some v) × (tableOf v ≡ u)
+    end-arrived : (u : Table) → arrived s (x .plan) ≡ some u → (v : List Literals) × (tableAt 128 (length plan) plan t ≡ some v)
+        × (tableOf v ≡ u)
     end-arrived u e = go (tableAt 128 (length plan) plan t) refl (sym arrived-all ∙ e)
       where
-        go : (o : Option (List Literals)) → tableAt 128 (length plan) plan t ≡ o → tabled o ≡ some u → (v : List Literals) × (tableAt 128 (length plan) plan t ≡ some v) × (tableOf v ≡ u)
+        go : (o : Option (List Literals)) → tableAt 128 (length plan) plan t ≡ o → tabled o ≡ some u → (v : List Literals)
+            × (tableAt 128 (length plan) plan t ≡ some v) × (tableOf v ≡ u)
         go none f g = unfold tabled in absurd (Option·none-ne-some u g)
         go (some v) f g = (v, f, unfold tabled in Option·some-injective (tableOf v) u g)
 
@@ -237,7 +259,8 @@ module _ (s : List ℕ) (x : Statement) (says : Says s x) where
         λ e.
             let r = by-stopped p hp t starts (x .plan) hq k N .0 (verdict-injective verdict (stopped k N) (sym call-verdict ∙ e)) in
             (subst (λ (i : ℕ). StepRefused s (x .plan) i N) (sym (r .1)) (refuses-call (r .0) N (r .2)), r .3),
-        λ h. let r = call-refuses k N (h .0) in call-verdict ∙ ap verdictOf (by-stopped p hp t starts (x .plan) hq k N .1 (r .0, r .1, r .2, h .1)),
+        λ h. let r = call-refuses k N (h .0) in call-verdict
+            ∙ ap verdictOf (by-stopped p hp t starts (x .plan) hq k N .1 (r .0, r .1, r .2, h .1)),
       )
 
       full-is : (k : ℕ) → (runOf (sheetOf s) rows .verdict ≡ ran.Full k) ↔ StepRefused s (x .plan) k 21
@@ -249,29 +272,54 @@ module _ (s : List ℕ) (x : Statement) (says : Says s x) where
         λ h. let r = call-refuses k 21 h in call-verdict ∙ ap verdictOf (by-full p hp t starts (x .plan) hq k .1 (r .0, r .1, r .2)),
       )
 
-      reached-is : (runOf (sheetOf s) rows .verdict ≡ ran.Reached) ↔ ((u : Table) × (arrived s (x .plan) ≡ some u) × ((w : ℕ) → WorldOf x u w → InGoal (p .n) (p .goal) w))
+      reached-is : (runOf (sheetOf s) rows .verdict ≡ ran.Reached)
+          ↔ ((u : Table) × (arrived s (x .plan) ≡ some u) × ((w : ℕ) → WorldOf x u w → InGoal (p .n) (p .goal) w))
       unfolding verdictOf
       reached-is = (
         λ e.
-            let r = by-reached p hp t starts (x .plan) hq .0 (verdict-injective verdict reached (sym call-verdict ∙ e)) in
-            (tableOf (r .0), arrived-end (r .0) (r .1), λ w h. r .2 w (h .0) (subst (λ (es : List Literals). In (p .n) es w) (held (r .0) (r .1)) (h .1))),
+            let r = by-reached p hp t starts (x .plan) hq .0 (verdict-injective verdict reached (sym call-verdict ∙ e)) in (
+              tableOf (r .0),
+              arrived-end (r .0) (r .1),
+              λ w h. r .2 w (h .0)
+                  (subst (λ (es : List Literals). In (p .n) es w) (held (r .0) (r .1)) (h .1)),
+            ),
         λ h.
             let r = end-arrived (h .0) (h .1) in
-            call-verdict ∙ ap verdictOf (by-reached p hp t starts (x .plan) hq .1 (r .0, r .1, λ w l i. h .2 w (l, subst (λ (es : List Literals). In (p .n) es w) (sym (ap entries (sym (r .2)) ∙ held (r .0) (r .1))) i))),
+            call-verdict ∙ ap verdictOf
+            (by-reached p hp t starts (x .plan) hq .1 (
+              r .0,
+              r .1,
+              λ w l i. h .2 w
+                  (l, subst (λ (es : List Literals). In (p .n) es w) (sym (ap entries (sym (r .2)) ∙ held (r .0) (r .1))) i),
+            )),
       )
 
-      short-is : (runOf (sheetOf s) rows .verdict ≡ ran.Short) ↔ ((u : Table) × (arrived s (x .plan) ≡ some u) × ((w : ℕ) × WorldOf x u w × (InGoal (p .n) (p .goal) w → ⊥)))
+      short-is : (runOf (sheetOf s) rows .verdict ≡ ran.Short)
+          ↔ ((u : Table) × (arrived s (x .plan) ≡ some u) × ((w : ℕ) × WorldOf x u w × (InGoal (p .n) (p .goal) w → ⊥)))
       unfolding verdictOf
       short-is = (
         λ e.
             let r = by-short p hp t starts (x .plan) hq .0 (verdict-injective verdict short (sym call-verdict ∙ e)) in
-            let k = r .2 in
-            (tableOf (r .0), arrived-end (r .0) (r .1), (k .0, (k .1, subst (λ (es : List Literals). In (p .n) es (k .0)) (sym (held (r .0) (r .1))) (k .2)), k .3)),
+            let k = r .2 in (
+              tableOf (r .0),
+              arrived-end (r .0) (r .1),
+              (k .0, (k .1, subst (λ (es : List Literals). In (p .n) es (k .0)) (sym (held (r .0) (r .1))) (k .2)), k .3),
+            ),
         λ h.
             let r = end-arrived (h .0) (h .1) in
             let k = h .2 in
             call-verdict
-            ∙ ap verdictOf (by-short p hp t starts (x .plan) hq .1 (r .0, r .1, (k .0, k .1 .0, subst (λ (es : List Literals). In (p .n) es (k .0)) (ap entries (sym (r .2)) ∙ held (r .0) (r .1)) (k .1 .1), k .2))),
+            ∙ ap verdictOf (by-short p hp t starts (x .plan) hq .1 (
+              r .0,
+              r .1,
+              (
+                k .0,
+                k .1 .0,
+                subst (λ (es : List Literals). In (p .n) es (k .0))
+                    (ap entries (sym (r .2)) ∙ held (r .0) (r .1)) (k .1 .1),
+                k .2,
+              ),
+            )),
       )
 
       -- ---- the moves taken
@@ -305,9 +353,12 @@ module _ (s : List ℕ) (x : Statement) (says : Says s x) where
         call : pictureOf (sheetOf s) (tableOf u) 2050 ≡ pictured.given (picture u) 2050
         call = unfold pictureOf in rw (says, entries-table u (d .most), tables.described-iff 128 (x .problem .n) u .1 d) refl
 
-        go : (o : Option (List Literals)) → picture u ≡ o → clausesOr (pictured.given o 2050 .answer) (pictured.given o 2050 .clauses) ≡ sizeOf o
+        go : (o : Option (List Literals)) → picture u ≡ o → clausesOr (pictured.given o 2050 .answer) (pictured.given o 2050 .clauses)
+            ≡ sizeOf o
         go none e = unfold pictured.given refusal sizeOf in refl
-        go (some c) e = unfold pictured.given sizeOf in ap (λ (b : Bool). clausesOr (cond b (refusal 23 0) (record { answer = Accepted; clauses = length c }) .answer) (cond b (refusal 23 0) (record { answer = Accepted; clauses = length c }) .clauses)) fits
+        go (some c) e = unfold pictured.given sizeOf in ap
+            (λ (b : Bool). clausesOr (cond b (refusal 23 0) (record { answer = Accepted; clauses = length c }) .answer)
+            (cond b (refusal 23 0) (record { answer = Accepted; clauses = length c }) .clauses)) fits
           where
             fits : tooLong c 2050 ≡ false
             fits = unfold tooLong in le-ltb 2050 (2 + 8 * length c) (omega (arith, tables.picture-ascending (hp .n-most) d e .1))
@@ -320,7 +371,12 @@ module _ (s : List ℕ) (x : Statement) (says : Says s x) where
       row-is : (i : ℕ) → i ≤ length (taken s x (length rows)) → (d : Row)
           → (u : Table) × (arrived s (take i (x .plan)) ≡ some u)
           × (getD (rowsAfter (sheetOf s) rows) i d
-          ≡ record { place = i; entries = u .count; clauses = clausesOr (pictureOf (sheetOf s) u 2050 .answer) (pictureOf (sheetOf s) u 2050 .clauses) })
+          ≡ record {
+            place = i;
+            entries = u .count;
+            clauses = clausesOr (pictureOf (sheetOf s) u 2050 .answer)
+                (pictureOf (sheetOf s) u 2050 .clauses);
+          })
       row-is i l d = (tableOf (k .0), arrived-some i (k .0) below (k .1), inside ∙ row)
         where
           below : i ≤ length (x .plan)
@@ -330,14 +386,21 @@ module _ (s : List ℕ) (x : Statement) (says : Says s x) where
           k = running.arrived 128 plan t i .0 (omega (arith, l, taken-count (length rows) enough))
 
           inside : getD (rowsAfter (sheetOf s) rows) i d ≡ getD wrote i d
-          inside = unfold rowsAfter in List·getD-append wrote (drop (length wrote) rows) d i (omega (arith, l, taken-count (length rows) enough, rows-many (length rows) enough))
+          inside = unfold rowsAfter in List·getD-append wrote (drop (length wrote) rows) d i
+              (omega (arith, l, taken-count (length rows) enough, rows-many (length rows) enough))
 
-          row : getD wrote i d ≡ record { place = i; entries = tableOf (k .0) .count; clauses = clausesOr (pictureOf (sheetOf s) (tableOf (k .0)) 2050 .answer) (pictureOf (sheetOf s) (tableOf (k .0)) 2050 .clauses) }
+          row : getD wrote i d ≡ record {
+            place = i;
+            entries = tableOf (k .0) .count;
+            clauses = clausesOr (pictureOf (sheetOf s) (tableOf (k .0)) 2050 .answer)
+                (pictureOf (sheetOf s) (tableOf (k .0)) 2050 .clauses);
+          }
           row = unfold tableOf rowOf in
               ap (λ (r : List Row). getD r i d) (rows-are (length rows) enough)
               ∙ running.row-at 128 0 plan t i (k .0) d (k .1)
               ∙ ap (λ (j : ℕ). rowOf j (k .0)) (omega arith)
-              ∙ ap {B = Row} (λ (c : ℕ). record { place = i; entries = length (k .0); clauses = c }) (sym (row-clauses (k .0) (place-described i (k .0) (k .1))))
+              ∙ ap {B = Row} (λ (c : ℕ). record { place = i; entries = length (k .0); clauses = c })
+              (sym (row-clauses (k .0) (place-described i (k .0) (k .1))))
 
       rest-is : (i : ℕ) → length (taken s x (length rows)) < i → (d : Row) → getD (rowsAfter (sheetOf s) rows) i d ≡ getD rows i d
       unfolding rowsAfter
@@ -352,12 +415,19 @@ module _ (s : List ℕ) (x : Statement) (says : Says s x) where
 
       as-many : length (rowsAfter (sheetOf s) rows) ≡ length rows
       unfolding rowsAfter
-      as-many = omega (arith, length-append wrote (drop (length wrote) rows), length-drop (length wrote) rows, rows-fit (length rows) enough, enough)
+      as-many = omega (
+        arith,
+        length-append wrote (drop (length wrote) rows),
+        length-drop (length wrote) rows,
+        rows-fit (length rows) enough,
+        enough,
+      )
 
   -- ---- the start is refused
   module _ (N : ℕ) (starts : startTable 128 (x .problem) ≡ Outcome.refused N) where
     nowhere : (ms : List ℕ) → arrived s ms ≡ none
-    nowhere ms = ap (λ (a : Answer). andThen (whenAccepted a (startOf (sheetOf s) .table)) (λ v. stepped s ms v)) (tables.start-number s x says N 0 .1 (refl, starts))
+    nowhere ms = ap (λ (a : Answer). andThen (whenAccepted a (startOf (sheetOf s) .table)) (λ v. stepped s ms v))
+        (tables.start-number s x says N 0 .1 (refl, starts))
 
     no-step : {X : Type 0} (k M : ℕ) → StepRefused s (x .plan) k M → X
     no-step k M r = absurd (Option·none-ne-some (r .last) (sym (nowhere (take (r .before) (x .plan))) ∙ r .arrives))
@@ -366,25 +436,35 @@ module _ (s : List ℕ) (x : Statement) (says : Says s x) where
     no-verdict rows h = run-number s x says rows h N 0 .1 (refl, starts)
 
   -- ---- both together
-  pub run-stopped-at : (rows : ℕ) → 65 ≤ rows → (k N : ℕ) → (runOf (sheetOf s) rows .verdict ≡ ran.Stopped k N) ↔ (StepRefused s (x .plan) k N × ((N ≡ 24) ⊎ (N ≡ 25)))
+  pub run-stopped-at : (rows : ℕ) → 65 ≤ rows → (k N : ℕ) → (runOf (sheetOf s) rows .verdict ≡ ran.Stopped k N)
+      ↔ (StepRefused s (x .plan) k N × ((N ≡ 24) ⊎ (N ≡ 25)))
   run-stopped-at rows h k N = go (outcomes (x .problem))
     where
-      go : Outcomes (x .problem) → (runOf (sheetOf s) rows .verdict ≡ ran.Stopped k N) ↔ (StepRefused s (x .plan) k N × ((N ≡ 24) ⊎ (N ≡ 25)))
-      go (inl r) = (λ e. absurd (let z : _≡_ {A = ℕ} 0 1 = cc (no-verdict (r .0) (r .1) rows h, e) in omega arith), λ e. no-step (r .0) (r .1) k N (e .0))
+      go : Outcomes (x .problem) → (runOf (sheetOf s) rows .verdict ≡ ran.Stopped k N)
+          ↔ (StepRefused s (x .plan) k N × ((N ≡ 24) ⊎ (N ≡ 25)))
+      go (inl r) = (
+        λ e. absurd (let z : _≡_ {A = ℕ} 0 1 = cc (no-verdict (r .0) (r .1) rows h, e) in omega arith),
+        λ e. no-step (r .0) (r .1) k N (e .0),
+      )
       go (inr r) = stopped-is (r .0) (r .1) rows h k N
 
   pub run-full-at : (rows : ℕ) → 65 ≤ rows → (k : ℕ) → (runOf (sheetOf s) rows .verdict ≡ ran.Full k) ↔ StepRefused s (x .plan) k 21
   run-full-at rows h k = go (outcomes (x .problem))
     where
       go : Outcomes (x .problem) → (runOf (sheetOf s) rows .verdict ≡ ran.Full k) ↔ StepRefused s (x .plan) k 21
-      go (inl r) = (λ e. absurd (let z : _≡_ {A = ℕ} 0 1 = cc (no-verdict (r .0) (r .1) rows h, e) in omega arith), λ e. no-step (r .0) (r .1) k 21 e)
+      go (inl r) = (
+        λ e. absurd (let z : _≡_ {A = ℕ} 0 1 = cc (no-verdict (r .0) (r .1) rows h, e) in omega arith),
+        λ e. no-step (r .0) (r .1) k 21 e,
+      )
       go (inr r) = full-is (r .0) (r .1) rows h k
 
   pub run-reached-at : (rows : ℕ) → 65 ≤ rows
-      → (runOf (sheetOf s) rows .verdict ≡ ran.Reached) ↔ ((u : Table) × (arrived s (x .plan) ≡ some u) × ((w : ℕ) → WorldOf x u w → InGoal (p .n) (p .goal) w))
+      → (runOf (sheetOf s) rows .verdict ≡ ran.Reached)
+      ↔ ((u : Table) × (arrived s (x .plan) ≡ some u) × ((w : ℕ) → WorldOf x u w → InGoal (p .n) (p .goal) w))
   run-reached-at rows h = go (outcomes (x .problem))
     where
-      go : Outcomes (x .problem) → (runOf (sheetOf s) rows .verdict ≡ ran.Reached) ↔ ((u : Table) × (arrived s (x .plan) ≡ some u) × ((w : ℕ) → WorldOf x u w → InGoal (p .n) (p .goal) w))
+      go : Outcomes (x .problem) → (runOf (sheetOf s) rows .verdict ≡ ran.Reached)
+          ↔ ((u : Table) × (arrived s (x .plan) ≡ some u) × ((w : ℕ) → WorldOf x u w → InGoal (p .n) (p .goal) w))
       go (inl r) = (
         λ e. absurd (let z : _≡_ {A = ℕ} 0 1 = cc (no-verdict (r .0) (r .1) rows h, e) in omega arith),
         λ e. absurd (Option·none-ne-some (e .0) (sym (nowhere (r .0) (r .1) (x .plan)) ∙ e .1)),
@@ -392,43 +472,56 @@ module _ (s : List ℕ) (x : Statement) (says : Says s x) where
       go (inr r) = reached-is (r .0) (r .1) rows h
 
   pub run-short-at : (rows : ℕ) → 65 ≤ rows
-      → (runOf (sheetOf s) rows .verdict ≡ ran.Short) ↔ ((u : Table) × (arrived s (x .plan) ≡ some u) × ((w : ℕ) × WorldOf x u w × (InGoal (p .n) (p .goal) w → ⊥)))
+      → (runOf (sheetOf s) rows .verdict ≡ ran.Short)
+      ↔ ((u : Table) × (arrived s (x .plan) ≡ some u) × ((w : ℕ) × WorldOf x u w × (InGoal (p .n) (p .goal) w → ⊥)))
   run-short-at rows h = go (outcomes (x .problem))
     where
-      go : Outcomes (x .problem) → (runOf (sheetOf s) rows .verdict ≡ ran.Short) ↔ ((u : Table) × (arrived s (x .plan) ≡ some u) × ((w : ℕ) × WorldOf x u w × (InGoal (p .n) (p .goal) w → ⊥)))
+      go : Outcomes (x .problem) → (runOf (sheetOf s) rows .verdict ≡ ran.Short)
+          ↔ ((u : Table) × (arrived s (x .plan) ≡ some u) × ((w : ℕ) × WorldOf x u w × (InGoal (p .n) (p .goal) w → ⊥)))
       go (inl r) = (
         λ e. absurd (let z : _≡_ {A = ℕ} 0 1 = cc (no-verdict (r .0) (r .1) rows h, e) in omega arith),
         λ e. absurd (Option·none-ne-some (e .0) (sym (nowhere (r .0) (r .1) (x .plan)) ∙ e .1)),
       )
       go (inr r) = short-is (r .0) (r .1) rows h
 
-  pub run-last : (rows : ℕ) → runRefused (runOf (sheetOf s) rows) ≡ false → arrived s (taken s x rows) ≡ some (runOf (sheetOf s) rows .table)
+  pub run-last : (rows : ℕ) → runRefused (runOf (sheetOf s) rows) ≡ false
+      → arrived s (taken s x rows) ≡ some (runOf (sheetOf s) rows .table)
   run-last rows f = last-is (run-starts s x says rows f .0) (run-starts s x says rows f .1) rows (rows-enough s x says rows f)
 
-  pub run-row : (rows : List Row) → runRefused (runOf (sheetOf s) (length rows)) ≡ false → (i : ℕ) → i ≤ length (taken s x (length rows)) → (d : Row)
+  pub run-row : (rows : List Row) → runRefused (runOf (sheetOf s) (length rows)) ≡ false → (i : ℕ) → i ≤ length (taken s x (length rows))
+      → (d : Row)
       → (u : Table) × (arrived s (take i (x .plan)) ≡ some u)
       × (getD (rowsAfter (sheetOf s) rows) i d
-      ≡ record { place = i; entries = u .count; clauses = clausesOr (pictureOf (sheetOf s) u 2050 .answer) (pictureOf (sheetOf s) u 2050 .clauses) })
-  run-row rows f = row-is (run-starts s x says (length rows) f .0) (run-starts s x says (length rows) f .1) rows (rows-enough s x says (length rows) f)
+      ≡ record {
+        place = i;
+        entries = u .count;
+        clauses = clausesOr (pictureOf (sheetOf s) u 2050 .answer)
+            (pictureOf (sheetOf s) u 2050 .clauses);
+      })
+  run-row rows f = row-is (run-starts s x says (length rows) f .0) (run-starts s x says (length rows) f .1) rows
+      (rows-enough s x says (length rows) f)
 
   -- a refused run keeps all rows
   kept : (rows : List Row) → runRefused (runOf (sheetOf s) (length rows)) ≡ true → rowsAfter (sheetOf s) rows ≡ rows
   unfolding runRefused
   kept rows f = let r = refused-is (runOf (sheetOf s) (length rows) .verdict) f in run-rows-kept s rows (r .0) (r .1) (r .2)
 
-  pub run-rest : (rows : List Row) (i : ℕ) → length (taken s x (length rows)) < i → (d : Row) → getD (rowsAfter (sheetOf s) rows) i d ≡ getD rows i d
+  pub run-rest : (rows : List Row) (i : ℕ) → length (taken s x (length rows)) < i → (d : Row)
+      → getD (rowsAfter (sheetOf s) rows) i d ≡ getD rows i d
   run-rest rows i l d = go (runRefused (runOf (sheetOf s) (length rows))) refl
     where
       go : (b : Bool) → runRefused (runOf (sheetOf s) (length rows)) ≡ b → getD (rowsAfter (sheetOf s) rows) i d ≡ getD rows i d
       go true f = ap (λ (r : List Row). getD r i d) (kept rows f)
-      go false f = rest-is (run-starts s x says (length rows) f .0) (run-starts s x says (length rows) f .1) rows (rows-enough s x says (length rows) f) i l d
+      go false f = rest-is (run-starts s x says (length rows) f .0) (run-starts s x says (length rows) f .1) rows
+          (rows-enough s x says (length rows) f) i l d
 
   same-length : (rows : List Row) → length (rowsAfter (sheetOf s) rows) ≡ length rows
   same-length rows = go (runRefused (runOf (sheetOf s) (length rows))) refl
     where
       go : (b : Bool) → runRefused (runOf (sheetOf s) (length rows)) ≡ b → length (rowsAfter (sheetOf s) rows) ≡ length rows
       go true f = ap length (kept rows f)
-      go false f = as-many (run-starts s x says (length rows) f .0) (run-starts s x says (length rows) f .1) rows (rows-enough s x says (length rows) f)
+      go false f = as-many (run-starts s x says (length rows) f .0) (run-starts s x says (length rows) f .1) rows
+          (rows-enough s x says (length rows) f)
 
 pub rows-length : (s : List ℕ) (rows : List Row) → length (rowsAfter (sheetOf s) rows) ≡ length rows
 rows-length s rows = go (sheetOf s) refl

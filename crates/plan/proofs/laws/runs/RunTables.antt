@@ -36,7 +36,14 @@ module _ (cap : ℕ) where
   later-refuses : (a : Action) (plan : List Action) (t v : List Literals) (k N : ℕ) → stepTable cap a t ≡ table v
       → Refuses cap plan v k N → Refuses cap (a ∷ plan) t (suc k) N
   later-refuses a plan t v k N e r =
-      record { last = r .last; arrives = at-first a plan t v k e ∙ r .arrives; move = r .move; later = r .later; next = r .next; gives = r .gives }
+      record {
+        last = r .last;
+        arrives = at-first a plan t v k e ∙ r .arrives;
+        move = r .move;
+        later = r .later;
+        next = r .next;
+        gives = r .gives;
+      }
 
   -- ---- the run comes to its last table, or a step gives none
   abbrev pub Story : List Action → List Literals → Type 0
@@ -55,7 +62,8 @@ module _ (cap : ℕ) where
           more (inr x) = inr (suc (x .0), x .1, later-refuses a plan t v (x .0) (x .1) e (x .2))
 
   -- its first step refuses, or what comes after the first step does
-  first-refuses : (a : Action) (plan : List Action) (t : List Literals) (N : ℕ) → Refuses cap (a ∷ plan) t 0 N → stepTable cap a t ≡ refused N
+  first-refuses : (a : Action) (plan : List Action) (t : List Literals) (N : ℕ) → Refuses cap (a ∷ plan) t 0 N
+      → stepTable cap a t ≡ refused N
   first-refuses a plan t N r =
       let m : a ≡ r .move = cc (r .next) in
       let l : t ≡ r .last = cc (r .arrives) in
@@ -79,7 +87,8 @@ module _ (cap : ℕ) where
 
   pub refuses-prefix : (plan : List Action) (t : List Literals) (k N : ℕ) → Refuses cap plan t k N → Refuses cap (take (suc k) plan) t k N
   refuses-prefix [] t k N r = nothing-refuses t k N r
-  refuses-prefix (a ∷ plan) t zero N r = record { last = t; arrives = refl; move = a; later = []; next = refl; gives = first-refuses a plan t N r }
+  refuses-prefix (a ∷ plan) t zero N r = record
+      { last = t; arrives = refl; move = a; later = []; next = refl; gives = first-refuses a plan t N r }
   refuses-prefix (a ∷ plan) t (suc k) N r =
       let x = rest-refuses a plan t k N r in
       later-refuses a (take (suc k) plan) t (x .0) k N (x .1) (refuses-prefix plan (x .0) k N (x .2))
@@ -90,18 +99,21 @@ module _ (cap : ℕ) where
   run-ended goal place [] t u h = ap (λ (x : List Literals). endedIn (allOf (inGoal goal) x)) (Option·some-injective t u h)
   run-ended goal place (a ∷ plan) t u h =
       let x = at-later a plan t u (length plan) h in
-      ap (λ (o : Outcome). onward o (suc place) (λ v. runFrom cap goal (suc place) plan v)) (x .1) ∙ run-ended goal (suc place) plan (x .0) u (x .2)
+      ap (λ (o : Outcome). onward o (suc place) (λ v. runFrom cap goal (suc place) plan v)) (x .1)
+      ∙ run-ended goal (suc place) plan (x .0) u (x .2)
 
   pub run-refused : (goal : List Literals) (place : ℕ) (plan : List Action) (t : List Literals) (k N : ℕ) → Refuses cap plan t k N
       → runFrom cap goal place plan t ≡ haltedBy (eqb N 21) (suc (place + k)) N
   run-refused goal place [] t k N r = nothing-refuses t k N r
   run-refused goal place (a ∷ plan) t zero N r =
       let q : place ≡ place + 0 = omega arith in
-      ap (λ (o : Outcome). onward o (suc place) (λ v. runFrom cap goal (suc place) plan v)) (first-refuses a plan t N r) ∙ ap (λ (i : ℕ). haltedBy (eqb N 21) (suc i) N) q
+      ap (λ (o : Outcome). onward o (suc place) (λ v. runFrom cap goal (suc place) plan v)) (first-refuses a plan t N r)
+      ∙ ap (λ (i : ℕ). haltedBy (eqb N 21) (suc i) N) q
   run-refused goal place (a ∷ plan) t (suc k) N r =
       let x = rest-refuses a plan t k N r in
       let q : suc place + k ≡ place + suc k = omega arith in
-      ap (λ (o : Outcome). onward o (suc place) (λ v. runFrom cap goal (suc place) plan v)) (x .1) ∙ run-refused goal (suc place) plan (x .0) k N (x .2)
+      ap (λ (o : Outcome). onward o (suc place) (λ v. runFrom cap goal (suc place) plan v)) (x .1)
+      ∙ run-refused goal (suc place) plan (x .0) k N (x .2)
       ∙ ap (λ (i : ℕ). haltedBy (eqb N 21) (suc i) N) q
 
   -- ---- the moves taken, and the table returned
@@ -109,12 +121,14 @@ module _ (cap : ℕ) where
   last-at [] t = refl
   last-at (a ∷ plan) t = go (stepTable cap a t) refl (last-at plan)
     where
-      go : (o : Outcome) → stepTable cap a t ≡ o → ((v : List Literals) → tableAt cap (movesTaken cap plan v) plan v ≡ some (lastTable cap plan v))
+      go : (o : Outcome) → stepTable cap a t ≡ o
+          → ((v : List Literals) → tableAt cap (movesTaken cap plan v) plan v ≡ some (lastTable cap plan v))
           → tableAt cap (countOr o (λ v. movesTaken cap plan v)) (a ∷ plan) t ≡ some (tableOr o t (λ v. lastTable cap plan v))
       go (refused N) e ih = refl
       go (table v) e ih = at-first a plan t v (movesTaken cap plan v) e ∙ ih v
 
-  pub taken-all : (plan : List Action) (t u : List Literals) → tableAt cap (length plan) plan t ≡ some u → movesTaken cap plan t ≡ length plan
+  pub taken-all : (plan : List Action) (t u : List Literals) → tableAt cap (length plan) plan t ≡ some u
+      → movesTaken cap plan t ≡ length plan
   taken-all [] t u h = refl
   taken-all (a ∷ plan) t u h =
       let x = at-later a plan t u (length plan) h in
@@ -128,12 +142,14 @@ module _ (cap : ℕ) where
       ap (λ (o : Outcome). countOr o (λ v. movesTaken cap plan v)) (x .1) ∙ ap suc (taken-refused plan (x .0) k N (x .2))
 
   -- T_i exists exactly for the places arrived at
-  pub arrived : (plan : List Action) (t : List Literals) (i : ℕ) → (i ≤ movesTaken cap plan t) ↔ ((u : List Literals) × (tableAt cap i plan t ≡ some u))
+  pub arrived : (plan : List Action) (t : List Literals) (i : ℕ) → (i ≤ movesTaken cap plan t)
+      ↔ ((u : List Literals) × (tableAt cap i plan t ≡ some u))
   arrived plan t zero = (λ h. (t, refl), λ x. omega arith)
   arrived [] t (suc i) = (λ h. absurd (omega arith), λ x. absurd (Option·none-ne-some (x .0) (x .1)))
   arrived (a ∷ plan) t (suc i) = go (stepTable cap a t) refl (λ v. arrived plan v i)
     where
-      go : (o : Outcome) → stepTable cap a t ≡ o → ((v : List Literals) → (i ≤ movesTaken cap plan v) ↔ ((u : List Literals) × (tableAt cap i plan v ≡ some u)))
+      go : (o : Outcome) → stepTable cap a t ≡ o
+          → ((v : List Literals) → (i ≤ movesTaken cap plan v) ↔ ((u : List Literals) × (tableAt cap i plan v ≡ some u)))
           → (suc i ≤ countOr o (λ v. movesTaken cap plan v)) ↔ ((u : List Literals) × (thenTable o (λ v. tableAt cap i plan v) ≡ some u))
       go (refused N) e ih = (λ h. absurd (omega arith), λ x. absurd (Option·none-ne-some (x .0) (x .1)))
       go (table v) e ih = (λ h. ih v .0 (le-of-suc-le-suc h), λ x. omega (arith, ih v .1 x))

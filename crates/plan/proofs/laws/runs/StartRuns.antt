@@ -1,4 +1,5 @@
--- Runs of any plan from the start table of a problem: the verdict by the tables and by the starting worlds; they are exact. Assumes nothing.
+-- Runs of any plan from the start table of a problem: the verdict by the tables and by the starting worlds; they are exact. Assumes
+-- nothing.
 use mathlib.Core.Path.{_≡_, refl, sym, ap, subst, _∙_}
 use mathlib.Core.Bool.{Bool, true, false}
 use mathlib.Core.List.{List}
@@ -40,9 +41,11 @@ use Rattle.plan.proofs.laws.runs.Verdicts.{Arrives, all-next, arrives, 
 use Rattle.plan.proofs.laws.runs.ExactRuns.{Exact}
 
 -- ---- the moves of a plan are the sheet's
-pub plan-proper : (p : Problem) → ProperProblem p → (q : List ℕ) → All (λ i. i < length (p .actions)) q → All (ProperAction (p .n)) (actionsOf p q)
+pub plan-proper : (p : Problem) → ProperProblem p → (q : List ℕ) → All (λ i. i < length (p .actions)) q
+    → All (ProperAction (p .n)) (actionsOf p q)
 unfolding actionsOf
-plan-proper p hp q h = all-imaged (actionAt p) (ProperAction (p .n)) q (all-map (λ i. i < length (p .actions)) (λ i. ProperAction (p .n) (actionAt p i)) (at-proper p hp) q h)
+plan-proper p hp q h = all-imaged (actionAt p) (ProperAction (p .n)) q
+    (all-map (λ i. i < length (p .actions)) (λ i. ProperAction (p .n) (actionAt p i)) (at-proper p hp) q h)
 
 -- ---- the moves taken, by the verdict alone: of any list as long as the plan
 pub taken-by : {A : Type 0} (cap : ℕ) (goal : List Literals) (plan : List Action) (t : List Literals) (q : List A) → length q ≡ length plan
@@ -64,11 +67,13 @@ taken-by cap goal plan t q same = go (story cap plan t)
         ∙ sym (ap (λ (i : ℕ). take i q) (taken-all cap plan t (x .0) (x .1) ∙ sym same) ∙ take-length q)
     go (inr x) =
         let i : 0 + x .0 ≡ x .0 = omega arith in
-        ap (λ (v : Verdict). takenBy (verdictOf v) q) (run-refused cap goal 0 plan t (x .0) (x .1) (x .2)) ∙ some-of (eqb (x .1) 21) (0 + x .0) (x .1)
+        ap (λ (v : Verdict). takenBy (verdictOf v) q) (run-refused cap goal 0 plan t (x .0) (x .1) (x .2))
+        ∙ some-of (eqb (x .1) 21) (0 + x .0) (x .1)
         ∙ ap (λ (j : ℕ). take j q) (i ∙ sym (taken-refused cap plan t (x .0) (x .1) (x .2)))
 
 -- ---- any plan q of a problem with a start table
-module _ (p : Problem) (hp : ProperProblem p) (t : List Literals) (starts : startTable 128 p ≡ table t) (q : List ℕ) (hq : All (λ i. i < length (p .actions)) q) where
+module _ (p : Problem) (hp : ProperProblem p) (t : List Literals) (starts : startTable 128 p ≡ table t) (q : List ℕ)
+    (hq : All (λ i. i < length (p .actions)) q) where
   abbrev plan : List Action
   plan = actionsOf p q
 
@@ -99,10 +104,12 @@ module _ (p : Problem) (hp : ProperProblem p) (t : List Literals) (starts : star
   Filled k = (j : ℕ) × (k ≡ suc j) × Refuses 128 plan t j 21
 
   abbrev pub Reached : Type 0
-  Reached = (u : List Literals) × (tableAt 128 (length plan) plan t ≡ some u) × ((w : ℕ) → w < 2 ^ p .n → In (p .n) u w → InGoal (p .n) (p .goal) w)
+  Reached = (u : List Literals) × (tableAt 128 (length plan) plan t ≡ some u)
+      × ((w : ℕ) → w < 2 ^ p .n → In (p .n) u w → InGoal (p .n) (p .goal) w)
 
   abbrev pub Short : Type 0
-  Short = (u : List Literals) × (tableAt 128 (length plan) plan t ≡ some u) × ((w : ℕ) × (w < 2 ^ p .n) × In (p .n) u w × (InGoal (p .n) (p .goal) w → ⊥))
+  Short = (u : List Literals) × (tableAt 128 (length plan) plan t ≡ some u)
+      × ((w : ℕ) × (w < 2 ^ p .n) × In (p .n) u w × (InGoal (p .n) (p .goal) w → ⊥))
 
   Meant : Verdict → Type 0
   Meant reached = Reached
@@ -114,27 +121,34 @@ module _ (p : Problem) (hp : ProperProblem p) (t : List Literals) (starts : star
   unfolding Meant
   meant = go (story 128 plan t)
     where
-      ends : (u : List Literals) → tableAt 128 (length plan) plan t ≡ some u → (b : Bool) → allOf (inGoal (p .goal)) u ≡ b → Meant (endedIn b)
+      ends : (u : List Literals) → tableAt 128 (length plan) plan t ≡ some u → (b : Bool) → allOf (inGoal (p .goal)) u ≡ b
+          → Meant (endedIn b)
       ends u h true e = (u, h, λ w l i. goal-each (p .n) (p .goal) u (true-T (allOf (inGoal (p .goal)) u) e) w i)
       ends u h false e =
-          let x = goal-lacks (p .n) (p .goal) u goals (place-arrives (length plan) u h .described .proper) (false-T (allOf (inGoal (p .goal)) u) e) in
+          let x = goal-lacks (p .n) (p .goal) u goals (place-arrives (length plan) u h .described .proper)
+          (false-T (allOf (inGoal (p .goal)) u) e) in
           (u, h, (x .0, x .1 .1 .0, x .1 .0, x .1 .1 .1))
 
       by : (k N : ℕ) → Refuses 128 plan t k N → stepping.Kind (refused N) → Meant (haltedBy (eqb N 21) (suc k) N)
-      by k N r (inl f) = let e = code-is f in subst (λ (c : ℕ). Meant (haltedBy (eqb c 21) (suc k) c)) (sym e) (k, refl, subst (Refuses 128 plan t k) e r, inl refl)
-      by k N r (inr (inl f)) = let e = code-is f in subst (λ (c : ℕ). Meant (haltedBy (eqb c 21) (suc k) c)) (sym e) (k, refl, subst (Refuses 128 plan t k) e r, inr refl)
-      by k N r (inr (inr (inl f))) = let e = code-is f in subst (λ (c : ℕ). Meant (haltedBy (eqb c 21) (suc k) c)) (sym e) (k, refl, subst (Refuses 128 plan t k) e r)
+      by k N r (inl f) = let e = code-is f in subst (λ (c : ℕ). Meant (haltedBy (eqb c 21) (suc k) c)) (sym e)
+          (k, refl, subst (Refuses 128 plan t k) e r, inl refl)
+      by k N r (inr (inl f)) = let e = code-is f in subst (λ (c : ℕ). Meant (haltedBy (eqb c 21) (suc k) c)) (sym e)
+          (k, refl, subst (Refuses 128 plan t k) e r, inr refl)
+      by k N r (inr (inr (inl f))) = let e = code-is f in subst (λ (c : ℕ). Meant (haltedBy (eqb c 21) (suc k) c)) (sym e)
+          (k, refl, subst (Refuses 128 plan t k) e r)
       by k N r (inr (inr (inr x))) = table-refused (x .0) N (sym (x .1))
 
       go : Story 128 plan t → Meant verdict
-      go (inl x) = subst Meant (sym (run-ended 128 (p .goal) 0 plan t (x .0) (x .1))) (ends (x .0) (x .1) (allOf (inGoal (p .goal)) (x .0)) refl)
+      go (inl x) = subst Meant (sym (run-ended 128 (p .goal) 0 plan t (x .0) (x .1)))
+          (ends (x .0) (x .1) (allOf (inGoal (p .goal)) (x .0)) refl)
       go (inr x) =
           let r = x .2 in
           let e : 0 + x .0 ≡ x .0 = omega arith in
           let a = place-arrives (x .0) (r .last) (r .arrives) in
           subst Meant (sym (run-refused 128 (p .goal) 0 plan t (x .0) (x .1) r ∙ ap (λ (i : ℕ). haltedBy (eqb (x .1) 21) (suc i) (x .1)) e))
           (by (x .0) (x .1) r (subst stepping.Kind (r .gives)
-          (stepping.step-kind (p .n) (hp .n-most) (r .move) (all-next (ProperAction (p .n)) (x .0) plan (r .move) (r .later) (r .next) moves) (r .last) (a .described .proper) 128)))
+          (stepping.step-kind (p .n) (hp .n-most) (r .move)
+          (all-next (ProperAction (p .n)) (x .0) plan (r .move) (r .later) (r .next) moves) (r .last) (a .described .proper) 128)))
 
   pub by-stopped : (k N : ℕ) → (verdict ≡ stopped k N) ↔ Stopped k N
   unfolding Meant
@@ -148,7 +162,8 @@ module _ (p : Problem) (hp : ProperProblem p) (t : List Literals) (starts : star
 
           by : (c : ℕ) → N ≡ c → runFrom 128 (p .goal) 0 plan t ≡ haltedBy (eqb c 21) k c
           by c e =
-              run-refused 128 (p .goal) 0 plan t (x .0) c (subst (Refuses 128 plan t (x .0)) e (x .2)) ∙ ap (λ (i : ℕ). haltedBy (eqb c 21) i c) at
+              run-refused 128 (p .goal) 0 plan t (x .0) c (subst (Refuses 128 plan t (x .0)) e (x .2))
+              ∙ ap (λ (i : ℕ). haltedBy (eqb c 21) i c) at
 
           go : (N ≡ 24) ⊎ (N ≡ 25) → runFrom 128 (p .goal) 0 plan t ≡ stopped k N
           go (inl e) = by 24 e ∙ ap (stopped k) (sym e)
@@ -156,7 +171,11 @@ module _ (p : Problem) (hp : ProperProblem p) (t : List Literals) (starts : star
 
   pub by-full : (k : ℕ) → (verdict ≡ full k) ↔ Filled k
   unfolding Meant
-  by-full k = (λ e. subst Meant e meant, λ x. let e : suc (0 + x .0) ≡ k = omega (arith, x .1) in run-refused 128 (p .goal) 0 plan t (x .0) 21 (x .2) ∙ ap full e)
+  by-full k = (
+    λ e. subst Meant e meant,
+    λ x. let e : suc (0 + x .0) ≡ k = omega (arith, x .1) in run-refused 128 (p .goal) 0 plan t (x .0)
+        21 (x .2) ∙ ap full e,
+  )
 
   pub by-reached : (verdict ≡ reached) ↔ Reached
   unfolding Meant
@@ -164,7 +183,8 @@ module _ (p : Problem) (hp : ProperProblem p) (t : List Literals) (starts : star
     λ e. subst Meant e meant,
     λ x.
         run-ended 128 (p .goal) 0 plan t (x .0) (x .1)
-        ∙ ap endedIn (T-true (allOf (inGoal (p .goal)) (x .0)) (goal-entries (p .n) (p .goal) (x .0) goals (place-arrives (length plan) (x .0) (x .1) .described .proper) .1 (x .2))),
+        ∙ ap endedIn (T-true (allOf (inGoal (p .goal)) (x .0))
+        (goal-entries (p .n) (p .goal) (x .0) goals (place-arrives (length plan) (x .0) (x .1) .described .proper) .1 (x .2))),
   )
 
   pub by-short : (verdict ≡ short) ↔ Short
@@ -173,15 +193,20 @@ module _ (p : Problem) (hp : ProperProblem p) (t : List Literals) (starts : star
     λ e. subst Meant e meant,
     λ x.
         run-ended 128 (p .goal) 0 plan t (x .0) (x .1)
-        ∙ ap endedIn (T-false (allOf (inGoal (p .goal)) (x .0)) (not-in (allOf (inGoal (p .goal)) (x .0)) (λ g. x .2 .3 (goal-each (p .n) (p .goal) (x .0) g (x .2 .0) (x .2 .2))))),
+        ∙ ap endedIn (T-false (allOf (inGoal (p .goal)) (x .0))
+        (not-in (allOf (inGoal (p .goal)) (x .0)) (λ g. x .2 .3 (goal-each (p .n) (p .goal) (x .0) g (x .2 .0) (x .2 .2))))),
   )
 
   -- ---- (d) by the starting worlds
   pub verdict-means : Means (p .n) (p .goal) (Starting p) plan verdict
   verdict-means = run-means 128 (p .n) (hp .n-most) plan moves t first (Starting p) (start-table p hp 128 t starts .1) (p .goal) goals
 
-  pub verdict-is : ((k : ℕ) → verdict ≡ full k → ⊥) → (v : Verdict) → ((k : ℕ) → v ≡ full k → ⊥) → (verdict ≡ v) ↔ Means (p .n) (p .goal) (Starting p) plan v
-  verdict-is f v g = (λ e. subst (Means (p .n) (p .goal) (Starting p) plan) e verdict-means, one-verdict (p .n) (p .goal) (Starting p) plan verdict v f g verdict-means)
+  pub verdict-is : ((k : ℕ) → verdict ≡ full k → ⊥) → (v : Verdict) → ((k : ℕ) → v ≡ full k → ⊥) → (verdict ≡ v)
+      ↔ Means (p .n) (p .goal) (Starting p) plan v
+  verdict-is f v g = (
+    λ e. subst (Means (p .n) (p .goal) (Starting p) plan) e verdict-means,
+    one-verdict (p .n) (p .goal) (Starting p) plan verdict v f g verdict-means,
+  )
 
   -- ---- the run is exact
   pub table-exact : Exact p plan verdict (picture (lastTable 128 plan t))
@@ -200,4 +225,5 @@ module _ (p : Problem) (hp : ProperProblem p) (t : List Literals) (starts : star
       taken = taken-by 128 (p .goal) plan t plan refl
 
       same : (w : ℕ) → w < 2 ^ p .n → In (p .n) (lastTable 128 plan t) w ↔ Comes (p .n) (Starting p) (takenBy (verdictOf verdict) plan) w
-      same w l = subst (λ (a : List Action). In (p .n) (lastTable 128 plan t) w ↔ Comes (p .n) (Starting p) a w) (sym taken) (last-arrives .worlds w l)
+      same w l = subst (λ (a : List Action). In (p .n) (lastTable 128 plan t) w ↔ Comes (p .n) (Starting p) a w) (sym taken)
+          (last-arrives .worlds w l)

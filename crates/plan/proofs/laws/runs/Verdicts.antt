@@ -38,21 +38,24 @@ take-none n (suc i) zero plan w h e = absurd (not-suc-le-zero h)
 take-none n (suc i) (suc j) [] w h e = e
 take-none n (suc i) (suc j) (a ∷ plan) w h e = go (stepWorld n a w) e (λ v. take-none n i j plan v (le-of-suc-le-suc h))
   where
-    go : (o : Option ℕ) → andThen o (runWorld n (take i plan)) ≡ none → ((v : ℕ) → runWorld n (take i plan) v ≡ none → runWorld n (take j plan) v ≡ none)
+    go : (o : Option ℕ) → andThen o (runWorld n (take i plan)) ≡ none
+        → ((v : ℕ) → runWorld n (take i plan) v ≡ none → runWorld n (take j plan) v ≡ none)
         → andThen o (runWorld n (take j plan)) ≡ none
     go none e k = refl
     go (some v) e k = k v e
 
 prefix-none : (n j : ℕ) (plan : List Action) (w : ℕ) → runWorld n (take j plan) w ≡ none → runWorld n plan w ≡ none
 prefix-none n j plan w e =
-    subst (λ (q : List Action). runWorld n q w ≡ none) (take-all (j + length plan) plan (omega arith)) (take-none n j (j + length plan) plan w (omega arith) e)
+    subst (λ (q : List Action). runWorld n q w ≡ none) (take-all (j + length plan) plan (omega arith))
+    (take-none n j (j + length plan) plan w (omega arith) e)
 
 -- one move more
 alone : (o : Option ℕ) → andThen o (λ v. some v) ≡ o
 alone none = refl
 alone (some v) = refl
 
-take-next : (n : ℕ) (a : Action) (later : List Action) (j : ℕ) (plan : List Action) (w v : ℕ) → drop j plan ≡ a ∷ later → runWorld n (take j plan) w ≡ some v
+take-next : (n : ℕ) (a : Action) (later : List Action) (j : ℕ) (plan : List Action) (w v : ℕ) → drop j plan ≡ a ∷ later
+    → runWorld n (take j plan) w ≡ some v
     → runWorld n (take (suc j) plan) w ≡ stepWorld n a v
 take-next n a later zero [] w v e h = let z : _≡_ {A = ℕ} 0 1 = cc in absurd (omega arith)
 take-next n a later zero (b ∷ plan) w v e h =
@@ -60,12 +63,14 @@ take-next n a later zero (b ∷ plan) w v e h =
 take-next n a later (suc j) [] w v e h = let z : _≡_ {A = ℕ} 0 1 = cc in absurd (omega arith)
 take-next n a later (suc j) (b ∷ plan) w v e h = go (stepWorld n b w) h (λ u. take-next n a later j plan u v e)
   where
-    go : (o : Option ℕ) → andThen o (runWorld n (take j plan)) ≡ some v → ((u : ℕ) → runWorld n (take j plan) u ≡ some v → runWorld n (take (suc j) plan) u ≡ stepWorld n a v)
+    go : (o : Option ℕ) → andThen o (runWorld n (take j plan)) ≡ some v
+        → ((u : ℕ) → runWorld n (take j plan) u ≡ some v → runWorld n (take (suc j) plan) u ≡ stepWorld n a v)
         → andThen o (runWorld n (take (suc j) plan)) ≡ stepWorld n a v
     go none q k = absurd (Option·none-ne-some v q)
     go (some u) q k = k u q
 
-pub all-next : (P : Action → Type 0) (j : ℕ) (plan : List Action) (a : Action) (later : List Action) → drop j plan ≡ a ∷ later → All P plan → P a
+pub all-next : (P : Action → Type 0) (j : ℕ) (plan : List Action) (a : Action) (later : List Action) → drop j plan ≡ a ∷ later → All P plan
+    → P a
 all-next P zero [] a later e h = let z : _≡_ {A = ℕ} 0 1 = cc in absurd (omega arith)
 all-next P zero (b ∷ plan) a later e h = subst P (head-eq-of-cons-eq e) (h .0)
 all-next P (suc j) [] a later e h = let z : _≡_ {A = ℕ} 0 1 = cc in absurd (omega arith)
@@ -91,7 +96,8 @@ pub record Arrives (cap n : ℕ) (S : ℕ → Type 0) (plan : List Action) (k : 
   pub worlds : (v : ℕ) → v < 2 ^ n → In n u v ↔ Comes n S (take k plan) v
 
 module _ (cap n : ℕ) (hn : n ≤ 32) where
-  arrives-in : (plan : List Action) → All (ProperAction n) plan → (t : List Literals) → Described cap n t → (k : ℕ) (u : List Literals) → tableAt cap k plan t ≡ some u
+  arrives-in : (plan : List Action) → All (ProperAction n) plan → (t : List Literals) → Described cap n t → (k : ℕ) (u : List Literals)
+      → tableAt cap k plan t ≡ some u
       → Arrives cap n (In n t) plan k u
   arrives-in plan hp t ht zero u h =
       let e = Option·some-injective t u h in
@@ -109,7 +115,8 @@ module _ (cap n : ℕ) (hn : n ≤ 32) where
       let hu = stepping.step-described n hn a (hp .0) t (ht .proper) cap (x .0) (x .1) (ht .least) in
       onto (x .0) (x .1) (arrives-in plan (hp .1) (x .0) hu k u (x .2))
     where
-      onto : (m : List Literals) → stepTable cap a t ≡ table m → Arrives cap n (In n m) plan k u → Arrives cap n (In n t) (a ∷ plan) (suc k) u
+      onto : (m : List Literals) → stepTable cap a t ≡ table m → Arrives cap n (In n m) plan k u
+          → Arrives cap n (In n t) (a ∷ plan) (suc k) u
       onto m e r = record { described = r .described; defined = ends; worlds = λ v l. (fore v l, back v l) }
         where
           steps : (w : ℕ) → w < 2 ^ n → In n t w → stepWorld n a w ≡ some (worldAfter n a w)
@@ -119,7 +126,8 @@ module _ (cap n : ℕ) (hn : n ≤ 32) where
           low w l i = step-below n a (hp .0) w (worldAfter n a w) l (steps w l i)
 
           goes : (w : ℕ) (l : w < 2 ^ n) (i : In n t w) → In n m (worldAfter n a w)
-          goes w l i = stepping.step-worlds n hn a (hp .0) t (ht .proper) cap m e (worldAfter n a w) (low w l i) .1 (w, (i, (l, steps w l i)))
+          goes w l i = stepping.step-worlds n hn a (hp .0) t (ht .proper) cap m e (worldAfter n a w) (low w l i) .1
+              (w, (i, (l, steps w l i)))
 
           run-is : (w : ℕ) → w < 2 ^ n → In n t w → runWorld n (a ∷ take k plan) w ≡ runWorld n (take k plan) (worldAfter n a w)
           run-is w l i = ap (λ (o : Option ℕ). andThen o (runWorld n (take k plan))) (steps w l i)
@@ -134,7 +142,8 @@ module _ (cap n : ℕ) (hn : n ≤ 32) where
               (z .0, z .1 .1 .0, z .1 .0, ap (λ (o : Option ℕ). andThen o (runWorld n (take k plan))) (z .1 .1 .1) ∙ y .3)
 
           back : (v : ℕ) → v < 2 ^ n → Comes n (In n t) (a ∷ take k plan) v → In n u v
-          back v l y = r .worlds v l .1 (worldAfter n a (y .0), low (y .0) (y .1) (y .2), goes (y .0) (y .1) (y .2), sym (run-is (y .0) (y .1) (y .2)) ∙ y .3)
+          back v l y = r .worlds v l .1
+              (worldAfter n a (y .0), low (y .0) (y .1) (y .2), goes (y .0) (y .1) (y .2), sym (run-is (y .0) (y .1) (y .2)) ∙ y .3)
 
   -- ---- from a table t that stands for the worlds of S
   module _ (plan : List Action) (hp : All (ProperAction n) plan) (t : List Literals) (ht : Described cap n t) (S : ℕ → Type 0)
@@ -152,19 +161,25 @@ module _ (cap n : ℕ) (hn : n ≤ 32) where
         }
 
     module _ (goal : List Literals) (hg : All (Proper n) goal) where
-      ended-means : (u : List Literals) → tableAt cap (length plan) plan t ≡ some u → (b : Bool) → allOf (inGoal goal) u ≡ b → Means n goal S plan (endedIn b)
+      ended-means : (u : List Literals) → tableAt cap (length plan) plan t ≡ some u → (b : Bool) → allOf (inGoal goal) u ≡ b
+          → Means n goal S plan (endedIn b)
       ended-means u h = go
         where
           r : Arrives cap n S plan (length plan) u
           r = arrives (length plan) u h
 
           whole : Every n S Ends plan × ((v : ℕ) → v < 2 ^ n → In n u v ↔ Comes n S plan v)
-          whole = subst (λ (p : List Action). Every n S Ends p × ((v : ℕ) → v < 2 ^ n → In n u v ↔ Comes n S p v)) (take-length plan) (r .defined, r .worlds)
+          whole = subst (λ (p : List Action). Every n S Ends p × ((v : ℕ) → v < 2 ^ n → In n u v ↔ Comes n S p v)) (take-length plan)
+              (r .defined, r .worlds)
 
           go : (b : Bool) → allOf (inGoal goal) u ≡ b → Means n goal S plan (endedIn b)
           go true e = λ w l s.
-              let y = whole .0 w l s in
-              (y .0, y .1, goal-each n goal u (true-T (allOf (inGoal goal) u) e) (y .0) (whole .1 (y .0) (run-below n plan hp w (y .0) l (y .1)) .1 (w, l, s, y .1)))
+              let y = whole .0 w l s in (
+                y .0,
+                y .1,
+                goal-each n goal u (true-T (allOf (inGoal goal) u) e) (y .0)
+                    (whole .1 (y .0) (run-below n plan hp w (y .0) l (y .1)) .1 (w, l, s, y .1)),
+              )
           go false e =
               let x = goal-lacks n goal u hg (r .described .proper) (false-T (allOf (inGoal goal) u) e) in
               let y = whole .1 (x .0) (x .1 .1 .0) .0 (x .1 .0) in
@@ -183,7 +198,8 @@ module _ (cap n : ℕ) (hn : n ≤ 32) where
           hl = arr .described .proper
 
           -- where 24 or 25 comes, some world cannot take the move
-          lost : (stepTable cap (r .move) (r .last) ≡ refused 24) ⊎ (stepTable cap (r .move) (r .last) ≡ refused 25) → Some n S Undefined (take (suc k) plan)
+          lost : (stepTable cap (r .move) (r .last) ≡ refused 24) ⊎ (stepTable cap (r .move) (r .last) ≡ refused 25)
+              → Some n S Undefined (take (suc k) plan)
           lost f =
               let x = stepping.step-undefined n hn (r .move) ha (r .last) hl cap .0 f in
               let y = arr .worlds (x .0) (x .1 .1 .0) .0 (x .1 .0) in
@@ -200,15 +216,27 @@ module _ (cap n : ℕ) (hn : n ≤ 32) where
           sure f x =
               let v = x .3 .0 in
               let l = run-below n (take k plan) (all-take (ProperAction n) k plan hp) (x .0) v (x .1) (x .3 .1) in
-              let e = stepping.step-24 n hn (r .move) ha (r .last) hl cap .1 (v, (arr .worlds v l .1 (x .0, x .1, x .2, x .3 .1), (l, x .3 .2))) in
+              let e = stepping.step-24 n hn (r .move) ha (r .last) hl cap .1
+              (v, (arr .worlds v l .1 (x .0, x .1, x .2, x .3 .1), (l, x .3 .2))) in
               omega (arith, code-is (sym f ∙ e))
 
           stops : (c : ℕ) → Some n S Undefined (take (suc k) plan)
-              → ((c ≡ 24) × Some n S (Lacking n (r .move)) (take k plan)) ⊎ ((c ≡ 25) × (Some n S (Lacking n (r .move)) (take k plan) → ⊥)) → StopsAt n S plan (suc k) c
+              → ((c ≡ 24) × Some n S (Lacking n (r .move)) (take k plan)) ⊎ ((c ≡ 25) × (Some n S (Lacking n (r .move)) (take k plan) → ⊥))
+              → StopsAt n S plan (suc k) c
           stops c x y =
-              record { before = k; place = refl; move = r .move; later = r .later; next = r .next; taken = arr .defined; lost = x; number = y }
+              record {
+                before = k;
+                place = refl;
+                move = r .move;
+                later = r .later;
+                next = r .next;
+                taken = arr .defined;
+                lost = x;
+                number = y;
+              }
 
-          by : (c : ℕ) → stepTable cap (r .move) (r .last) ≡ refused c → Means n goal S plan (haltedBy (eqb c 21) (suc k) c) → Means n goal S plan (haltedBy (eqb N 21) (suc k) N)
+          by : (c : ℕ) → stepTable cap (r .move) (r .last) ≡ refused c → Means n goal S plan (haltedBy (eqb c 21) (suc k) c)
+              → Means n goal S plan (haltedBy (eqb N 21) (suc k) N)
           by c f m = subst (λ (x : ℕ). Means n goal S plan (haltedBy (eqb x 21) (suc k) x)) (code-is (sym f ∙ r .gives)) m
 
           go : stepping.Kind (stepTable cap (r .move) (r .last)) → Means n goal S plan (haltedBy (eqb N 21) (suc k) N)
@@ -222,10 +250,13 @@ module _ (cap n : ℕ) (hn : n ≤ 32) where
       run-means = go (story cap plan t)
         where
           go : Story cap plan t → Means n goal S plan (runFrom cap goal 0 plan t)
-          go (inl x) = subst (Means n goal S plan) (sym (run-ended cap goal 0 plan t (x .0) (x .1))) (ended-means (x .0) (x .1) (allOf (inGoal goal) (x .0)) refl)
+          go (inl x) = subst (Means n goal S plan) (sym (run-ended cap goal 0 plan t (x .0) (x .1)))
+              (ended-means (x .0) (x .1) (allOf (inGoal goal) (x .0)) refl)
           go (inr x) =
               let q : 0 + x .0 ≡ x .0 = omega arith in
-              subst (Means n goal S plan) (sym (run-refused cap goal 0 plan t (x .0) (x .1) (x .2) ∙ ap (λ (i : ℕ). haltedBy (eqb (x .1) 21) (suc i) (x .1)) q)) (refused-means (x .0) (x .1) (x .2))
+              subst (Means n goal S plan)
+              (sym (run-refused cap goal 0 plan t (x .0) (x .1) (x .2) ∙ ap (λ (i : ℕ). haltedBy (eqb (x .1) 21) (suc i) (x .1)) q))
+              (refused-means (x .0) (x .1) (x .2))
 
 -- ---- the three kinds of end exclude each other, also of two plans that every world ends alike
 abbrev pub ClassMeans : ℕ → List Literals → (ℕ → Type 0) → List Action → Class → Type 0
@@ -251,7 +282,8 @@ one-class n goal S plan isStopped isReached h k = let y = k (h .0) (h .1) (h .2)
 one-class n goal S plan isStopped isShort h k = ends-not (runWorld n plan (h .0)) (k .0 (h .0) (h .1) (h .2)) (h .3)
 one-class n goal S plan isStopped isStopped h k = refl
 
-pub class-other : (n : ℕ) (goal : List Literals) (S : ℕ → Type 0) (plan other : List Action) → ((w : ℕ) → w < 2 ^ n → runWorld n other w ≡ runWorld n plan w)
+pub class-other : (n : ℕ) (goal : List Literals) (S : ℕ → Type 0) (plan other : List Action)
+    → ((w : ℕ) → w < 2 ^ n → runWorld n other w ≡ runWorld n plan w)
     → (c : Class) → ClassMeans n goal S other c → ClassMeans n goal S plan c
 class-other n goal S plan other e isReached h = λ w l s. subst (Inside n goal) (e w l) (h w l s)
 class-other n goal S plan other e isShort h =
@@ -265,9 +297,11 @@ module _ (n : ℕ) (S : ℕ → Type 0) (plan : List Action) where
   stop-class k N m = let x = m .lost in (x .0, x .1, x .2, prefix-none n k plan (x .0) (x .3))
 
   earlier : {X : Type 0} (i j : ℕ) → i < j → Some n S Undefined (take (suc i) plan) → Every n S Ends (take j plan) → X
-  earlier i j h x every = ends-not (runWorld n (take j plan) (x .0)) (every (x .0) (x .1) (x .2)) (take-none n (suc i) j plan (x .0) h (x .3))
+  earlier i j h x every = ends-not (runWorld n (take j plan) (x .0)) (every (x .0) (x .1) (x .2))
+      (take-none n (suc i) j plan (x .0) h (x .3))
 
-  one-place : (i j : ℕ) → Every n S Ends (take i plan) → Some n S Undefined (take (suc i) plan) → Every n S Ends (take j plan) → Some n S Undefined (take (suc j) plan) → i ≡ j
+  one-place : (i j : ℕ) → Every n S Ends (take i plan) → Some n S Undefined (take (suc i) plan) → Every n S Ends (take j plan)
+      → Some n S Undefined (take (suc j) plan) → i ≡ j
   one-place i j ei ui ej uj = go (test (ltb i j)) (test (ltb j i))
     where
       go : T (ltb i j) ⊎ T (not (ltb i j)) → T (ltb j i) ⊎ T (not (ltb j i)) → i ≡ j
@@ -276,20 +310,26 @@ module _ (n : ℕ) (S : ℕ → Type 0) (plan : List Action) where
       go (inr x) (inr y) = omega (arith, nltb→le i j x, nltb→le j i y)
 
   pub one-stop : (k N k′ N′ : ℕ) → StopsAt n S plan k N → StopsAt n S plan k′ N′ → (k ≡ k′) × (N ≡ N′)
-  one-stop k N k′ N′ m m′ = (m .place ∙ ap suc e ∙ sym (m′ .place), numbers (m .number) (subst (λ (a : Action). Number a N′) (sym same-move) there))
+  one-stop k N k′ N′ m m′ = (
+    m .place ∙ ap suc e ∙ sym (m′ .place),
+    numbers (m .number) (subst (λ (a : Action). Number a N′) (sym same-move) there),
+  )
     where
       e : m .before ≡ m′ .before
-      e = one-place (m .before) (m′ .before) (m .taken) (subst (λ (i : ℕ). Some n S Undefined (take i plan)) (m .place) (m .lost)) (m′ .taken)
+      e = one-place (m .before) (m′ .before) (m .taken) (subst (λ (i : ℕ). Some n S Undefined (take i plan)) (m .place) (m .lost))
+          (m′ .taken)
           (subst (λ (i : ℕ). Some n S Undefined (take i plan)) (m′ .place) (m′ .lost))
 
       same-move : m .move ≡ m′ .move
       same-move = head-eq-of-cons-eq (sym (m .next) ∙ ap (λ (i : ℕ). drop i plan) e ∙ m′ .next)
 
       Number : Action → ℕ → Type 0
-      Number a c = ((c ≡ 24) × Some n S (Lacking n a) (take (m .before) plan)) ⊎ ((c ≡ 25) × (Some n S (Lacking n a) (take (m .before) plan) → ⊥))
+      Number a c = ((c ≡ 24) × Some n S (Lacking n a) (take (m .before) plan))
+          ⊎ ((c ≡ 25) × (Some n S (Lacking n a) (take (m .before) plan) → ⊥))
 
       there : Number (m′ .move) N′
-      there = subst (λ (i : ℕ). ((N′ ≡ 24) × Some n S (Lacking n (m′ .move)) (take i plan)) ⊎ ((N′ ≡ 25) × (Some n S (Lacking n (m′ .move)) (take i plan) → ⊥))) (sym e) (m′ .number)
+      there = subst (λ (i : ℕ). ((N′ ≡ 24) × Some n S (Lacking n (m′ .move)) (take i plan))
+          ⊎ ((N′ ≡ 25) × (Some n S (Lacking n (m′ .move)) (take i plan) → ⊥))) (sym e) (m′ .number)
 
       numbers : Number (m .move) N → Number (m .move) N′ → N ≡ N′
       numbers (inl x) (inl y) = x .0 ∙ sym (y .0)
@@ -302,7 +342,8 @@ module _ (n : ℕ) (goal : List Literals) (S : ℕ → Type 0) (plan : List Acti
   unlike : {X : Type 0} (c d : Class) → (c ≡ d → _≡_ {A = ℕ} 0 1) → ClassMeans n goal S plan c → ClassMeans n goal S plan d → X
   unlike c d f h k = absurd (omega (arith, f (one-class n goal S plan c d h k)))
 
-  pub one-verdict : (v u : Verdict) → ((k : ℕ) → v ≡ full k → ⊥) → ((k : ℕ) → u ≡ full k → ⊥) → Means n goal S plan v → Means n goal S plan u → v ≡ u
+  pub one-verdict : (v u : Verdict) → ((k : ℕ) → v ≡ full k → ⊥) → ((k : ℕ) → u ≡ full k → ⊥) → Means n goal S plan v
+      → Means n goal S plan u → v ≡ u
   one-verdict reached reached f g h k = refl
   one-verdict reached short f g h k = unlike isReached isShort (λ e. cc) h k
   one-verdict reached (stopped i N) f g h k = unlike isReached isStopped (λ e. cc) h (stop-class n S plan i N k)

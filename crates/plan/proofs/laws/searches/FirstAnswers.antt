@@ -57,7 +57,8 @@ abbrev pub firstBelow : (ℕ → Answer) → ℕ → Answer
 firstBelow g zero = nothing
 firstBelow g (suc k) = orElse (firstBelow g k) (g k)
 
-pub first-below : (run : List ℕ → Verdict) (f : ℕ → List (List ℕ)) (k : ℕ) → firstOf run (collect f (upto k)) ≡ firstBelow (λ i. firstOf run (f i)) k
+pub first-below : (run : List ℕ → Verdict) (f : ℕ → List (List ℕ)) (k : ℕ)
+    → firstOf run (collect f (upto k)) ≡ firstBelow (λ i. firstOf run (f i)) k
 first-below run f zero = refl
 first-below run f (suc k) =
     ap (firstOf run) (collect-append f (upto k) (k ∷ []))
@@ -86,7 +87,8 @@ pub each-nothing : (g : ℕ → Answer) (k : ℕ) → firstBelow g k ≡ nothing
 each-nothing g zero e m h = absurd (not-suc-le-zero h)
 each-nothing g (suc k) e m h = go (ℕ-discrete m k) (or-nothing (firstBelow g k) (g k) e) (each-nothing g k)
   where
-    go : Dec (m ≡ k) → (firstBelow g k ≡ nothing) × (g k ≡ nothing) → (firstBelow g k ≡ nothing → (i : ℕ) → i < k → g i ≡ nothing) → g m ≡ nothing
+    go : Dec (m ≡ k) → (firstBelow g k ≡ nothing) × (g k ≡ nothing) → (firstBelow g k ≡ nothing → (i : ℕ) → i < k → g i ≡ nothing)
+        → g m ≡ nothing
     go (yes q) x below = ap g q ∙ x .1
     go (no n) x below = below (x .0) m (omega arith)
 
@@ -97,7 +99,8 @@ consed m (found p) = found (m ∷ p)
 consed m (fullAt p k) = fullAt (m ∷ p) k
 consed m nothing = nothing
 
-first-map : (run : List ℕ → Verdict) (m : ℕ) (ps : List (List ℕ)) → firstOf run (map (λ p. m ∷ p) ps) ≡ consed m (firstOf (λ p. run (m ∷ p)) ps)
+first-map : (run : List ℕ → Verdict) (m : ℕ) (ps : List (List ℕ))
+    → firstOf run (map (λ p. m ∷ p) ps) ≡ consed m (firstOf (λ p. run (m ∷ p)) ps)
 first-map run m [] = refl
 first-map run m (p ∷ ps) = go (run (m ∷ p)) (first-map run m ps)
   where
@@ -117,7 +120,8 @@ all-full : (moves left k : ℕ) → 0 < moves → firstOf (λ p. full k) (plansO
 all-full moves zero k h = refl
 all-full moves (suc left) k h =
     let g : ℕ → Answer = λ i. firstOf (λ p. full k) (map (λ p. i ∷ p) (plansOf moves left)) in
-    let e : g 0 ≡ fullAt (replicate (suc left) 0) k = first-map (λ p. full k) 0 (plansOf moves left) ∙ ap (consed 0) (all-full moves left k h) in
+    let e : g 0 ≡ fullAt (replicate (suc left) 0) k = first-map (λ p. full k) 0 (plansOf moves left)
+    ∙ ap (consed 0) (all-full moves left k h) in
     first-below (λ p. full k) (λ i. map (λ p. i ∷ p) (plansOf moves left)) moves ∙ found-here g 0 moves refl h (ap some e) ∙ e
 
 -- ---- from a table
@@ -133,11 +137,13 @@ module _ (goal : List Literals) (f : ℕ → Action) (k : ℕ) (at : ℕ) (t : L
         first-map (ranFrom goal f at t) m (plansOf k n)
         ∙ ap (λ (x : Outcome). consed m (firstOf (λ p. onward x (suc at) (λ u. runFrom 128 goal (suc at) (map f p) u)) (plansOf k n))) e
 
-    pub by-table : (u : List Literals) → stepTable 128 (f m) t ≡ table u → firstBy goal f k at t n m ≡ consed m (firstFrom goal f k (at + 1) u n)
+    pub by-table : (u : List Literals) → stepTable 128 (f m) t ≡ table u
+        → firstBy goal f k at t n m ≡ consed m (firstFrom goal f k (at + 1) u n)
     by-table u e = by-step (table u) e ∙ ap (λ (i : ℕ). consed m (firstOf (ranFrom goal f i u) (plansOf k n))) (sym (add-one at))
 
     pub by-stop : (code : ℕ) → stepTable 128 (f m) t ≡ refused code → (code ≡ 21 → ⊥) → firstBy goal f k at t n m ≡ nothing
-    by-stop code e q = by-step (refused code) e ∙ ap (λ (b : Bool). consed m (firstOf (λ p. haltedBy b (suc at) code) (plansOf k n))) (ne-eqb code 21 q) ∙ ap (consed m) (all-stopped (suc at) code (plansOf k n))
+    by-stop code e q = by-step (refused code) e ∙ ap (λ (b : Bool). consed m (firstOf (λ p. haltedBy b (suc at) code) (plansOf k n)))
+        (ne-eqb code 21 q) ∙ ap (consed m) (all-stopped (suc at) code (plansOf k n))
 
     pub by-full : 0 < k → stepTable 128 (f m) t ≡ refused 21 → firstBy goal f k at t n m ≡ fullAt (m ∷ replicate n 0) (at + 1)
     by-full h e =
@@ -146,4 +152,5 @@ module _ (goal : List Literals) (f : ℕ → Action) (k : ℕ) (at : ℕ) (t : L
 -- the same moves below k, the same answer
 pub same-first : (run run′ : List ℕ → Verdict) (ps : List (List ℕ)) → All (λ p. run p ≡ run′ p) ps → firstOf run ps ≡ firstOf run′ ps
 same-first run run′ [] h = refl
-same-first run run′ (p ∷ ps) h = ap (λ (v : Verdict). orNext v p (firstOf run ps)) (h .0) ∙ ap (orNext (run′ p) p) (same-first run run′ ps (h .1))
+same-first run run′ (p ∷ ps) h = ap (λ (v : Verdict). orNext v p (firstOf run ps)) (h .0)
+    ∙ ap (orNext (run′ p) p) (same-first run run′ ps (h .1))

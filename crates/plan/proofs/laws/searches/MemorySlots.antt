@@ -44,8 +44,10 @@ module _ (goal : List Literals) (f : ℕ → Action) (k : ℕ) (t : List Literal
     where
       go : Dec (length q ≡ n) → Fails (ranFrom goal f at t q)
       go (yes z) =
-          any-out (λ p. Fails (ranFrom goal f at t p)) (λ p. p ≡ q) (λ p w r. subst (λ (x : List ℕ). Fails (ranFrom goal f at t x)) r w) (plansOf k (length q))
-          (none-each (ranFrom goal f at t) (plansOf k (length q)) (ap (λ (m : ℕ). firstOf (ranFrom goal f at t) (plansOf k m)) z ∙ e)) (plans-in k q i)
+          any-out (λ p. Fails (ranFrom goal f at t p)) (λ p. p ≡ q) (λ p w r. subst (λ (x : List ℕ). Fails (ranFrom goal f at t x)) r w)
+          (plansOf k (length q))
+          (none-each (ranFrom goal f at t) (plansOf k (length q)) (ap (λ (m : ℕ). firstOf (ranFrom goal f at t) (plansOf k m)) z ∙ e))
+          (plans-in k q i)
       go (no z) = h q i (omega (arith, s, z))
 
 -- ---- the laws of a memory
@@ -56,7 +58,8 @@ module _ (packed : List ℕ) (count : ℕ) where
   skip {memory} {es} {left} at h r =
       quiet-none (setsIn (goalIn packed)) (actionOf (movesIn packed)) count es at (markIn (itemAt 258 memory (r .slot))) left
       (quiet-place (setsIn (goalIn packed)) (actionOf (movesIn packed)) count es 0 at (markIn (itemAt 258 memory (r .slot)))
-      (subst (λ (x : List Literals). NoShorterFrom packed count 0 x (markIn (itemAt 258 memory (r .slot)))) (r .alike) (h (r .slot) (r .room))))
+      (subst (λ (x : List Literals). NoShorterFrom packed count 0 x (markIn (itemAt 258 memory (r .slot)))) (r .alike)
+      (h (r .slot) (r .room))))
       (r .above)
 
   -- what is entered after all shorter plans is known
@@ -65,18 +68,23 @@ module _ (packed : List ℕ) (count : ℕ) where
 
   -- what was tried without an answer is known for one move more
   pub tried : (es : List Literals) (at left : ℕ) → NoShorterFrom packed count at es left
-      → firstFrom (setsIn (goalIn packed)) (actionOf (movesIn packed)) count at es left ≡ nothing → NoShorterFrom packed count 0 es (left + 1)
+      → firstFrom (setsIn (goalIn packed)) (actionOf (movesIn packed)) count at es left ≡ nothing
+      → NoShorterFrom packed count 0 es (left + 1)
   tried es at left h e =
-      quiet-place (setsIn (goalIn packed)) (actionOf (movesIn packed)) count es at 0 (left + 1) (quiet-more (setsIn (goalIn packed)) (actionOf (movesIn packed)) count es at left h e)
+      quiet-place (setsIn (goalIn packed)) (actionOf (movesIn packed)) count es at 0 (left + 1)
+      (quiet-more (setsIn (goalIn packed)) (actionOf (movesIn packed)) count es at left h e)
 
   -- by what is in a slot
-  pub known-in : (slot : List ℕ) (es : List Literals) (mark : ℕ) → markIn slot ≡ mark → tableIn slot ≡ es → NoShorterFrom packed count 0 es mark
+  pub known-in : (slot : List ℕ) (es : List Literals) (mark : ℕ) → markIn slot ≡ mark → tableIn slot ≡ es
+      → NoShorterFrom packed count 0 es mark
       → NoShorterFrom packed count 0 (tableIn slot) (markIn slot)
   known-in slot es mark a b h =
-      subst (λ (x : List Literals). NoShorterFrom packed count 0 x (markIn slot)) (sym b) (subst (λ (m : ℕ). NoShorterFrom packed count 0 es m) (sym a) h)
+      subst (λ (x : List Literals). NoShorterFrom packed count 0 x (markIn slot)) (sym b)
+      (subst (λ (m : ℕ). NoShorterFrom packed count 0 es m) (sym a) h)
 
   -- where no slot has a mark, nothing is said
-  pub blank : (memory : List ℕ) → ((j : ℕ) → j * 258 + 258 ≤ length memory → markIn (itemAt 258 memory j) ≡ 0) → Remembers packed count memory
+  pub blank : (memory : List ℕ) → ((j : ℕ) → j * 258 + 258 ≤ length memory → markIn (itemAt 258 memory j) ≡ 0)
+      → Remembers packed count memory
   blank memory h j l q i s = absurd (not-suc-le-zero (subst (λ (m : ℕ). length q < m) (h j l) s))
 
 -- ---- a slot that is written
@@ -112,9 +120,12 @@ module _ {slot ts fs : List ℕ} {n mark i : ℕ} (h : Laid slot ts fs n mark i)
     long = length-set one (130 + i) (getD fs i 0) ∙ length-set slot (2 + i) (getD ts i 0) ∙ h .long;
     mark-is = kept 0 (λ e. omega (arith, e)) (λ e. omega (arith, e)) ∙ h .mark-is;
     count-is = kept 1 (λ e. omega (arith, e)) (λ e. omega (arith, e)) ∙ h .count-is;
-    trues-are = below-more (λ k. getD two (2 + k) 0 ≡ getD ts k 0) i (λ k b. kept (2 + k) (λ e. omega (arith, e, b)) (λ e. omega (arith, e, b)) ∙ h .trues-are k b)
-        (getD-set-other one (130 + i) (2 + i) (getD fs i 0) 0 (λ e. omega (arith, e)) ∙ getD-set-same slot (2 + i) (getD ts i 0) 0 (omega (arith, h .long, l)));
-    falses-are = below-more (λ k. getD two (130 + k) 0 ≡ getD fs k 0) i (λ k b. kept (130 + k) (λ e. omega (arith, e, b, l)) (λ e. omega (arith, e, b)) ∙ h .falses-are k b)
+    trues-are = below-more (λ k. getD two (2 + k) 0 ≡ getD ts k 0) i
+        (λ k b. kept (2 + k) (λ e. omega (arith, e, b)) (λ e. omega (arith, e, b)) ∙ h .trues-are k b)
+        (getD-set-other one (130 + i) (2 + i) (getD fs i 0) 0 (λ e. omega (arith, e))
+        ∙ getD-set-same slot (2 + i) (getD ts i 0) 0 (omega (arith, h .long, l)));
+    falses-are = below-more (λ k. getD two (130 + k) 0 ≡ getD fs k 0) i
+        (λ k b. kept (130 + k) (λ e. omega (arith, e, b, l)) (λ e. omega (arith, e, b)) ∙ h .falses-are k b)
         (getD-set-same one (130 + i) (getD fs i 0) 0 (omega (arith, h .long, l, length-set slot (2 + i) (getD ts i 0))));
   }
 
@@ -122,8 +133,10 @@ pub laid-table : {slot ts fs : List ℕ} {n mark i : ℕ} → Laid slot ts fs n 
 unfolding tableIn
 laid-table {slot} {ts} {fs} {n} {mark} {i} h l e =
     agree-entries (getD slot 1 0) n (take 128 (drop 2 slot)) (take 128 (drop 130 slot)) ts fs (h .count-is)
-    (λ k b. getD-take 128 (drop 2 slot) k 0 (omega (arith, b, h .count-is, l)) ∙ getD-drop 2 slot k 0 ∙ h .trues-are k (omega (arith, b, h .count-is, e)))
-    (λ k b. getD-take 128 (drop 130 slot) k 0 (omega (arith, b, h .count-is, l)) ∙ getD-drop 130 slot k 0 ∙ h .falses-are k (omega (arith, b, h .count-is, e)))
+    (λ k b. getD-take 128 (drop 2 slot) k 0 (omega (arith, b, h .count-is, l)) ∙ getD-drop 2 slot k 0
+    ∙ h .trues-are k (omega (arith, b, h .count-is, e)))
+    (λ k b. getD-take 128 (drop 130 slot) k 0 (omega (arith, b, h .count-is, l)) ∙ getD-drop 130 slot k 0
+    ∙ h .falses-are k (omega (arith, b, h .count-is, e)))
 
 -- ---- one slot of a memory written anew
 module _ (xs slot : List ℕ) (j : ℕ) (room : j * 258 + 258 ≤ length xs) (long : length slot ≡ 258) where
@@ -136,10 +149,12 @@ module _ (xs slot : List ℕ) (j : ℕ) (room : j * 258 + 258 ≤ length xs) (lo
   kept-by packed count h g i l = go (ℕ-discrete i j)
     where
       go : Dec (i ≡ j) → NoShorterFrom packed count 0 (tableIn (itemAt 258 put i)) (markIn (itemAt 258 put i))
-      go (yes e) = subst (λ (s : List ℕ). NoShorterFrom packed count 0 (tableIn s) (markIn s)) (sym (ap (itemAt 258 put) e ∙ item-same xs slot 258 j room long)) g
+      go (yes e) = subst (λ (s : List ℕ). NoShorterFrom packed count 0 (tableIn s) (markIn s))
+          (sym (ap (itemAt 258 put) e ∙ item-same xs slot 258 j room long)) g
       go (no ne) =
           let r : i * 258 + 258 ≤ length xs = omega (arith, l, item-anew-long xs slot 258 j room long) in
-          subst (λ (s : List ℕ). NoShorterFrom packed count 0 (tableIn s) (markIn s)) (sym (item-other xs slot 258 j room long i ne)) (h i r)
+          subst (λ (s : List ℕ). NoShorterFrom packed count 0 (tableIn s) (markIn s)) (sym (item-other xs slot 258 j room long i ne))
+          (h i r)
 
 -- ---- marks at the heads of the slots
 pub mark-head : (memory : List ℕ) (j : ℕ) → markIn (itemAt 258 memory j) ≡ getD memory (j * 258) 0
@@ -156,7 +171,8 @@ slots-all long j l = omega (arith, l)
 
 -- a slot that is lent says what is recalled
 pub recalled : (memory : List ℕ) (es : List Literals) (left j : ℕ) → j * 258 + 258 ≤ length memory
-    → left < markIn (take (j * 258 + 258 - j * 258) (drop (j * 258) memory)) → tableIn (take (j * 258 + 258 - j * 258) (drop (j * 258) memory)) ≡ es
+    → left < markIn (take (j * 258 + 258 - j * 258) (drop (j * 258) memory))
+    → tableIn (take (j * 258 + 258 - j * 258) (drop (j * 258) memory)) ≡ es
     → Recalls memory es left
 recalled memory es left j room a b = record {
   slot = j;

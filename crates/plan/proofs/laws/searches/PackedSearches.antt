@@ -92,17 +92,21 @@ module _ (p : Problem) (g : ProperProblem p) (packed : List ℕ) (long : length 
     unfolding searchedFrom
     sought limit =
         ap answered (same-first _ _ (plansUpTo count limit)
-        (all-map (PlanOf count limit) (λ q. ranFrom (setsIn (goalIn packed)) (actionOf (movesIn packed)) 0 (entries t) q ≡ runFrom 128 (p .goal) 0 (actionsOf p q) (entries t))
+        (all-map (PlanOf count limit)
+        (λ q. ranFrom (setsIn (goalIn packed)) (actionOf (movesIn packed)) 0 (entries t) q
+        ≡ runFrom 128 (p .goal) 0 (actionsOf p q) (entries t))
         (λ q h. ap₂ (λ (x : List Literals) (q : List Action). runFrom 128 x 0 q (entries t)) is (plan-laid q (h .0)))
         (plansUpTo count limit) (out-plans count limit)))
 
-    pub coursed : (q : List ℕ) → All (λ i. i < count) q → courseFrom (setsIn (goalIn packed)) [] 0 (map (actionOf (movesIn packed)) q) (entries t) ≡ courseFrom (p .goal) [] 0 (actionsOf p q) (entries t)
+    pub coursed : (q : List ℕ) → All (λ i. i < count) q → courseFrom (setsIn (goalIn packed)) [] 0 (map (actionOf (movesIn packed)) q)
+        (entries t) ≡ courseFrom (p .goal) [] 0 (actionsOf p q) (entries t)
     coursed q h = ap₂ (λ (x : List Literals) (q : List Action). courseFrom x [] 0 q (entries t)) is (plan-laid q h)
 
 -- ---- the search of a problem from its start
 module _ (p : Problem) (s : TableAnswer) (is : s ≡ orGiven (tableOf []) (startTable 128 p)) (limit : ℕ) where
   -- the start gave a table
-  pub sought-from : ProperProblem p → s .answer ≡ Accepted → answered (searchedFrom p limit (entries (s .table))) ≡ searched p limit (startTable 128 p)
+  pub sought-from : ProperProblem p → s .answer ≡ Accepted → answered (searchedFrom p limit (entries (s .table))) ≡ searched p limit
+      (startTable 128 p)
   unfolding searched
   sought-from g a = sym (ap (searched p limit) (started p g s is a))
 
@@ -113,7 +117,8 @@ module _ (p : Problem) (s : TableAnswer) (is : s ≡ orGiven (tableOf []) (start
 
 -- ---- the call on bytes
 module _ (s : List ℕ) (x : Statement) (e : sheetOf s ≡ accepted x) (limit : ℕ) where
-  by-limit : (b : Bool) → ltb 8 limit ≡ b → cond b (refusedSearch 8 0) (searched (x .problem) limit (startTable 128 (x .problem))) ≡ searchOf (sheetOf s) limit
+  by-limit : (b : Bool) → ltb 8 limit ≡ b → cond b (refusedSearch 8 0) (searched (x .problem) limit (startTable 128 (x .problem)))
+      ≡ searchOf (sheetOf s) limit
   unfolding searchOf
   by-limit b l =
       ap (λ (c : Bool). cond c (refusedSearch 8 0) (searched (x .problem) limit (startTable 128 (x .problem)))) (sym l)

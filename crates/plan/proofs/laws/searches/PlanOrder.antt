@@ -25,11 +25,13 @@ in-upto (suc k) i h = go (ℕ-discrete k i) (in-upto k i)
 upto-below : (k : ℕ) → All (λ j. j < k) (upto k)
 upto-below zero = tt
 upto-below (suc k) =
-    all-append (λ j. j < suc k) (upto k) (k ∷ []) (all-map (λ j. j < k) (λ j. j < suc k) (λ j h. omega arith) (upto k) (upto-below k)) (omega arith, tt)
+    all-append (λ j. j < suc k) (upto k) (k ∷ []) (all-map (λ j. j < k) (λ j. j < suc k) (λ j h. omega arith) (upto k) (upto-below k))
+    (omega arith, tt)
 
 pub collect-append : {A B : Type 0} (f : A → List B) (xs ys : List A) → collect f (xs ++ ys) ≡ collect f xs ++ collect f ys
 collect-append f [] ys = refl
-collect-append {A} {B} f (x ∷ xs) ys = ap {B = List B} (λ r. f x ++ r) (collect-append f xs ys) ∙ sym (append-assoc (f x) (collect f xs) (collect f ys))
+collect-append {A} {B} f (x ∷ xs) ys = ap {B = List B} (λ r. f x ++ r) (collect-append f xs ys)
+    ∙ sym (append-assoc (f x) (collect f xs) (collect f ys))
 
 -- ---- the plans are those within the limit
 pub plans-in : (k : ℕ) (p : List ℕ) → All (λ i. i < k) p → Any (λ q. q ≡ p) (plansOf k (length p))
@@ -47,20 +49,23 @@ plans-out k (suc m) =
     all-collected (λ i. map (λ p. i ∷ p) (plansOf k m)) (λ p. All (λ i. i < k) p × (length p ≡ suc m)) (upto k)
     (all-map (λ i. i < k) (λ i. All (λ p. All (λ j. j < k) p × (length p ≡ suc m)) (map (λ p. i ∷ p) (plansOf k m)))
     (λ i l. all-imaged (λ p. i ∷ p) (λ p. All (λ j. j < k) p × (length p ≡ suc m)) (plansOf k m)
-    (all-map (λ p. All (λ j. j < k) p × (length p ≡ m)) (λ p. All (λ j. j < k) (i ∷ p) × (length (i ∷ p) ≡ suc m)) (λ p h. ((l, h .0), ap suc (h .1))) (plansOf k m) (plans-out k m)))
+    (all-map (λ p. All (λ j. j < k) p × (length p ≡ m)) (λ p. All (λ j. j < k) (i ∷ p) × (length (i ∷ p) ≡ suc m))
+    (λ p h. ((l, h .0), ap suc (h .1))) (plansOf k m) (plans-out k m)))
     (upto k) (upto-below k))
 
 pub in-plans : (k limit : ℕ) (p : List ℕ) → PlanOf k limit p → Any (λ q. q ≡ p) (plansUpTo k limit)
 in-plans k limit p h =
     any-collected (plansOf k) (λ q. q ≡ p) (upto (suc limit))
-    (any-map (λ m. m ≡ length p) (λ m. Any (λ q. q ≡ p) (plansOf k m)) (λ m e. subst (λ (x : ℕ). Any (λ q. q ≡ p) (plansOf k x)) (sym e) (plans-in k p (h .0)))
+    (any-map (λ m. m ≡ length p) (λ m. Any (λ q. q ≡ p) (plansOf k m))
+    (λ m e. subst (λ (x : ℕ). Any (λ q. q ≡ p) (plansOf k x)) (sym e) (plans-in k p (h .0)))
     (upto (suc limit)) (in-upto (suc limit) (length p) (omega (arith, h .1))))
 
 pub out-plans : (k limit : ℕ) → All (PlanOf k limit) (plansUpTo k limit)
 out-plans k limit =
     all-collected (plansOf k) (PlanOf k limit) (upto (suc limit))
     (all-map (λ m. m < suc limit) (λ m. All (PlanOf k limit) (plansOf k m))
-    (λ m l. all-map (λ p. All (λ i. i < k) p × (length p ≡ m)) (PlanOf k limit) (λ p h. (h .0, omega (arith, h .1))) (plansOf k m) (plans-out k m))
+    (λ m l. all-map (λ p. All (λ i. i < k) p × (length p ≡ m)) (PlanOf k limit) (λ p h. (h .0, omega (arith, h .1))) (plansOf k m)
+    (plans-out k m))
     (upto (suc limit)) (upto-below (suc limit)))
 
 -- ---- each comes before those after it
@@ -72,19 +77,26 @@ ordered-append : (ps qs : List (List ℕ)) → Ordered ps → Ordered qs → All
 ordered-append [] qs h k l = k
 ordered-append (p ∷ ps) qs h k l = (all-append (Earlier p) ps qs (h .0) (l .0), ordered-append ps qs (h .1) k (l .1))
 
-module _ (f : ℕ → List (List ℕ)) (each : (i : ℕ) → Ordered (f i)) (rising : (i j : ℕ) → i < j → All (λ p. All (Earlier p) (f j)) (f i)) where
-  ordered-collect : (k : ℕ) → Ordered (collect f (upto k))
-  ordered-collect zero = tt
-  ordered-collect (suc k) =
-      subst Ordered (sym (collect-append f (upto k) (k ∷ [])))
-      (ordered-append (collect f (upto k)) (f k ++ []) (ordered-collect k) (ordered-append (f k) [] (each k) tt (all-by (λ p. All (Earlier p) []) (λ p. tt) (f k)))
-      (all-collected f (λ p. All (Earlier p) (f k ++ [])) (upto k)
-      (all-map (λ i. i < k) (λ i. All (λ p. All (Earlier p) (f k ++ [])) (f i))
-      (λ i l. all-map (λ p. All (Earlier p) (f k)) (λ p. All (Earlier p) (f k ++ [])) (λ p h. all-append (Earlier p) (f k) [] h tt) (f i) (rising i k l)) (upto k) (upto-below k))))
+module _ (f : ℕ → List (List ℕ)) (each : (i : ℕ) → Ordered (f i)) (rising : (i j : ℕ) → i < j → All (λ p. All (Earlier p) (f j)) (f i))
+  where
+    ordered-collect : (k : ℕ) → Ordered (collect f (upto k))
+    ordered-collect zero = tt
+    ordered-collect (suc k) =
+        subst Ordered (sym (collect-append f (upto k) (k ∷ [])))
+        (ordered-append (collect f (upto k)) (f k ++ []) (ordered-collect k)
+        (ordered-append (f k) [] (each k) tt (all-by (λ p. All (Earlier p) []) (λ p. tt) (f k)))
+        (all-collected f (λ p. All (Earlier p) (f k ++ [])) (upto k)
+        (all-map (λ i. i < k) (λ i. All (λ p. All (Earlier p) (f k ++ [])) (f i))
+        (λ i l. all-map (λ p. All (Earlier p) (f k)) (λ p. All (Earlier p) (f k ++ [])) (λ p h. all-append (Earlier p) (f k) [] h tt) (f i)
+        (rising i k l)) (upto k) (upto-below k))))
 
 ordered-map : (i : ℕ) (ps : List (List ℕ)) → Ordered ps → Ordered (map (λ p. i ∷ p) ps)
 ordered-map i [] h = tt
-ordered-map i (p ∷ ps) h = (all-imaged (λ q. i ∷ q) (Earlier (i ∷ p)) ps (all-map (Earlier p) (λ q. Earlier (i ∷ p) (i ∷ q)) (λ q k. onto q k) ps (h .0)), ordered-map i ps (h .1))
+ordered-map i (p ∷ ps) h = (
+  all-imaged (λ q. i ∷ q) (Earlier (i ∷ p)) ps
+      (all-map (Earlier p) (λ q. Earlier (i ∷ p) (i ∷ q)) (λ q k. onto q k) ps (h .0)),
+  ordered-map i ps (h .1),
+)
   where
     onto : (q : List ℕ) → Earlier p q → Earlier (i ∷ p) (i ∷ q)
     onto q (inl l) = inl (omega arith)
@@ -92,21 +104,24 @@ ordered-map i (p ∷ ps) h = (all-imaged (λ q. i ∷ q) (Earlier (i ∷ p)) ps 
 
 plans-ordered : (k m : ℕ) → Ordered (plansOf k m)
 plans-ordered k zero = (tt, tt)
-plans-ordered k (suc m) = ordered-collect (λ i. map (λ p. i ∷ p) (plansOf k m)) (λ i. ordered-map i (plansOf k m) (plans-ordered k m)) rising k
+plans-ordered k (suc m) = ordered-collect (λ i. map (λ p. i ∷ p) (plansOf k m)) (λ i. ordered-map i (plansOf k m) (plans-ordered k m))
+    rising k
   where
     rising : (i j : ℕ) → i < j → All (λ p. All (Earlier p) (map (λ q. j ∷ q) (plansOf k m))) (map (λ p. i ∷ p) (plansOf k m))
     rising i j l =
         all-imaged (λ p. i ∷ p) (λ p. All (Earlier p) (map (λ q. j ∷ q) (plansOf k m))) (plansOf k m)
         (all-map (λ p. All (λ x. x < k) p × (length p ≡ m)) (λ p. All (Earlier (i ∷ p)) (map (λ q. j ∷ q) (plansOf k m)))
         (λ p hp. all-imaged (λ q. j ∷ q) (Earlier (i ∷ p)) (plansOf k m)
-        (all-map (λ q. All (λ x. x < k) q × (length q ≡ m)) (λ q. Earlier (i ∷ p) (j ∷ q)) (λ q hq. inr (ap suc (hp .1 ∙ sym (hq .1)), inl l)) (plansOf k m) (plans-out k m)))
+        (all-map (λ q. All (λ x. x < k) q × (length q ≡ m)) (λ q. Earlier (i ∷ p) (j ∷ q))
+        (λ q hq. inr (ap suc (hp .1 ∙ sym (hq .1)), inl l)) (plansOf k m) (plans-out k m)))
         (plansOf k m) (plans-out k m))
 
 pub ordered : (k limit : ℕ) → Ordered (plansUpTo k limit)
 ordered k limit =
     ordered-collect (plansOf k) (plans-ordered k)
     (λ i j l. all-map (λ p. All (λ x. x < k) p × (length p ≡ i)) (λ p. All (Earlier p) (plansOf k j))
-    (λ p hp. all-map (λ q. All (λ x. x < k) q × (length q ≡ j)) (Earlier p) (λ q hq. inl (omega (arith, hp .1, hq .1))) (plansOf k j) (plans-out k j)) (plansOf k i) (plans-out k i))
+    (λ p hp. all-map (λ q. All (λ x. x < k) q × (length q ≡ j)) (Earlier p) (λ q hq. inl (omega (arith, hp .1, hq .1))) (plansOf k j)
+    (plans-out k j)) (plansOf k i) (plans-out k i))
     (suc limit)
 
 -- no two come before each other
@@ -125,12 +140,14 @@ once p q (inr a) (inl b) = omega (arith, a .0)
 once p q (inr a) (inr b) = lower-once p q (a .1) (b .1)
 
 -- ---- a plan among others
-any-split : (p : List ℕ) (ps : List (List ℕ)) → Any (λ q. q ≡ p) ps → (before : List (List ℕ)) × (rest : List (List ℕ)) × (ps ≡ before ++ (p ∷ rest))
+any-split : (p : List ℕ) (ps : List (List ℕ)) → Any (λ q. q ≡ p) ps → (before : List (List ℕ)) × (rest : List (List ℕ))
+    × (ps ≡ before ++ (p ∷ rest))
 any-split p [] h = absurd h
 any-split p (q ∷ ps) (inl e) = ([], ps, ap {B = List (List ℕ)} (λ x. x ∷ ps) e)
 any-split p (q ∷ ps) (inr h) = let r = any-split p ps h in (q ∷ r .0, r .1, ap {B = List (List ℕ)} (λ x. q ∷ x) (r .2))
 
-ordered-parts : (before : List (List ℕ)) (p : List ℕ) (rest : List (List ℕ)) → Ordered (before ++ (p ∷ rest)) → All (λ q. Earlier q p) before × All (Earlier p) rest
+ordered-parts : (before : List (List ℕ)) (p : List ℕ) (rest : List (List ℕ)) → Ordered (before ++ (p ∷ rest))
+    → All (λ q. Earlier q p) before × All (Earlier p) rest
 ordered-parts [] p rest h = (tt, h .0)
 ordered-parts (q ∷ before) p rest h =
     let r = ordered-parts before p rest (h .1) in
@@ -192,7 +209,11 @@ module _ (run : List ℕ → Verdict) where
     plans = plansUpTo k limit
 
     first-plan : (p : List ℕ) (v : Verdict) → FirstIn plans p v → FirstPlan run k limit p v
-    first-plan p v a = record { plan = all-parts (PlanOf k limit) (a .0) (p ∷ a .1) (subst (All (PlanOf k limit)) (a .2) (out-plans k limit)) .1 .0; gives = a .4; earlier = earlier }
+    first-plan p v a = record {
+      plan = all-parts (PlanOf k limit) (a .0) (p ∷ a .1) (subst (All (PlanOf k limit)) (a .2) (out-plans k limit)) .1 .0;
+      gives = a .4;
+      earlier = earlier;
+    }
       where
         parts : All (λ q. Earlier q p) (a .0) × All (Earlier p) (a .1)
         parts = ordered-parts (a .0) p (a .1) (subst Ordered (a .2) (ordered k limit))
@@ -209,8 +230,14 @@ module _ (run : List ℕ → Verdict) where
     plan-first p v f =
         let r = any-split p plans (in-plans k limit p (f .plan)) in
         let o = ordered-parts (r .0) p (r .1) (subst Ordered (r .2) (ordered k limit)) in
-        let i = all-parts (PlanOf k limit) (r .0) (p ∷ r .1) (subst (All (PlanOf k limit)) (r .2) (out-plans k limit)) in
-        (r .0, r .1, r .2, all-with (λ q. Earlier q p) (PlanOf k limit) (λ q. Fails (run q)) (λ q l h. f .earlier q h l) (r .0) (o .0) (i .0), f .gives)
+        let i = all-parts (PlanOf k limit) (r .0) (p ∷ r .1) (subst (All (PlanOf k limit)) (r .2) (out-plans k limit)) in (
+          r .0,
+          r .1,
+          r .2,
+          all-with (λ q. Earlier q p) (PlanOf k limit) (λ q. Fails (run q)) (λ q l h. f .earlier q h l) (r .0) (o .0)
+              (i .0),
+          f .gives,
+        )
 
     says : (r : Answer) → firstOf run plans ≡ r → Says plans r
     says r e = subst (Says plans) e (first-says plans)
@@ -227,6 +254,7 @@ module _ (run : List ℕ → Verdict) where
     pub search-nothing : (firstOf run plans ≡ nothing) ↔ ((p : List ℕ) → PlanOf k limit p → Fails (run p))
     unfolding Says
     search-nothing = (
-      λ e p h. any-out (λ q. Fails (run q)) (λ q. q ≡ p) (λ q f i. subst (λ (z : List ℕ). Fails (run z)) i f) plans (says nothing e) (in-plans k limit p h),
+      λ e p h. any-out (λ q. Fails (run q)) (λ q. q ≡ p) (λ q f i. subst (λ (z : List ℕ). Fails (run z)) i f) plans (says nothing e)
+          (in-plans k limit p h),
       λ f. none-is plans (all-map (PlanOf k limit) (λ q. Fails (run q)) f plans (out-plans k limit)),
     )

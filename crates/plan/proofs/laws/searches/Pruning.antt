@@ -24,7 +24,8 @@ use Rattle.plan.proofs.laws.searches.PlanOrder.{plans-in, plans-out, no
 use Rattle.plan.proofs.laws.searches.FirstAnswers.{firstBelow, each-nothing, consed, by-table}
 
 -- a plan fails or not wherever it begins
-pub fails-place : (goal : List Literals) (plan : List Action) (t : List Literals) (a b : ℕ) → Fails (runFrom 128 goal a plan t) → Fails (runFrom 128 goal b plan t)
+pub fails-place : (goal : List Literals) (plan : List Action) (t : List Literals) (a b : ℕ) → Fails (runFrom 128 goal a plan t)
+    → Fails (runFrom 128 goal b plan t)
 fails-place goal [] t a b h = h
 fails-place goal (x ∷ plan) t a b h = go (stepTable 128 x t) (λ u. fails-place goal plan u (suc a) (suc b)) h
   where
@@ -53,9 +54,11 @@ module _ (goal : List Literals) (f : ℕ → Action) (k at : ℕ) (t : List Lite
         (λ q w. fails-place goal (map f q) t at (at + 1) (h q (w .0) (omega (arith, w .1)))) (plansOf k n) (plans-out k n)))
 
 -- no shorter length had an answer
-pub quiet-lengths : (goal : List Literals) (f : ℕ → Action) (k : ℕ) (t : List Literals) (n : ℕ) → firstBelow (firstFrom goal f k 0 t) n ≡ nothing → NoShorterPlan goal f k 0 t n
+pub quiet-lengths : (goal : List Literals) (f : ℕ → Action) (k : ℕ) (t : List Literals) (n : ℕ)
+    → firstBelow (firstFrom goal f k 0 t) n ≡ nothing → NoShorterPlan goal f k 0 t n
 quiet-lengths goal f k t n e q i s =
-    any-out (λ p. Fails (ranFrom goal f 0 t p)) (λ p. p ≡ q) (λ p h r. subst (λ (x : List ℕ). Fails (ranFrom goal f 0 t x)) r h) (plansOf k (length q))
+    any-out (λ p. Fails (ranFrom goal f 0 t p)) (λ p. p ≡ q) (λ p h r. subst (λ (x : List ℕ). Fails (ranFrom goal f 0 t x)) r h)
+    (plansOf k (length q))
     (none-each (ranFrom goal f 0 t) (plansOf k (length q)) (each-nothing (firstFrom goal f k 0 t) n e (length q) s)) (plans-in k q i)
 
 -- ---- the same numbers in the slots

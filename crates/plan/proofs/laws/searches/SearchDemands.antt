@@ -170,15 +170,23 @@ module _ (s : List ℕ) (x : Statement) (says : Says s x) (limit : ℕ) (le : li
     within : (q : List ℕ) → PlanOf moves limit q → length q ≤ 8
     within q h = omega (arith, h .1)
 
-    at-found : (q : List ℕ) → answer ≡ found q → PlanOf moves limit q → (searchOf (sheetOf s) limit .kind ≡ kind.Reached) × (planFound (searchOf (sheetOf s) limit) ≡ q)
+    at-found : (q : List ℕ) → answer ≡ found q → PlanOf moves limit q → (searchOf (sheetOf s) limit .kind ≡ kind.Reached)
+        × (planFound (searchOf (sheetOf s) limit) ≡ q)
     at-found q e h =
-        let k = found-plan q (within q h) in
-        (ap (λ (r : SearchAnswer). r .kind) (call ∙ ap answered e) ∙ k .0, ap (λ (r : SearchAnswer). planFound r) (call ∙ ap answered e) ∙ k .1)
+        let k = found-plan q (within q h) in (
+          ap (λ (r : SearchAnswer). r .kind) (call ∙ ap answered e) ∙ k .0,
+          ap (λ (r : SearchAnswer). planFound r) (call ∙ ap answered e)
+              ∙ k .1,
+        )
 
-    at-full : (q : List ℕ) (i : ℕ) → answer ≡ fullAt q i → PlanOf moves limit q → (searchOf (sheetOf s) limit .kind ≡ kind.Full i) × (planFound (searchOf (sheetOf s) limit) ≡ q)
+    at-full : (q : List ℕ) (i : ℕ) → answer ≡ fullAt q i → PlanOf moves limit q → (searchOf (sheetOf s) limit .kind ≡ kind.Full i)
+        × (planFound (searchOf (sheetOf s) limit) ≡ q)
     at-full q i e h =
-        let k = full-plan q i (within q h) in
-        (ap (λ (r : SearchAnswer). r .kind) (call ∙ ap answered e) ∙ k .0, ap (λ (r : SearchAnswer). planFound r) (call ∙ ap answered e) ∙ k .1)
+        let k = full-plan q i (within q h) in (
+          ap (λ (r : SearchAnswer). r .kind) (call ∙ ap answered e) ∙ k .0,
+          ap (λ (r : SearchAnswer). planFound r) (call ∙ ap answered e)
+              ∙ k .1,
+        )
 
     found-first : (q : List ℕ) → (answer ≡ found q) ↔ FirstPlan verdict-of moves limit q reached
     found-first = searches.search-found (x .problem) hπ t starts limit
@@ -197,14 +205,16 @@ module _ (s : List ℕ) (x : Statement) (says : Says s x) (limit : ℕ) (le : li
         let r = full-is answer i (ap (λ (r : SearchAnswer). r .kind) (sym call) ∙ e) in
         r .1 ∙ ap (λ (q : List ℕ). fullAt q i) (sym (at-full (r .0) i (r .1) (full-first (r .0) i .0 (r .1) .plan) .1))
 
-    by-reached : (q : List ℕ) → ((searchOf (sheetOf s) limit .kind ≡ kind.Reached) × (planFound (searchOf (sheetOf s) limit) ≡ q)) ↔ FirstRun (x .problem) limit q ran.Reached
+    by-reached : (q : List ℕ) → ((searchOf (sheetOf s) limit .kind ≡ kind.Reached) × (planFound (searchOf (sheetOf s) limit) ≡ q))
+        ↔ FirstRun (x .problem) limit q ran.Reached
     unfolding verdictOf
     by-reached q = (
       λ h. first-run q reached (found-first q .0 (its-found (h .0) ∙ ap found (h .1))),
       λ f. let g = first-plan q reached f in at-found q (found-first q .1 g) (g .plan),
     )
 
-    by-full : (q : List ℕ) (i : ℕ) → ((searchOf (sheetOf s) limit .kind ≡ kind.Full i) × (planFound (searchOf (sheetOf s) limit) ≡ q)) ↔ FirstRun (x .problem) limit q (ran.Full i)
+    by-full : (q : List ℕ) (i : ℕ) → ((searchOf (sheetOf s) limit .kind ≡ kind.Full i) × (planFound (searchOf (sheetOf s) limit) ≡ q))
+        ↔ FirstRun (x .problem) limit q (ran.Full i)
     unfolding verdictOf
     by-full q i = (
       λ h. first-run q (full i) (full-first q i .0 (its-full i (h .0) ∙ ap (λ (z : List ℕ). fullAt z i) (h .1))),
@@ -212,12 +222,18 @@ module _ (s : List ℕ) (x : Statement) (says : Says s x) (limit : ℕ) (le : li
     )
 
     its-nothing : (searchOf (sheetOf s) limit .kind ≡ kind.Nothing) ↔ (answer ≡ nothing)
-    its-nothing = (λ e. nothing-is answer (ap (λ (r : SearchAnswer). r .kind) (sym call) ∙ e), λ e. ap (λ (r : SearchAnswer). r .kind) (call ∙ ap answered e) ∙ nothing-kind)
+    its-nothing = (
+      λ e. nothing-is answer (ap (λ (r : SearchAnswer). r .kind) (sym call) ∙ e),
+      λ e. ap (λ (r : SearchAnswer). r .kind) (call ∙ ap answered e) ∙ nothing-kind,
+    )
 
-    by-nothing : (searchOf (sheetOf s) limit .kind ≡ kind.Nothing) ↔ ((q : List ℕ) → PlanOf moves limit q → Misses (runWith (x .problem) q .verdict))
+    by-nothing : (searchOf (sheetOf s) limit .kind ≡ kind.Nothing)
+        ↔ ((q : List ℕ) → PlanOf moves limit q → Misses (runWith (x .problem) q .verdict))
     by-nothing = (
-      λ e q h. subst Misses (sym (gives q h)) (fails-misses (verdict-of q) (searches.search-nothing (x .problem) hπ t starts limit .0 (its-nothing .0 e) q h)),
-      λ f. its-nothing .1 (searches.search-nothing (x .problem) hπ t starts limit .1 (λ q h. misses-fails (verdict-of q) (subst Misses (gives q h) (f q h)))),
+      λ e q h. subst Misses (sym (gives q h))
+          (fails-misses (verdict-of q) (searches.search-nothing (x .problem) hπ t starts limit .0 (its-nothing .0 e) q h)),
+      λ f. its-nothing .1 (searches.search-nothing (x .problem) hπ t starts limit .1
+          (λ q h. misses-fails (verdict-of q) (subst Misses (gives q h) (f q h)))),
     )
 
     ends : (i : ℕ) → searchOf (sheetOf s) limit .kind ≡ kind.Full i → i ≡ searchOf (sheetOf s) limit .length
@@ -247,7 +263,8 @@ module _ (s : List ℕ) (x : Statement) (says : Says s x) (limit : ℕ) (le : li
         first : FirstPlan verdict-of moves limit q reached
         first = record {
           plan = h;
-          gives = verdict-is (x .problem) hπ t starts q (h .0) (unfull q h f) reached (λ k e. let z : _≡_ {A = ℕ} 0 1 = cc in omega arith) .1 g;
+          gives = verdict-is (x .problem) hπ t starts q (h .0) (unfull q h f) reached
+              (λ k e. let z : _≡_ {A = ℕ} 0 1 = cc in omega arith) .1 g;
           earlier = λ r i l. searches.world-fails (x .problem) hπ t starts r (i .0) (unfull r i (k r i l .0)) (k r i l .1);
         }
 
@@ -257,7 +274,8 @@ module _ (s : List ℕ) (x : Statement) (says : Says s x) (limit : ℕ) (le : li
     nothing-by = (
       λ e q h. (
         searches.nothing-worlds (x .problem) hπ t starts limit .0 (its-nothing .0 e) q h .0,
-        ap fullVerdict (gives q h) ∙ misses-unfull (verdict-of q) (searches.search-nothing (x .problem) hπ t starts limit .0 (its-nothing .0 e) q h),
+        ap fullVerdict (gives q h) ∙ misses-unfull (verdict-of q)
+            (searches.search-nothing (x .problem) hπ t starts limit .0 (its-nothing .0 e) q h),
       ),
       λ f. its-nothing .1 (searches.nothing-worlds (x .problem) hπ t starts limit .1 (λ q h. (f q h .0, unfull q h (f q h .1)))),
     )
@@ -266,30 +284,37 @@ module _ (s : List ℕ) (x : Statement) (says : Says s x) (limit : ℕ) (le : li
   empty : PlanOf moves limit []
   empty = (tt, omega arith)
 
-  pub search-reached : (q : List ℕ) → ((searchOf (sheetOf s) limit .kind ≡ kind.Reached) × (planFound (searchOf (sheetOf s) limit) ≡ q)) ↔ FirstRun (x .problem) limit q ran.Reached
+  pub search-reached : (q : List ℕ) → ((searchOf (sheetOf s) limit .kind ≡ kind.Reached) × (planFound (searchOf (sheetOf s) limit) ≡ q))
+      ↔ FirstRun (x .problem) limit q ran.Reached
   search-reached q = go (outcomes (x .problem))
     where
-      go : Outcomes (x .problem) → ((searchOf (sheetOf s) limit .kind ≡ kind.Reached) × (planFound (searchOf (sheetOf s) limit) ≡ q)) ↔ FirstRun (x .problem) limit q ran.Reached
+      go : Outcomes (x .problem) → ((searchOf (sheetOf s) limit .kind ≡ kind.Reached) × (planFound (searchOf (sheetOf s) limit) ≡ q))
+          ↔ FirstRun (x .problem) limit q ran.Reached
       go (inl r) = (
         λ h. absurd (let z : _≡_ {A = ℕ} 0 1 = cc (call-refused (r .0) (r .1), h .0) in omega arith),
         λ f. absurd (let z : _≡_ {A = ℕ} 0 1 = cc (run-refused (r .0) (r .1) q (f .plan), f .gives) in omega arith),
       )
       go (inr r) = by-reached (r .0) (r .1) q
 
-  pub search-full : (q : List ℕ) (k : ℕ) → ((searchOf (sheetOf s) limit .kind ≡ kind.Full k) × (planFound (searchOf (sheetOf s) limit) ≡ q)) ↔ FirstRun (x .problem) limit q (ran.Full k)
+  pub search-full : (q : List ℕ) (k : ℕ)
+      → ((searchOf (sheetOf s) limit .kind ≡ kind.Full k) × (planFound (searchOf (sheetOf s) limit) ≡ q))
+      ↔ FirstRun (x .problem) limit q (ran.Full k)
   search-full q k = go (outcomes (x .problem))
     where
-      go : Outcomes (x .problem) → ((searchOf (sheetOf s) limit .kind ≡ kind.Full k) × (planFound (searchOf (sheetOf s) limit) ≡ q)) ↔ FirstRun (x .problem) limit q (ran.Full k)
+      go : Outcomes (x .problem) → ((searchOf (sheetOf s) limit .kind ≡ kind.Full k) × (planFound (searchOf (sheetOf s) limit) ≡ q))
+          ↔ FirstRun (x .problem) limit q (ran.Full k)
       go (inl r) = (
         λ h. absurd (let z : _≡_ {A = ℕ} 0 1 = cc (call-refused (r .0) (r .1), h .0) in omega arith),
         λ f. absurd (let z : _≡_ {A = ℕ} 0 1 = cc (run-refused (r .0) (r .1) q (f .plan), f .gives) in omega arith),
       )
       go (inr r) = by-full (r .0) (r .1) q k
 
-  pub search-none : (searchOf (sheetOf s) limit .kind ≡ kind.Nothing) ↔ ((q : List ℕ) → PlanOf moves limit q → Misses (runWith (x .problem) q .verdict))
+  pub search-none : (searchOf (sheetOf s) limit .kind ≡ kind.Nothing)
+      ↔ ((q : List ℕ) → PlanOf moves limit q → Misses (runWith (x .problem) q .verdict))
   search-none = go (outcomes (x .problem))
     where
-      go : Outcomes (x .problem) → (searchOf (sheetOf s) limit .kind ≡ kind.Nothing) ↔ ((q : List ℕ) → PlanOf moves limit q → Misses (runWith (x .problem) q .verdict))
+      go : Outcomes (x .problem) → (searchOf (sheetOf s) limit .kind ≡ kind.Nothing)
+          ↔ ((q : List ℕ) → PlanOf moves limit q → Misses (runWith (x .problem) q .verdict))
       go (inl r) = (
         λ h. absurd (let z : _≡_ {A = ℕ} 0 1 = cc (call-refused (r .0) (r .1), h) in omega arith),
         λ f. absurd (subst Misses (run-refused (r .0) (r .1) [] empty) (f [] empty)),
@@ -313,7 +338,8 @@ module _ (s : List ℕ) (x : Statement) (says : Says s x) (limit : ℕ) (le : li
       go (inl r) = absurd (let z : _≡_ {A = ℕ} 0 1 = cc (call-refused (r .0) (r .1), e) in omega arith)
       go (inr r) = found-by (r .0) (r .1) e
 
-  worlds-found : (w : ℕ) → Starts (x .problem) w → (q : List ℕ) → PlanOf moves limit q → runFull (runWith (x .problem) q) ≡ false → Solves (x .problem) q
+  worlds-found : (w : ℕ) → Starts (x .problem) w → (q : List ℕ) → PlanOf moves limit q → runFull (runWith (x .problem) q) ≡ false
+      → Solves (x .problem) q
       → ((r : List ℕ) → PlanOf moves limit r → Earlier r q → (runFull (runWith (x .problem) r) ≡ false) × Spoiled (x .problem) r)
       → (searchOf (sheetOf s) limit .kind ≡ kind.Reached) × (planFound (searchOf (sheetOf s) limit) ≡ q)
   worlds-found w st q h f g k = go (start-else s x says w st)
@@ -321,7 +347,8 @@ module _ (s : List ℕ) (x : Statement) (says : Says s x) (limit : ℕ) (le : li
       full-by : startTable 128 (x .problem) ≡ Outcome.refused 21 → runFull (runWith (x .problem) q) ≡ true
       full-by i = unfold runFull fullVerdict in ap fullVerdict (run-refused 21 i q h)
 
-      go : (startOf (sheetOf s) .answer ≡ Accepted) ⊎ (startOf (sheetOf s) .answer ≡ Refused 21 0) → (searchOf (sheetOf s) limit .kind ≡ kind.Reached) × (planFound (searchOf (sheetOf s) limit) ≡ q)
+      go : (startOf (sheetOf s) .answer ≡ Accepted) ⊎ (startOf (sheetOf s) .answer ≡ Refused 21 0)
+          → (searchOf (sheetOf s) limit .kind ≡ kind.Reached) × (planFound (searchOf (sheetOf s) limit) ≡ q)
       go (inl e) = let t = tables.start-accepted s x says .0 e in found-of (t .0) (t .1) q h f g k
       go (inr e) = absurd (true≢false (sym (full-by (tables.start-number s x says 21 0 .0 e .1)) ∙ f))
 
@@ -336,9 +363,11 @@ module _ (s : List ℕ) (x : Statement) (says : Says s x) (limit : ℕ) (le : li
         λ f. absurd (let v = f [] empty in true≢false (sym (let u = start-else s x says (v .0 .0) (v .0 .1, v .0 .2) in full-by u) ∙ v .1)),
       )
         where
-          full-by : (startOf (sheetOf s) .answer ≡ Accepted) ⊎ (startOf (sheetOf s) .answer ≡ Refused 21 0) → runFull (runWith (x .problem) []) ≡ true
+          full-by : (startOf (sheetOf s) .answer ≡ Accepted) ⊎ (startOf (sheetOf s) .answer ≡ Refused 21 0)
+              → runFull (runWith (x .problem) []) ≡ true
           full-by (inl e) = absurd (let t = tables.start-accepted s x says .0 e in let z : _≡_ {A = ℕ} 0 1 = cc (t .1, r .1) in omega arith)
-          full-by (inr e) = unfold runFull fullVerdict in ap fullVerdict (run-refused 21 (tables.start-number s x says 21 0 .0 e .1) [] empty)
+          full-by (inr e) = unfold runFull fullVerdict in ap fullVerdict
+              (run-refused 21 (tables.start-number s x says 21 0 .0 e .1) [] empty)
       go (inr r) = nothing-by (r .0) (r .1)
 
   -- by worlds, both ways
@@ -377,7 +406,8 @@ padded-refused : (k q : ℕ) → Padded (refusedSearch k q)
 unfolding refusedSearch pad
 padded-refused k q = (omega arith, refl)
 
-padded-answer : (a : Answer) → ((q : List ℕ) → a ≡ found q → length q ≤ 8) → ((q : List ℕ) (k : ℕ) → a ≡ fullAt q k → length q ≤ 8) → Padded (answered a)
+padded-answer : (a : Answer) → ((q : List ℕ) → a ≡ found q → length q ≤ 8) → ((q : List ℕ) (k : ℕ) → a ≡ fullAt q k → length q ≤ 8)
+    → Padded (answered a)
 padded-answer (found q) f g = unfold answered in (f q refl, ap (pad 8 0) (sym (take-pad 8 0 q (f q refl))))
 padded-answer (fullAt q k) f g = unfold answered in (g q k refl, ap (pad 8 0) (sym (take-pad 8 0 q (g q k refl))))
 padded-answer nothing f g = unfold answered pad in (omega arith, refl)
@@ -386,13 +416,15 @@ padded-answer nothing f g = unfold answered pad in (omega arith, refl)
 abbrev Short : Answer → Type 0
 Short a = ((q : List ℕ) → a ≡ found q → length q ≤ 8) × ((q : List ℕ) (k : ℕ) → a ≡ fullAt q k → length q ≤ 8)
 
-module _ (P : SearchAnswer → Type 0) (none-found : (k q : ℕ) → P (refusedSearch k q)) (any-answer : (a : Answer) → Short a → P (answered a)) (s : List ℕ) (limit : ℕ) where
+module _ (P : SearchAnswer → Type 0) (none-found : (k q : ℕ) → P (refusedSearch k q))
+    (any-answer : (a : Answer) → Short a → P (answered a)) (s : List ℕ) (limit : ℕ) where
   module _ (x : Statement) (e : sheetOf s ≡ accepted x) where
     by-start : (N : ℕ) → limit ≤ 8 → startTable 128 (x .problem) ≡ Outcome.refused N → searchOf (sheetOf s) limit ≡ refusedSearch N 0
     unfolding searched
     by-start N h i = search-within s x e limit h ∙ ap (searched (x .problem) limit) i
 
-    by-table : (t : List Literals) → limit ≤ 8 → startTable 128 (x .problem) ≡ Outcome.table t → searchOf (sheetOf s) limit ≡ answered (searchedFrom (x .problem) limit t)
+    by-table : (t : List Literals) → limit ≤ 8 → startTable 128 (x .problem) ≡ Outcome.table t
+        → searchOf (sheetOf s) limit ≡ answered (searchedFrom (x .problem) limit t)
     unfolding searched
     by-table t h i = search-within s x e limit h ∙ ap (searched (x .problem) limit) i
 
@@ -402,7 +434,12 @@ module _ (P : SearchAnswer → Type 0) (none-found : (k q : ℕ) → P (refusedS
         subst P (sym (by-table (i .0) h (i .1)))
         (any-answer (searchedFrom (x .problem) limit (i .0)) (
           λ q f. omega (arith, h, searches.search-found (x .problem) (statement-proper s x e .problem) (i .0) (i .1) limit q .0 f .plan .1),
-          λ q k f. omega (arith, h, searches.search-full (x .problem) (statement-proper s x e .problem) (i .0) (i .1) limit q k .0 f .plan .1),
+          λ q k f. omega (
+            arith,
+            h,
+            searches.search-full (x .problem) (statement-proper s x e .problem) (i .0) (i .1) limit q k .0
+                f .plan .1,
+          ),
         ))
 
     most : (b : Bool) → ltb 8 limit ≡ b → P (searchOf (sheetOf s) limit)
@@ -442,7 +479,8 @@ searched-by : (s : List ℕ) (x : Statement) → Says s x → (limit : ℕ)
 unfolding searchOf
 searched-by s x says limit = rw says
 
-pub plan-ignored : (s r : List ℕ) (x y : Statement) → SamePlanSheet s r x y → (limit : ℕ) → searchOf (sheetOf r) limit ≡ searchOf (sheetOf s) limit
+pub plan-ignored : (s r : List ℕ) (x y : Statement) → SamePlanSheet s r x y → (limit : ℕ)
+    → searchOf (sheetOf r) limit ≡ searchOf (sheetOf s) limit
 plan-ignored s r x y same limit =
     searched-by r y (same .second) limit
     ∙ ap (λ (p : Problem). cond (ltb 8 limit) (refusedSearch 8 0) (searched p limit (startTable 128 p))) (sym (same .alike))

@@ -58,10 +58,17 @@ module _ {packed : List ℕ} {k : ℕ} {n : ℕ} {ts fs : List ℕ} (h : Searcha
     long = h .long;
     move-most = omega (arith, lt, h .most);
     effects-few = h .effects-most m lt;
-    fits = record { n = h .n; n-most = h .n-most; entries-most = h .entries-most; action = h .actions m lt; proper = h .ready .described .proper };
+    fits = record {
+      n = h .n;
+      n-most = h .n-most;
+      entries-most = h .entries-most;
+      action = h .actions m lt;
+      proper = h .ready .described .proper;
+    };
   }
 
-  module _ (r : Stepped) (us gs : List ℕ) (told : stepAnswer t r us gs ≡ orGiven t (stepTable 128 (actionOf (movesIn packed) m) (entriesOf n ts fs))) where
+  module _ (r : Stepped) (us gs : List ℕ)
+      (told : stepAnswer t r us gs ≡ orGiven t (stepTable 128 (actionOf (movesIn packed) m) (entriesOf n ts fs))) where
     abbrev outcome : Outcome
     outcome = stepTable 128 (actionOf (movesIn packed) m) (entries t)
 
@@ -78,7 +85,8 @@ module _ {packed : List ℕ} {k : ℕ} {n : ℕ} {ts fs : List ℕ} (h : Searcha
       s = stepped t outcome (stepAnswer t (moved.To j) us gs) (step-is (moved.To j) e) refl
 
       d : Described 128 (h .n) (s .0)
-      d = step-table (h .n) (h .n-most) (actionOf (movesIn packed) m) (h .actions m lt) (entries t) (h .ready .described) 128 (s .0) (s .1) .0
+      d = step-table (h .n) (h .n-most) (actionOf (movesIn packed) m) (h .actions m lt) (entries t) (h .ready .described) 128 (s .0)
+          (s .1) .0
 
       pub came : outcome ≡ table (entries u)
       came = s .1 ∙ ap table (sym (ap entries (s .2) ∙ entries-table (s .0) (d .most)))
@@ -102,9 +110,12 @@ module _ {packed : List ℕ} {k : ℕ} {n : ℕ} {ts fs : List ℕ} (h : Searcha
           pub quiet-next : NoShorterFrom packed k (at + 1) (entries u) left
           quiet-next = quiet-after (setsIn (goalIn packed)) (actionOf (movesIn packed)) k at (entries t) m left (entries u) came q lt
 
-          pub begun-same : entriesOf j us gs ≡ entriesOf n ts fs → {a : SearchAnswer} → a ≡ answered nothing → a ≡ moveTried packed k t at left m
+          pub begun-same : entriesOf j us gs ≡ entriesOf n ts fs → {a : SearchAnswer} → a ≡ answered nothing
+              → a ≡ moveTried packed k t at left m
           unfolding answeredAt entries
-          begun-same z {a} w = w ∙ sym (ap (answeredAt at) (unchanged (setsIn (goalIn packed)) (actionOf (movesIn packed)) k at (entries t) m left (entries u) came q z))
+          begun-same z {a} w = w ∙ sym
+              (ap (answeredAt at) (unchanged (setsIn (goalIn packed)) (actionOf (movesIn packed)) k at (entries t) m left (entries u) came
+              q z))
 
         module _ {a : SearchAnswer} (w : a ≡ plansTried packed k u (at + 1) left) where
           pub begun-ended : isEnd (a .kind) ≡ true → written a at m ≡ moveTried packed k t at left m
@@ -116,10 +127,13 @@ module _ {packed : List ℕ} {k : ℕ} {n : ℕ} {ts fs : List ℕ} (h : Searcha
     -- ---- the step was refused
     module _ {code position : ℕ} (e : r ≡ moved.Refused code position) (at left : ℕ) where
       pub refused-by : outcome ≡ refused code
-      refused-by = stopped t outcome (stepAnswer t (moved.Refused code position) us gs) code position (step-is (moved.Refused code position) e) refl
+      refused-by = stopped t outcome (stepAnswer t (moved.Refused code position) us gs) code position
+          (step-is (moved.Refused code position) e) refl
 
-      pub begun-full : code ≡ 21 → {a : SearchAnswer} → a ≡ answeredAt at (fullAt (m ∷ replicate left 0) (at + 1)) → a ≡ moveTried packed k t at left m
-      begun-full z {a} w = at-full (setsIn (goalIn packed)) (actionOf (movesIn packed)) k at (entries t) left m a (h .least) (refused-by ∙ ap refused z) w
+      pub begun-full : code ≡ 21 → {a : SearchAnswer} → a ≡ answeredAt at (fullAt (m ∷ replicate left 0) (at + 1))
+          → a ≡ moveTried packed k t at left m
+      begun-full z {a} w = at-full (setsIn (goalIn packed)) (actionOf (movesIn packed)) k at (entries t) left m a (h .least)
+          (refused-by ∙ ap refused z) w
 
       pub begun-stopped : (code ≡ 21 → ⊥) → {a : SearchAnswer} → a ≡ answered nothing → a ≡ moveTried packed k t at left m
       begun-stopped z {a} w = at-stop (setsIn (goalIn packed)) (actionOf (movesIn packed)) k at (entries t) left m code a refused-by z w

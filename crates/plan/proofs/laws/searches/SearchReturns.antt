@@ -51,7 +51,8 @@ written-consed at m (fullAt p k) e =
 written-consed at m nothing e = absurd (true≢false (sym e))
 
 -- a full step: the rest of the plan is move 0, whose bytes are zero already
-pub full-here : (at left m k : ℕ) → answeredAt at (fullAt (m ∷ replicate left 0) k) ≡ record { kind = kind.Full k; plan = set (replicate 8 0) at m; length = at + 1 + left }
+pub full-here : (at left m k : ℕ) → answeredAt at (fullAt (m ∷ replicate left 0) k) ≡ record
+    { kind = kind.Full k; plan = set (replicate 8 0) at m; length = at + 1 + left }
 unfolding answeredAt
 full-here at left m k =
     let q : at + suc (length {A = ℕ} (replicate left 0)) ≡ at + 1 + left = omega (arith, length-replicate {A = ℕ} left 0) in
@@ -61,8 +62,10 @@ full-here at left m k =
 -- from the first byte on, it is the answer of the call
 from-start : (f : Answer) → answeredAt 0 f ≡ answered f
 unfolding answeredAt answered
-from-start (found p) = let q : 0 + length p ≡ length p = omega arith in ap (λ (n : ℕ). record { kind = kind.Reached; plan = pad 8 0 p; length = n }) q
-from-start (fullAt p k) = let q : 0 + length p ≡ length p = omega arith in ap (λ (n : ℕ). record { kind = kind.Full k; plan = pad 8 0 p; length = n }) q
+from-start (found p) = let q : 0 + length p ≡ length p = omega arith in ap
+    (λ (n : ℕ). record { kind = kind.Reached; plan = pad 8 0 p; length = n }) q
+from-start (fullAt p k) = let q : 0 + length p ≡ length p = omega arith in ap
+    (λ (n : ℕ). record { kind = kind.Full k; plan = pad 8 0 p; length = n }) q
 from-start nothing = refl
 
 -- ---- what the code tells of an answer tells of what it stands for
@@ -82,27 +85,33 @@ nothing-at at = refl
 module _ (goal : List Literals) (f : ℕ → Action) (k at : ℕ) (t : List Literals) where
   -- ---- the plans that begin with move m
   module _ (left m : ℕ) where
-    module _ (u : List Literals) (r : SearchAnswer) (e : stepTable 128 (f m) t ≡ table u) (q : r ≡ answeredAt (at + 1) (firstFrom goal f k (at + 1) u left)) where
+    module _ (u : List Literals) (r : SearchAnswer) (e : stepTable 128 (f m) t ≡ table u)
+        (q : r ≡ answeredAt (at + 1) (firstFrom goal f k (at + 1) u left)) where
       pub onward-ended : isEnd (r .kind) ≡ true → written r at m ≡ answeredAt at (firstBy goal f k at t left m)
       onward-ended b =
           let g = firstFrom goal f k (at + 1) u left in
-          ap (λ (x : SearchAnswer). written x at m) q ∙ written-consed at m g (told (at + 1) g r true q b) ∙ ap (answeredAt at) (sym (by-table goal f k at t m left u e))
+          ap (λ (x : SearchAnswer). written x at m) q ∙ written-consed at m g (told (at + 1) g r true q b)
+          ∙ ap (answeredAt at) (sym (by-table goal f k at t m left u e))
 
       pub onward-not : isEnd (r .kind) ≡ false → r ≡ answeredAt at (firstBy goal f k at t left m)
       onward-not b =
           let g = firstFrom goal f k (at + 1) u left in
           let n : g ≡ nothing = is-nothing g (told (at + 1) g r false q b) in
-          q ∙ ap (answeredAt (at + 1)) n ∙ sym (nothing-at (at + 1)) ∙ nothing-at at ∙ ap (answeredAt at) (sym (by-table goal f k at t m left u e ∙ ap (consed m) n))
+          q ∙ ap (answeredAt (at + 1)) n ∙ sym (nothing-at (at + 1)) ∙ nothing-at at
+          ∙ ap (answeredAt at) (sym (by-table goal f k at t m left u e ∙ ap (consed m) n))
 
-    pub at-stop : (code : ℕ) (r : SearchAnswer) → stepTable 128 (f m) t ≡ refused code → (code ≡ 21 → ⊥) → r ≡ answered nothing → r ≡ answeredAt at (firstBy goal f k at t left m)
+    pub at-stop : (code : ℕ) (r : SearchAnswer) → stepTable 128 (f m) t ≡ refused code → (code ≡ 21 → ⊥) → r ≡ answered nothing
+        → r ≡ answeredAt at (firstBy goal f k at t left m)
     at-stop code r e n q = q ∙ nothing-at at ∙ ap (answeredAt at) (sym (by-stop goal f k at t m left code e n))
 
-    pub at-full : (r : SearchAnswer) → 0 < k → stepTable 128 (f m) t ≡ refused 21 → r ≡ answeredAt at (fullAt (m ∷ replicate left 0) (at + 1))
+    pub at-full : (r : SearchAnswer) → 0 < k → stepTable 128 (f m) t ≡ refused 21
+        → r ≡ answeredAt at (fullAt (m ∷ replicate left 0) (at + 1))
         → r ≡ answeredAt at (firstBy goal f k at t left m)
     at-full r h e q = q ∙ ap (answeredAt at) (sym (by-full goal f k at t m left h e))
 
   -- no plan with so many moves more has an answer
-  pub no-answer : (left : ℕ) {r : SearchAnswer} → firstFrom goal f k at t left ≡ nothing → r ≡ answered nothing → r ≡ answeredAt at (firstFrom goal f k at t left)
+  pub no-answer : (left : ℕ) {r : SearchAnswer} → firstFrom goal f k at t left ≡ nothing → r ≡ answered nothing
+      → r ≡ answeredAt at (firstFrom goal f k at t left)
   no-answer left e q = q ∙ nothing-at at ∙ sym (ap (answeredAt at) e)
 
   -- ---- no move left
@@ -110,25 +119,30 @@ module _ (goal : List Literals) (f : ℕ → Action) (k at : ℕ) (t : List Lite
     last-is : (x : Bool) → allOf (inGoal goal) t ≡ x → firstFrom goal f k at t left ≡ orNext (endedIn x) [] nothing
     last-is x e = ap (firstFrom goal f k at t) z ∙ ap (λ (y : Bool). orNext (endedIn y) [] nothing) e
 
-    pub at-goal : allOf (inGoal goal) t ≡ true → record { kind = kind.Reached; plan = replicate 8 0; length = at } ≡ answeredAt at (firstFrom goal f k at t left)
+    pub at-goal : allOf (inGoal goal) t ≡ true → record { kind = kind.Reached; plan = replicate 8 0; length = at } ≡ answeredAt at
+        (firstFrom goal f k at t left)
     unfolding answeredAt
     at-goal e =
         let n : at ≡ at + 0 = omega arith in
-        ap₂ {C = SearchAnswer} (λ (l : List ℕ) (i : ℕ). record { kind = kind.Reached; plan = l; length = i }) (sym (pad-zeros 8 at 0)) n ∙ sym (ap (answeredAt at) (last-is true e))
+        ap₂ {C = SearchAnswer} (λ (l : List ℕ) (i : ℕ). record { kind = kind.Reached; plan = l; length = i }) (sym (pad-zeros 8 at 0)) n
+        ∙ sym (ap (answeredAt at) (last-is true e))
 
-    pub at-short : (r : SearchAnswer) → allOf (inGoal goal) t ≡ false → r ≡ answered nothing → r ≡ answeredAt at (firstFrom goal f k at t left)
+    pub at-short : (r : SearchAnswer) → allOf (inGoal goal) t ≡ false → r ≡ answered nothing
+        → r ≡ answeredAt at (firstFrom goal f k at t left)
     at-short r e q = no-answer left (last-is false e) q
 
   -- ---- the loop over the moves: a turn without an answer, a turn with one, and the end
   module _ (fewer m : ℕ) (r : SearchAnswer) (h : firstBelow (firstBy goal f k at t fewer) m ≡ nothing) where
-    pub not-yet : r ≡ answeredAt at (firstBy goal f k at t fewer m) → isEnd (r .kind) ≡ false → firstBelow (firstBy goal f k at t fewer) (m + 1) ≡ nothing
+    pub not-yet : r ≡ answeredAt at (firstBy goal f k at t fewer m) → isEnd (r .kind) ≡ false
+        → firstBelow (firstBy goal f k at t fewer) (m + 1) ≡ nothing
     not-yet q b = none-next (firstBy goal f k at t fewer) m h (told at _ r false q b)
 
     module _ (left : ℕ) (z : left ≡ suc fewer) where
       whole : firstFrom goal f k at t left ≡ firstBelow (firstBy goal f k at t fewer) k
       whole = ap (firstFrom goal f k at t) z ∙ first-by-moves goal f k at t fewer
 
-      pub found-now : m < k → r ≡ answeredAt at (firstBy goal f k at t fewer m) → isEnd (r .kind) ≡ true → r ≡ answeredAt at (firstFrom goal f k at t left)
+      pub found-now : m < k → r ≡ answeredAt at (firstBy goal f k at t fewer m) → isEnd (r .kind) ≡ true
+          → r ≡ answeredAt at (firstFrom goal f k at t left)
       found-now l q b =
           let g = firstBy goal f k at t fewer in
           q ∙ ap (answeredAt at) (sym (whole ∙ found-here g m k h l (told at (g m) r true q b)))
@@ -137,7 +151,8 @@ module _ (goal : List Literals) (f : ℕ → Action) (k at : ℕ) (t : List Lite
       none-at-all e = whole ∙ ap (firstBelow (firstBy goal f k at t fewer)) (sym e) ∙ h
 
 -- ---- the loop over the lengths
-module _ (goal : List Literals) (f : ℕ → Action) (k : ℕ) (t : List Literals) (limit n : ℕ) (r : SearchAnswer) (h : firstBelow (firstFrom goal f k 0 t) n ≡ nothing) where
+module _ (goal : List Literals) (f : ℕ → Action) (k : ℕ) (t : List Literals) (limit n : ℕ) (r : SearchAnswer)
+    (h : firstBelow (firstFrom goal f k 0 t) n ≡ nothing) where
   all-lengths : firstOf (ranFrom goal f 0 t) (plansUpTo k limit) ≡ firstBelow (firstFrom goal f k 0 t) (suc limit)
   all-lengths = first-below (ranFrom goal f 0 t) (plansOf k) (suc limit)
 
@@ -147,7 +162,8 @@ module _ (goal : List Literals) (f : ℕ → Action) (k : ℕ) (t : List Literal
       let g = firstFrom goal f k 0 t in
       q ∙ from-start (g n) ∙ ap answered (sym (all-lengths ∙ found-here g n (suc limit) h (omega arith) (told 0 (g n) r true q b)))
 
-  pub length-next : r ≡ answeredAt 0 (firstFrom goal f k 0 t n) → isEnd (r .kind) ≡ false → firstBelow (firstFrom goal f k 0 t) (n + 1) ≡ nothing
+  pub length-next : r ≡ answeredAt 0 (firstFrom goal f k 0 t n) → isEnd (r .kind) ≡ false
+      → firstBelow (firstFrom goal f k 0 t) (n + 1) ≡ nothing
   length-next q b = none-next (firstFrom goal f k 0 t) n h (told 0 _ r false q b)
 
   pub length-none : n ≡ suc limit → r ≡ answered nothing → r ≡ answered (firstOf (ranFrom goal f 0 t) (plansUpTo k limit))

@@ -40,11 +40,13 @@ module _ (p : Problem) (hp : ProperProblem p) (t : List Literals) (starts : star
   unfolding searchedFrom
   search-found = searching.search-found run (length (p .actions))
 
-  pub search-full : (limit : ℕ) (q : List ℕ) (k : ℕ) → (searchedFrom p limit t ≡ fullAt q k) ↔ FirstPlan run (length (p .actions)) limit q (full k)
+  pub search-full : (limit : ℕ) (q : List ℕ) (k : ℕ) → (searchedFrom p limit t ≡ fullAt q k)
+      ↔ FirstPlan run (length (p .actions)) limit q (full k)
   unfolding searchedFrom
   search-full = searching.search-full run (length (p .actions))
 
-  pub search-nothing : (limit : ℕ) → (searchedFrom p limit t ≡ nothing) ↔ ((q : List ℕ) → PlanOf (length (p .actions)) limit q → Fails (run q))
+  pub search-nothing : (limit : ℕ) → (searchedFrom p limit t ≡ nothing)
+      ↔ ((q : List ℕ) → PlanOf (length (p .actions)) limit q → Fails (run q))
   unfolding searchedFrom
   search-nothing = searching.search-nothing run (length (p .actions))
 
@@ -68,8 +70,12 @@ module _ (p : Problem) (hp : ProperProblem p) (t : List Literals) (starts : star
       numbers = all-take (λ i. i < length (p .actions)) (suc (x .0)) q (f .plan .0)
 
       shorter : run (take (suc (x .0)) q) ≡ full (suc (x .0))
-      shorter = by-full p hp t starts (take (suc (x .0)) q) numbers (suc (x .0)) .1
-          (x .0, refl, unfold actionsOf in subst (λ (a : List Action). Refuses 128 a t (x .0) 21) (sym (map-take (actionAt p) (suc (x .0)) q)) (refuses-prefix 128 (actionsOf p q) t (x .0) 21 (x .2)))
+      shorter = by-full p hp t starts (take (suc (x .0)) q) numbers (suc (x .0)) .1 (
+        x .0,
+        refl,
+        unfold actionsOf in subst (λ (a : List Action). Refuses 128 a t (x .0) 21)
+            (sym (map-take (actionAt p) (suc (x .0)) q)) (refuses-prefix 128 (actionsOf p q) t (x .0) 21 (x .2)),
+      )
 
       go : Dec (k ≡ length q) → k ≡ length q
       go (yes h) = h
@@ -110,7 +116,8 @@ module _ (p : Problem) (hp : ProperProblem p) (t : List Literals) (starts : star
 
   -- none exactly if every plan within the limit does so and no run is full
   pub nothing-worlds : (limit : ℕ)
-      → (searchedFrom p limit t ≡ nothing) ↔ ((q : List ℕ) → PlanOf (length (p .actions)) limit q → Spoiled p q × ((k : ℕ) → run q ≡ full k → ⊥))
+      → (searchedFrom p limit t ≡ nothing)
+      ↔ ((q : List ℕ) → PlanOf (length (p .actions)) limit q → Spoiled p q × ((k : ℕ) → run q ≡ full k → ⊥))
   nothing-worlds limit = (
     λ e q h. let f = search-nothing limit .0 e q h in (fails-world q (h .0) f, λ k i. subst Fails i f),
     λ f. search-nothing limit .1 (λ q h. world-fails q (h .0) (f q h .1) (f q h .0)),

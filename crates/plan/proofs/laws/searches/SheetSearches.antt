@@ -63,7 +63,8 @@ module _ (x : Sheet) (packed : List ℕ) (h : Filled x packed) where
       ready = start-ready p proper first first-is refl
 
       pub can-search : Searchable packed (x .moves) (lent k ts fs)
-      can-search = subst (λ (n : ℕ). Searchable packed n (lent k ts fs)) count-is (searchable p proper packed (h .long) are goal-is (lent k ts fs) ready)
+      can-search = subst (λ (n : ℕ). Searchable packed n (lent k ts fs)) count-is
+          (searchable p proper packed (h .long) are goal-is (lent k ts fs) ready)
 
       pub search-is : (limit : ℕ) → searchedBy packed (x .moves) (lent k ts fs) limit ≡ searched p limit (startTable 128 p)
       search-is limit =
@@ -74,7 +75,8 @@ module _ (x : Sheet) (packed : List ℕ) (h : Filled x packed) where
       pub can-run : Runnable (x .plan) packed (lent k ts fs)
       can-run = runnable p proper packed (h .long) are goal-is (lent k ts fs) ready (x .plan) (h .plan-most) numbers
 
-      pub run-is : courseFrom (setsIn (goalIn packed)) [] 0 (map (actionOf (movesIn packed)) (planIn (x .plan))) (entries (lent k ts fs)) ≡ plannedCourse p (planIn (x .plan)) (startTable 128 p)
+      pub run-is : courseFrom (setsIn (goalIn packed)) [] 0 (map (actionOf (movesIn packed)) (planIn (x .plan))) (entries (lent k ts fs))
+          ≡ plannedCourse p (planIn (x .plan)) (startTable 128 p)
       run-is =
           coursed p proper packed (h .long) are goal-is (lent k ts fs) (planIn (x .plan)) numbers
           ∙ start-run p proper first first-is refl (planIn (x .plan))

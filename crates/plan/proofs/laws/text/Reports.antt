@@ -22,19 +22,25 @@ unfolding courseOf countsOf
 few-rows s k e = rw e (rows-placed s 65 .most)
 
 -- the text of the run is the output for the sheet
-text-output : (s : List ℕ) → textOf (courseOf (sheetOf s) 65 .ran .verdict) (rowsIn (courseOf (sheetOf s) 65 .counts)) ≡ outputOf (sheetOf s)
+text-output : (s : List ℕ) → textOf (courseOf (sheetOf s) 65 .ran .verdict) (rowsIn (courseOf (sheetOf s) 65 .counts)) ≡ outputOf
+    (sheetOf s)
 unfolding courseOf outputOf
-text-output s = let p = rows-placed s 65 in ap (textOf (runOf (sheetOf s) 65 .verdict)) (counts-back (rowsOf (sheetOf s) 65) (p .most) (p .places))
+text-output s = let p = rows-placed s 65 in ap (textOf (runOf (sheetOf s) 65 .verdict))
+    (counts-back (rowsOf (sheetOf s) 65) (p .most) (p .places))
 
 -- what the call gives and writes
 pub reports : (s : List ℕ) (k : Course) → k ≡ courseOf (sheetOf s) 65 → (b : List ℕ) (r : ℕ) (e : List ℕ) → 8192 ≤ length b
     → Wrote b 0 (textOf (k .ran .verdict) (rowsIn (k .counts))) r e → (r ≡ reportOf (sheetOf s) (length b)) × (e ≡ reportIn (sheetOf s) b)
 unfolding reportOf reportIn
 reports s k q b r e h f =
-    let t : textOf (k .ran .verdict) (rowsIn (k .counts)) ≡ outputOf (sheetOf s) = ap (λ (x : Course). textOf (x .ran .verdict) (rowsIn (x .counts))) q ∙ text-output s in
+    let t : textOf (k .ran .verdict) (rowsIn (k .counts)) ≡ outputOf (sheetOf s) = ap
+    (λ (x : Course). textOf (x .ran .verdict) (rowsIn (x .counts))) q ∙ text-output s in
     let w : Wrote b 0 (outputOf (sheetOf s)) r e = rw t at f in
-    let n : 0 + length (outputOf (sheetOf s)) ≡ length (outputOf (sheetOf s)) = omega arith in
-    (rw (le-ltb (length b) 8192 h) (w .place ∙ n), rw (le-ltb (length b) 8192 h) (w .bytes ∙ ap (λ (m : ℕ). outputOf (sheetOf s) ++ drop m b) n))
+    let n : 0 + length (outputOf (sheetOf s)) ≡ length (outputOf (sheetOf s)) = omega arith in (
+      rw (le-ltb (length b) 8192 h) (w .place ∙ n),
+      rw (le-ltb (length b) 8192 h)
+          (w .bytes ∙ ap (λ (m : ℕ). outputOf (sheetOf s) ++ drop m b) n),
+    )
 
 -- a buffer that is too short
 pub no-report : (s b : List ℕ) → length b < 8192 → (0 ≡ reportOf (sheetOf s) (length b)) × (b ≡ reportIn (sheetOf s) b)

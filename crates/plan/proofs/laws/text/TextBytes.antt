@@ -32,7 +32,8 @@ wrote-byte b at x h =
     record { place = omega arith; bytes = set-split b at x h ∙ ap (λ (k : ℕ). take at b ++ (x ∷ drop k b)) e }
 
 -- s, then t
-pub wrote-then : {b : List ℕ} {at : ℕ} {s : List ℕ} {q : ℕ} {m t : List ℕ} {r : ℕ} {e : List ℕ} → Wrote b at s q m → q ≤ length b → Wrote m q t r e
+pub wrote-then : {b : List ℕ} {at : ℕ} {s : List ℕ} {q : ℕ} {m t : List ℕ} {r : ℕ} {e : List ℕ} → Wrote b at s q m → q ≤ length b
+    → Wrote m q t r e
     → Wrote b at (s ++ t) r e
 wrote-then {b} {at} {s} {q} {m} {t} {r} {e} f h g =
     let p = take at b ++ s in
@@ -56,7 +57,8 @@ wrote-then {b} {at} {s} {q} {m} {t} {r} {e} f h g =
     }
 
 -- the whole of a copy
-pub wrote-copy : (b : List ℕ) (at : ℕ) (s : List ℕ) (i : ℕ) (e : List ℕ) → i ≤ length s → length s ≤ i → e ≡ paste b at s i → Wrote b at s (at + i) e
+pub wrote-copy : (b : List ℕ) (at : ℕ) (s : List ℕ) (i : ℕ) (e : List ℕ) → i ≤ length s → length s ≤ i → e ≡ paste b at s i
+    → Wrote b at s (at + i) e
 wrote-copy b at s i e g h is =
     let same : i ≡ length s = omega arith in
     record {
@@ -89,7 +91,8 @@ decimal-low n h = rw (lt-ltb n 10 h, mod-eq-of-lt h)
 -- the digits of any other number
 pub decimal-high : (n : ℕ) → 10 ≤ n → decimal n ≡ decimal (n / 10) ++ ((48 + n % 10) ∷ [])
 unfolding decimal
-decimal-high n h = rw (le-ltb n 10 h) (ap (λ (x : List ℕ). x ++ ((48 + n % 10) ∷ [])) (enough n (suc (n / 10)) (n / 10) (omega arith) (omega arith)))
+decimal-high n h = rw (le-ltb n 10 h)
+    (ap (λ (x : List ℕ). x ++ ((48 + n % 10) ∷ [])) (enough n (suc (n / 10)) (n / 10) (omega arith) (omega arith)))
 
 -- one digit more
 longer : (k n : ℕ) (b : Bool) → ltb n 10 ≡ b → (10 ≤ n → length (decimal (n / 10)) ≤ k) → length (decimal n) ≤ suc k
@@ -133,18 +136,22 @@ wrote-no-rows c b at = wrote-none b at
 
 -- the row of the next place
 pub wrote-row : (c : Counts) (i : ℕ) {row : Row} → row ≡ rowAt c i → {b : List ℕ} {at q : ℕ} {m : List ℕ} {r : ℕ} {e : List ℕ}
-    → Wrote b at (rowsText (rowsBelow c i)) q m → q ≤ length b → Wrote m q (rowText row) r e → Wrote b at (rowsText (rowsBelow c (i + 1))) r e
+    → Wrote b at (rowsText (rowsBelow c i)) q m → q ≤ length b → Wrote m q (rowText row) r e
+    → Wrote b at (rowsText (rowsBelow c (i + 1))) r e
 wrote-row c i is f h g = rw (add-one i, rows-snoc (rowsBelow c i) (rowAt c i)) (wrote-then f h (rw is at g))
 
 -- ---- the whole text
 -- of a refused run
-pub refused-text : (verdict : Verdict) (rows : List Row) {b : List ℕ} {r : ℕ} {e : List ℕ} → refusedVerdict verdict ≡ true → Wrote b 0 (lastLine verdict) r e
+pub refused-text : (verdict : Verdict) (rows : List Row) {b : List ℕ} {r : ℕ} {e : List ℕ} → refusedVerdict verdict ≡ true
+    → Wrote b 0 (lastLine verdict) r e
     → Wrote b 0 (textOf verdict rows) r e
 unfolding textOf
 refused-text verdict rows h f = rw h f
 
 -- of any other run
-pub whole-text : (verdict : Verdict) (rows : List Row) {b : List ℕ} {q : ℕ} {m : List ℕ} {r : ℕ} {e : List ℕ} → refusedVerdict verdict ≡ false
-    → Wrote b 0 (ascii "place entries clauses\n" ++ rowsText rows) q m → q ≤ length b → Wrote m q (lastLine verdict) r e → Wrote b 0 (textOf verdict rows) r e
+pub whole-text : (verdict : Verdict) (rows : List Row) {b : List ℕ} {q : ℕ} {m : List ℕ} {r : ℕ} {e : List ℕ}
+    → refusedVerdict verdict ≡ false
+    → Wrote b 0 (ascii "place entries clauses\n" ++ rowsText rows) q m → q ≤ length b → Wrote m q (lastLine verdict) r e
+    → Wrote b 0 (textOf verdict rows) r e
 unfolding textOf
 whole-text verdict rows h f i g = rw h (wrote-then f i g)

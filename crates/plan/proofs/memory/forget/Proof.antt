@@ -20,19 +20,29 @@ loop-holds : tie.Need-loop-holds Inv-loop μ-loop
 loop-holds c = (omega arith, refl, λ i l. absurd (not-suc-le-zero l))
 
 mul-memory : tie.Need-mul-memory Inv-loop μ-loop
-mul-memory c = omega (arith, slots-room (length (c .before .before .args .memory .now)) (c .before .loop .j) (c .loop-test .taken), c .before .loop .inv .1)
+mul-memory c = omega (
+  arith,
+  slots-room (length (c .before .before .args .memory .now)) (c .before .loop .j) (c .loop-test .taken),
+  c .before .loop .inv .1,
+)
 
 mul-memory-2 : tie.Need-mul-memory-2 Inv-loop μ-loop
-mul-memory-2 c = omega (arith, slots-room (length (c .before .before .args .memory .now)) (c .before .loop .j) (c .loop-test .taken), c .before .loop .inv .1)
+mul-memory-2 c = omega (
+  arith,
+  slots-room (length (c .before .before .args .memory .now)) (c .before .loop .j) (c .loop-test .taken),
+  c .before .loop .inv .1,
+)
 
 slice-write-memory : tie.Need-slice-write-memory Inv-loop μ-loop
-slice-write-memory c = omega (arith, slots-room (length (c .before .before .args .memory .now)) (c .before .loop .j) (c .loop-test .taken), c .before .loop .inv .1)
+slice-write-memory c = omega
+    (arith, slots-room (length (c .before .before .args .memory .now)) (c .before .loop .j) (c .loop-test .taken), c .before .loop .inv .1)
 
 add-j : tie.Need-add-j Inv-loop μ-loop
-add-j c = omega (arith, slots-room (length (c .before .before .args .memory .now)) (c .before .loop .j) (c .loop-test .taken), c .before .loop .inv .1)
-
-loop-less : tie.Need-loop-less Inv-loop μ-loop
-loop-less c = omega arith
+add-j c = omega (
+  arith,
+  slots-room (length (c .before .before .args .memory .now)) (c .before .loop .j) (c .loop-test .taken),
+  c .before .loop .inv .1,
+)
 
 loop-again : tie.Need-loop-again Inv-loop μ-loop
 loop-again c =
@@ -41,7 +51,12 @@ loop-again c =
       length-set (g .memory) (g .j * 258) 0 ∙ g .inv .1,
       below-more (λ i. getD (set (g .memory) (g .j * 258) 0) (i * 258) 0 ≡ 0) (g .j)
           (λ i l. getD-set-other (g .memory) (g .j * 258) (i * 258) 0 0 (λ e. omega (arith, e, l)) ∙ g .inv .2 i l)
-          (getD-set-same (g .memory) (g .j * 258) 0 0 (omega (arith, slots-room (length (c .before .before .args .memory .now)) (c .before .loop .j) (c .loop-test .taken), g .inv .1))),
+          (getD-set-same (g .memory) (g .j * 258) 0 0
+          (omega (
+            arith,
+            slots-room (length (c .before .before .args .memory .now)) (c .before .loop .j) (c .loop-test .taken),
+            g .inv .1,
+          ))),
     )
 
 same-length : tie.Need-same-length Inv-loop μ-loop
@@ -51,7 +66,11 @@ returns : tie.Need-returns Inv-loop μ-loop
 returns c = λ packed count.
     let g = c .before .loop in
     blank packed count (g .memory) (λ j l. mark-head (g .memory) j
-    ∙ g .inv .2 j (omega (arith, slots-all (length (c .before .before .args .memory .now)) j (omega (arith, l, g .inv .1)), c .loop-test .left)))
+    ∙ g .inv .2 j (omega (
+      arith,
+      slots-all (length (c .before .before .args .memory .now)) j (omega (arith, l, g .inv .1)),
+      c .loop-test .left,
+    )))
 
 pub forget-spec : {M : Type 1} → statement M
 forget-spec =
@@ -64,7 +83,7 @@ forget-spec =
     mul-memory-2
     slice-write-memory
     add-j
-    loop-less
+    (λ c. omega arith)
     loop-again
     same-length
     returns)

@@ -10,68 +10,42 @@ use Rattle.plan.specs.inner.Memory.{tableIn}
 use Rattle.plan.proofs.memory.holds.Statement.{statement}
 use Rattle.plan.proofs.memory.holds.Tie as tie
 
-shared-slice-read-wide : tie.Need-shared-slice-read-wide
-shared-slice-read-wide c = search needs
-
-wide-requires : tie.Need-wide-requires
-wide-requires c κs = search needs
-
 returns : tie.Need-returns
 returns c = λ e. absurd (true≢false (sym e))
-
-shared-slice-read-wide-2 : tie.Need-shared-slice-read-wide-2
-shared-slice-read-wide-2 c = search needs
-
-wide-requires-2 : tie.Need-wide-requires-2
-wide-requires-2 c κs = search needs
 
 returns-2 : tie.Need-returns-2
 returns-2 c = λ e. absurd (true≢false (sym e))
 
-sub-stored-trues : tie.Need-sub-stored-trues
-sub-stored-trues c = search needs
-
-part-stored-trues-start : tie.Need-part-stored-trues-start
-part-stored-trues-start c = search needs
-
-part-stored-trues-end : tie.Need-part-stored-trues-end
-part-stored-trues-end c = search needs
-
-sub-stored-falses : tie.Need-sub-stored-falses
-sub-stored-falses c = search needs
-
-part-stored-falses-start : tie.Need-part-stored-falses-start
-part-stored-falses-start c = search needs
-
-part-stored-falses-end : tie.Need-part-stored-falses-end
-part-stored-falses-end c = search needs
-
-same-requires : tie.Need-same-requires
-same-requires c κs = search needs
-
 returns-3 : tie.Need-returns-3
 unfolding tableIn
-returns-3 c = λ e.
-    let s = c .before .before .before .before .before .before .before .before .before .before .before .before .args in (
-      omega (arith, c .before .before .before .before .before .before .if1 .left, c .before .before .before .before .before .before .before .wide .ensures),
-      ap (λ (k : ℕ). entriesOf k (take 128 (drop 2 (s .slot .now))) (take 128 (drop 130 (s .slot .now)))) (sym (c .before .before .before .before .wide2 .ensures) ∙ c .before .before .before .if2 .left) ∙ c .same .ensures e,
+returns-3 c =
+    let after-if2 = c .before .before .before in
+    let after-wide2 = after-if2 .before in
+    let after-if1 = after-wide2 .before .before in
+    let after-wide = after-if1 .before in
+    let start = after-wide .before .before .before .before .before in
+    λ e.
+    let s = start .args in (
+      omega (arith, after-if1 .if1 .left, after-wide .wide .ensures),
+      ap (λ (k : ℕ). entriesOf k (take 128 (drop 2 (s .slot .now))) (take 128 (drop 130 (s .slot .now))))
+          (sym (after-wide2 .wide2 .ensures) ∙ after-if2 .if2 .left) ∙ c .same .ensures e,
     )
 
 pub holds-spec : {M : Type 1} → statement M
 holds-spec =
     tie.close
     (tie.spec
-    shared-slice-read-wide
-    wide-requires
+    (λ c. search needs)
+    (λ c κs. search needs)
     returns
-    shared-slice-read-wide-2
-    wide-requires-2
+    (λ c. search needs)
+    (λ c κs. search needs)
     returns-2
-    sub-stored-trues
-    part-stored-trues-start
-    part-stored-trues-end
-    sub-stored-falses
-    part-stored-falses-start
-    part-stored-falses-end
-    same-requires
+    (λ c. search needs)
+    (λ c. search needs)
+    (λ c. search needs)
+    (λ c. search needs)
+    (λ c. search needs)
+    (λ c. search needs)
+    (λ c κs. search needs)
     returns-3)

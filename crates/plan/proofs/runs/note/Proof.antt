@@ -9,35 +9,25 @@ use borrow.Author.Needs.{needs}
 use Rattle.plan.proofs.runs.note.Statement.{statement}
 use Rattle.plan.proofs.runs.note.Tie as tie
 
-mul-entries : tie.Need-mul-entries
-mul-entries c = search needs
-
-element-write-entries : tie.Need-element-write-entries
-element-write-entries c = search needs
-
-clause-count-requires : tie.Need-clause-count-requires
-clause-count-requires c κs = search needs
-
-mul-clauses : tie.Need-mul-clauses
-mul-clauses c = search needs
-
-element-write-clauses : tie.Need-element-write-clauses
-element-write-clauses c = search needs
-
 returns : tie.Need-returns
 unfolding noted
 returns c =
     let a = c .before .before .before .args in
-    let n : a .count ≡ length (entriesOf (a .count) (a .trues .now) (a .falses .now)) = sym (length-entriesOf (a .count) (a .trues .now) (a .falses .now)) in
-    (λ j. record { count = a .at + 1; entries = set (a .entries .now) (a .at) (n j); clauses = set (a .clauses .now) (a .at) (c .clause-count .ensures j) })
+    let n : a .count ≡ length (entriesOf (a .count) (a .trues .now) (a .falses .now)) = sym
+    (length-entriesOf (a .count) (a .trues .now) (a .falses .now)) in
+    (λ j. record {
+      count = a .at + 1;
+      entries = set (a .entries .now) (a .at) (n j);
+      clauses = set (a .clauses .now) (a .at) (c .clause-count .ensures j);
+    })
 
 pub note-spec : {M : Type 1} → statement M
 note-spec =
     tie.close
     (tie.spec
-    mul-entries
-    element-write-entries
-    clause-count-requires
-    mul-clauses
-    element-write-clauses
+    (λ c. search needs)
+    (λ c. search needs)
+    (λ c κs. search needs)
+    (λ c. search needs)
+    (λ c. search needs)
     returns)

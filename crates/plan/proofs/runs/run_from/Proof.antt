@@ -1,4 +1,5 @@
--- `plan::runs::run_from` meets its contract. The invariant: what is left of the plan, after the rows so far, gives the whole. Assumes nothing.
+-- `plan::runs::run_from` meets its contract. The invariant: what is left of the plan, after the rows so far, gives the whole. Assumes
+-- nothing.
 use mathlib.Core.Path.{_≡_}
 use mathlib.Core.List.{[]}
 use Prim.Native.Nat.{_-_}
@@ -18,7 +19,8 @@ use Rattle.plan.proofs.runs.run_from.Tie as tie
 
 abbrev Inv-loop : tie.InvT-loop
 Inv-loop packed trues₀ falses₀ count entries₀ clauses₀ plan length filled₀ i₀ trues falses entries clauses filled i =
-    Going plan packed (courseFrom (setsIn (goalIn packed)) [] 0 (left plan packed 0) (tableEntries (lent count trues₀ falses₀))) i (lent filled trues falses) (countsIn i entries clauses)
+    Going plan packed (courseFrom (setsIn (goalIn packed)) [] 0 (left plan packed 0) (tableEntries (lent count trues₀ falses₀))) i
+    (lent filled trues falses) (countsIn i entries clauses)
 
 abbrev μ-loop : tie.MeasureT-loop
 μ-loop packed trues₀ falses₀ count entries₀ clauses₀ plan length filled₀ i₀ trues falses entries clauses filled i = length - i
@@ -30,73 +32,91 @@ loop-holds c =
 
 note-requires : tie.Need-note-requires Inv-loop μ-loop
 note-requires c κs =
-    let v = c .before .before .before .before .before .before .before .loop .inv in
+    let at-loop = c .before .before .before .before .before .before .before in
+    let v = at-loop .loop .inv in
     ((going-room v, ready-count (v .can .fits .n) _ (v .can .fits .ready) .0), slots-room (v .can .fits))
 
 add-place : tie.Need-add-place Inv-loop μ-loop
-add-place c = omega (arith, going-room (c .before .before .before .before .before .before .before .before .loop .inv))
+add-place c =
+    let at-loop = c .before .before .before .before .before .before .before .before in
+    omega (arith, going-room (at-loop .loop .inv))
 
 element-copy-out-index : tie.Need-element-copy-out-index Inv-loop μ-loop
-element-copy-out-index c = omega (arith, c .before .before .before .before .before .before .before .before .loop .inv .can .most, c .before .before .before .before .before .before .before .loop-test .taken)
+element-copy-out-index c =
+    let after-loop-test = c .before .before .before .before .before .before .before in
+    let at-loop = after-loop-test .before in
+    omega (arith, at-loop .loop .inv .can .most, after-loop-test .loop-test .taken)
 
 cast-index : tie.Need-cast-index Inv-loop μ-loop
 cast-index c =
-    let v = c .before .before .before .before .before .before .before .before .before .loop .inv in
-    omega (arith, number-below (v .can) (v .long) (c .before .before .before .before .before .before .before .before .loop-test .taken), v .can .fits .most)
+    let after-loop-test = c .before .before .before .before .before .before .before .before in
+    let at-loop = after-loop-test .before in
+    let v = at-loop .loop .inv in
+    omega (arith, number-below (v .can) (v .long) (after-loop-test .loop-test .taken), v .can .fits .most)
 
 step-here-requires : tie.Need-step-here-requires Inv-loop μ-loop
 step-here-requires c κs =
-    let v = c .before .before .before .before .before .before .before .before .before .before .before .loop .inv in
+    let after-loop-test = c .before .before .before .before .before .before .before .before .before .before in
+    let at-loop = after-loop-test .before in
+    let v = at-loop .loop .inv in
     let h = v .can .fits in
-    let l = number-below (v .can) (v .long) (c .before .before .before .before .before .before .before .before .before .before .loop-test .taken) in
+    let l = number-below (v .can) (v .long) (after-loop-test .loop-test .taken) in
     move-fits h l
-
-enum-known-grown : tie.Need-enum-known-grown Inv-loop μ-loop
-enum-known-grown c = search needs
-
-enum-known-number : tie.Need-enum-known-number Inv-loop μ-loop
-enum-known-number c = search needs
-
-halt-requires : tie.Need-halt-requires Inv-loop μ-loop
-halt-requires c κs = search needs
 
 returns : tie.Need-returns Inv-loop μ-loop
 unfolding tableEntries
-returns c = going-halt (c .before .before .before .before .before .before .before .before .before .before .before .before .before .before .before .before .loop .inv) (c .before .before .before .before .before .before .before .before .before .before .before .before .before .before .before .loop-test .taken) _ _ _ (c .before .before .before .before .step-here .ensures) (c .before .before .before .before .before .before .before .before .note .ensures) (c .before .before .number .given .1) (c .halt .ensures)
+returns c =
+    let after-number = c .before .before in
+    let after-step-here = after-number .before .before in
+    let after-note = after-step-here .before .before .before .before in
+    let after-loop-test = after-note .before .before .before .before .before .before .before in
+    let at-loop = after-loop-test .before in
+    going-halt (at-loop .loop .inv) (after-loop-test .loop-test .taken) _ _ _ (after-step-here .step-here .ensures)
+    (after-note .note .ensures) (after-number .number .given .1) (c .halt .ensures)
 
 add-i : tie.Need-add-i Inv-loop μ-loop
-add-i c = omega (arith, going-room (c .before .before .before .before .before .before .before .before .before .before .before .before .before .before .before .loop .inv))
-
-loop-less : tie.Need-loop-less Inv-loop μ-loop
-loop-less c = search needs
+add-i c =
+    let at-loop = c .before .before .before .before .before .before .before .before .before .before .before .before .before .before .before in
+    omega (arith, going-room (at-loop .loop .inv))
 
 loop-again : tie.Need-loop-again Inv-loop μ-loop
 unfolding tableEntries
-loop-again c = going-on (c .before .before .before .before .before .before .before .before .before .before .before .before .before .before .before .loop .inv) (c .before .before .before .before .before .before .before .before .before .before .before .before .before .before .loop-test .taken) _ _ _ (c .before .before .before .step-here .ensures) (c .before .before .before .before .before .before .before .note .ensures) (c .before .grown .given .1)
+loop-again c =
+    let after-step-here = c .before .before .before in
+    let after-note = after-step-here .before .before .before .before in
+    let after-loop-test = after-note .before .before .before .before .before .before .before in
+    let at-loop = after-loop-test .before in
+    going-on (at-loop .loop .inv) (after-loop-test .loop-test .taken) _ _ _ (after-step-here .step-here .ensures)
+    (after-note .note .ensures) (c .before .grown .given .1)
 
 note-requires-2 : tie.Need-note-requires-2 Inv-loop μ-loop
 note-requires-2 c κs =
-    let v = c .before .before .before .before .before .before .before .loop .inv in
+    let at-loop = c .before .before .before .before .before .before .before in
+    let v = at-loop .loop .inv in
     ((going-room v, ready-count (v .can .fits .n) _ (v .can .fits .ready) .0), slots-room (v .can .fits))
 
-sub-goal : tie.Need-sub-goal Inv-loop μ-loop
-sub-goal c = search needs
-
-part-goal-start : tie.Need-part-goal-start Inv-loop μ-loop
-part-goal-start c = search needs
-
 part-goal-end : tie.Need-part-goal-end Inv-loop μ-loop
-part-goal-end c = omega (arith, c .before .before .before .before .before .before .before .before .loop .inv .can .fits .long)
+part-goal-end c =
+    let at-loop = c .before .before .before .before .before .before .before .before in
+    omega (arith, at-loop .loop .inv .can .fits .long)
 
 end-requires : tie.Need-end-requires Inv-loop μ-loop
-end-requires c κs = let h = c .before .before .before .before .before .before .before .before .before .before .before .before .before .loop .inv .can .fits in (h .goal-fits, slots-room h)
+end-requires c κs =
+    let at-loop = c .before .before .before .before .before .before .before .before .before .before .before .before .before in
+    let h = at-loop .loop .inv .can .fits in (h .goal-fits, slots-room h)
 
 add-t40 : tie.Need-add-t40 Inv-loop μ-loop
-add-t40 c = omega (arith, going-room (c .before .before .before .before .before .before .before .before .before .before .before .before .before .before .loop .inv))
+add-t40 c =
+    let at-loop = c .before .before .before .before .before .before .before .before .before .before .before .before .before .before in
+    omega (arith, going-room (at-loop .loop .inv))
 
 returns-2 : tie.Need-returns-2 Inv-loop μ-loop
 unfolding tableEntries
-returns-2 c = going-end (c .before .before .before .before .before .before .before .before .before .before .before .before .before .before .loop .inv) (c .before .before .before .before .before .before .before .before .before .before .before .before .before .loop-test .left) (c .end .ensures) (c .before .before .before .before .before .before .note2 .ensures)
+returns-2 c =
+    let after-note2 = c .before .before .before .before .before .before in
+    let after-loop-test = after-note2 .before .before .before .before .before .before .before in
+    let at-loop = after-loop-test .before in
+    going-end (at-loop .loop .inv) (after-loop-test .loop-test .left) (c .end .ensures) (after-note2 .note2 .ensures)
 
 pub run-from-spec : {M : Type 1} → statement M
 run-from-spec =
@@ -110,16 +130,16 @@ run-from-spec =
     element-copy-out-index
     cast-index
     step-here-requires
-    enum-known-grown
-    enum-known-number
-    halt-requires
+    (λ c. search needs)
+    (λ c. search needs)
+    (λ c κs. search needs)
     returns
     add-i
-    loop-less
+    (λ c. search needs)
     loop-again
     note-requires-2
-    sub-goal
-    part-goal-start
+    (λ c. search needs)
+    (λ c. search needs)
     part-goal-end
     end-requires
     add-t40

@@ -8,43 +8,50 @@ use Rattle.plan.proofs.runs.run_sheet.Statement.{statement}
 use Rattle.plan.proofs.runs.run_sheet.Tie as tie
 
 first-into-requires : tie.Need-first-into-requires
-first-into-requires c κs = (c .before .before .before .before .pre .filled, c .before .before .before .before .pre .fresh)
-
-enum-known-count : tie.Need-enum-known-count
-enum-known-count c = search needs
+first-into-requires c κs =
+    let start = c .before .before .before .before in
+    (start .pre .filled, start .pre .fresh)
 
 run-from-requires : tie.Need-run-from-requires
 run-from-requires c κs =
-    let a = c .before .before .before .before .before .before .before .before .before .before .before .before .args in
-    (can-run (a .sheet) (a .packed .now) (c .before .before .before .before .before .before .before .before .before .before .before .before .pre .filled) _ _ _ (c .before .before .before .before .before .before .before .first-into .ensures) _ (c .before .before .before .before .before .count .given .1), c .before .before .before .before .before .before .before .before .before .before .before .before .pre .fresh-rows)
-
-enum-known-number : tie.Need-enum-known-number
-enum-known-number c = search needs
-
-refuse-run-requires : tie.Need-refuse-run-requires
-refuse-run-requires c κs = search needs
+    let after-count = c .before .before .before .before .before in
+    let after-first-into = after-count .before .before in
+    let start = after-first-into .before .before .before .before .before in
+    let a = start .args in (
+      can-run (a .sheet) (a .packed .now) (start .pre .filled) _ _ _ (after-first-into .first-into .ensures) _
+          (after-count .count .given .1),
+      start .pre .fresh-rows,
+    )
 
 returns : tie.Need-returns
 unfolding entries
 returns c =
-    let a = c .before .before .before .before .before .before .before .before .before .before .before .before .before .args in
-    c .run-from .ensures ∙ run-is (a .sheet) (a .packed .now) (c .before .before .before .before .before .before .before .before .before .before .before .before .before .pre .filled) _ _ _ (c .before .before .before .before .before .before .before .before .first-into .ensures) _ (c .before .before .before .before .before .before .count .given .1)
+    let after-count = c .before .before .before .before .before .before in
+    let after-first-into = after-count .before .before in
+    let start = after-first-into .before .before .before .before .before in
+    let a = start .args in
+    c .run-from .ensures ∙ run-is (a .sheet) (a .packed .now) (start .pre .filled) _ _ _ (after-first-into .first-into .ensures) _
+    (after-count .count .given .1)
 
 returns-2 : tie.Need-returns-2
 returns-2 c =
-    let a = c .before .before .before .before .before .before .before .before .before .before .before .args in
-    in-zeros (c .refuse-run .result) (record { trues = refl; falses = refl }) (c .before .before .before .before .before .before .before .before .before .before .before .pre .fresh-rows)
+    let after-number = c .before .before .before .before in
+    let after-first-into = after-number .before .before in
+    let start = after-first-into .before .before .before .before .before in
+    let a = start .args in
+    in-zeros (c .refuse-run .result) (record { trues = refl; falses = refl }) (start .pre .fresh-rows)
     ∙ c .refuse-run .ensures
-    ∙ run-stops (a .sheet) (a .packed .now) (c .before .before .before .before .before .before .before .before .before .before .before .pre .filled) _ _ _ (c .before .before .before .before .before .before .first-into .ensures) _ _ (c .before .before .before .before .number .given .1)
+    ∙ run-stops (a .sheet) (a .packed .now) (start .pre .filled) _ _ _ (after-first-into .first-into .ensures) _ _
+    (after-number .number .given .1)
 
 pub run-sheet-spec : {M : Type 1} → statement M
 run-sheet-spec =
     tie.close
     (tie.spec
     first-into-requires
-    enum-known-count
+    (λ c. search needs)
     run-from-requires
-    enum-known-number
-    refuse-run-requires
+    (λ c. search needs)
+    (λ c κs. search needs)
     returns
     returns-2)

@@ -9,20 +9,15 @@ use Rattle.plan.proofs.runs.step_here.Tie as tie
 
 step-at-requires : tie.Need-step-at-requires
 step-at-requires c κs =
-    let h = c .before .before .before .before .before .before .before .pre in
-    let k : length (c .before .before .before .before .before .before .before .args .trues .now) ≡ 128 = search needs in
-    let l : length (c .before .before .before .before .before .before .before .args .falses .now) ≡ 128 = search needs in
+    let start = c .before .before .before .before .before .before .before in
+    let h = start .pre in
+    let k : length (start .args .trues .now) ≡ 128 = search needs in
+    let l : length (start .args .falses .now) ≡ 128 = search needs in
     record {
       move = h;
       room = record { trues = omega (arith, k, h .fits .entries-most); falses = omega (arith, l, h .fits .entries-most) };
       fresh = record { trues = refl; falses = refl };
     }
-
-enum-known-filled : tie.Need-enum-known-filled
-enum-known-filled c = search needs
-
-enum-known-number : tie.Need-enum-known-number
-enum-known-number c = search needs
 
 returns : tie.Need-returns
 returns c = step-as _ _ _ (c .before .before .before .step-at .ensures) (c .before .filled .given .1)
@@ -35,7 +30,7 @@ step-here-spec =
     tie.close
     (tie.spec
     step-at-requires
-    enum-known-filled
-    enum-known-number
+    (λ c. search needs)
+    (λ c. search needs)
     returns
     returns-2)

@@ -98,15 +98,25 @@ try-move-enum-known-stepped : (t : ℕ) → try-move-lts.Need-enum-known-stepped
 try-move-enum-known-stepped t c = search needs
 
 try-move-slice-aggregate-same : (t : ℕ) → try-move-lts.Need-slice-aggregate-same (try-move-claims t) (try-move-at t) try-move.Post
-try-move-slice-aggregate-same t c = let h = c .before .before .before .before .before .before .before .before .before .before .before .before .pre .1 in sym (trues-long (ready-after (h .underway .can) (h .below) _ _ _ (c .before .before .before .before .before .step-at .ensures) (c .before .before .stepped .given .1)))
+try-move-slice-aggregate-same t c = let
+    h = c .before .before .before .before .before .before .before .before .before .before .before .before .pre .1 in sym
+    (trues-long (ready-after (h .underway .can) (h .below) _ _ _ (c .before .before .before .before .before .step-at .ensures)
+    (c .before .before .stepped .given .1)))
 
 try-move-slice-aggregate-same-2 : (t : ℕ) → try-move-lts.Need-slice-aggregate-same-2 (try-move-claims t) (try-move-at t) try-move.Post
-try-move-slice-aggregate-same-2 t c = let h = c .before .before .before .before .before .before .before .before .before .before .before .before .before .pre .1 in sym (falses-long (ready-after (h .underway .can) (h .below) _ _ _ (c .before .before .before .before .before .before .step-at .ensures) (c .before .before .before .stepped .given .1)))
+try-move-slice-aggregate-same-2 t c = let
+    h = c .before .before .before .before .before .before .before .before .before .before .before .before .before .pre .1 in sym
+    (falses-long (ready-after (h .underway .can) (h .below) _ _ _ (c .before .before .before .before .before .before .step-at .ensures)
+    (c .before .before .before .stepped .given .1)))
 
 try-move-same-requires : (t : ℕ) → try-move-lts.Need-same-requires (try-move-claims t) (try-move-at t) try-move.Post
 try-move-same-requires t c κs =
-    let h = c .before .before .before .before .before .before .before .before .before .before .before .before .before .pre .1 .underway .can in
-    (slots-room (ready-after h (c .before .before .before .before .before .before .before .before .before .before .before .before .before .pre .1 .below) _ _ _ (c .before .before .before .before .before .before .step-at .ensures) (c .before .before .before .stepped .given .1)), slots-room h)
+    let h = c .before .before .before .before .before .before .before .before .before .before .before .before .before .pre .1 .underway .can in (
+      slots-room (ready-after h
+          (c .before .before .before .before .before .before .before .before .before .before .before .before .before .pre .1 .below) _ _ _
+          (c .before .before .before .before .before .before .step-at .ensures) (c .before .before .before .stepped .given .1)),
+      slots-room h,
+    )
 
 try-move-none-requires : (t : ℕ) → try-move-lts.Need-none-requires (try-move-claims t) (try-move-at t) try-move.Post
 try-move-none-requires t c κs = search needs
@@ -117,13 +127,18 @@ try-move-returns t c =
     (begun-same (c .before .before .before .before .before .before .before .before .before .before .before .before .before .before .before .before .pre .1 .underway .can) (c .before .before .before .before .before .before .before .before .before .before .before .before .before .before .before .before .pre .1 .below) _ _ _ (c .before .before .before .before .before .before .before .before .before .step-at .ensures) (c .before .before .before .before .before .before .stepped .given .1) (d .at) (d .left - 1) (λ p i l. c .before .before .before .before .before .before .before .before .before .before .before .before .before .before .before .before .pre .1 .underway .no-shorter p i (omega (arith, l, c .before .before .before .before .before .before .before .before .before .before .before .before .before .before .before .before .pre .1 .some-left))) (c .before .before .same .ensures (c .before .if1 .taken)) (c .none .ensures), c .before .before .before .before .before .before .before .before .before .before .before .before .before .before .before .before .pre .1 .underway .remembers)
 
 try-move-add-t25 : (t : ℕ) → try-move-lts.Need-add-t25 (try-move-claims t) (try-move-at t) try-move.Post
-try-move-add-t25 t c = let z = c .before .before .before .before .before .before .before .before .before .before .before .before .before .before .before in omega (arith, z .pre .1 .underway .most, z .pre .1 .some-left)
+try-move-add-t25 t c = let
+    z = c .before .before .before .before .before .before .before .before .before .before .before .before .before .before .before in omega
+    (arith, z .pre .1 .underway .most, z .pre .1 .some-left)
 
 try-move-slice-aggregate-try-plans : (t : ℕ) → try-move-lts.Need-slice-aggregate-try-plans (try-move-claims t) (try-move-at t) try-move.Post
-try-move-slice-aggregate-try-plans t c = let h = c .before .before .before .before .before .before .before .before .before .before .before .before .before .before .before .before .pre .1 in sym (trues-long (ready-after (h .underway .can) (h .below) _ _ _ (c .before .before .before .before .before .before .before .before .before .step-at .ensures) (c .before .before .before .before .before .before .stepped .given .1)))
+try-move-slice-aggregate-try-plans t c = let
+    h = c .before .before .before .before .before .before .before .before .before .before .before .before .before .before .before .before .pre .1 in sym (trues-long (ready-after (h .underway .can) (h .below) _ _ _ (c .before .before .before .before .before .before .before .before .before .step-at .ensures) (c .before .before .before .before .before .before .stepped .given .1)))
 
-try-move-slice-aggregate-try-plans-2 : (t : ℕ) → try-move-lts.Need-slice-aggregate-try-plans-2 (try-move-claims t) (try-move-at t) try-move.Post
-try-move-slice-aggregate-try-plans-2 t c = let h = c .before .before .before .before .before .before .before .before .before .before .before .before .before .before .before .before .before .pre .1 in sym (falses-long (ready-after (h .underway .can) (h .below) _ _ _ (c .before .before .before .before .before .before .before .before .before .before .step-at .ensures) (c .before .before .before .before .before .before .before .stepped .given .1)))
+try-move-slice-aggregate-try-plans-2 : (t : ℕ) → try-move-lts.Need-slice-aggregate-try-plans-2 (try-move-claims t) (try-move-at t)
+    try-move.Post
+try-move-slice-aggregate-try-plans-2 t c = let
+    h = c .before .before .before .before .before .before .before .before .before .before .before .before .before .before .before .before .before .pre .1 in sym (falses-long (ready-after (h .underway .can) (h .below) _ _ _ (c .before .before .before .before .before .before .before .before .before .before .step-at .ensures) (c .before .before .before .before .before .before .before .stepped .given .1)))
 
 try-move-try-plans-requires : (t : ℕ) → try-move-lts.Need-try-plans-requires (try-move-claims t) (try-move-at t) try-move.Post
 try-move-try-plans-requires t c κs =
@@ -132,9 +147,14 @@ try-move-try-plans-requires t c κs =
     let l = c .before .before .before .before .before .before .before .before .before .before .before .before .before .before .before .before .before .before .pre .1 .below in (
       omega (arith, c .before .before .before .before .before .before .before .before .before .before .before .before .before .before .before .before .before .before .pre .1 .some-left),
       record {
-        can = ready-after h l _ _ _ (c .before .before .before .before .before .before .before .before .before .before .before .step-at .ensures) (c .before .before .before .before .before .before .before .before .stepped .given .1);
+        can = ready-after h l _ _ _
+            (c .before .before .before .before .before .before .before .before .before .before .before .step-at .ensures)
+            (c .before .before .before .before .before .before .before .before .stepped .given .1);
         most = omega (arith, c .before .before .before .before .before .before .before .before .before .before .before .before .before .before .before .before .before .before .pre .1 .underway .most, c .before .before .before .before .before .before .before .before .before .before .before .before .before .before .before .before .before .before .pre .1 .some-left);
-        no-shorter = quiet-next h l _ _ _ (c .before .before .before .before .before .before .before .before .before .before .before .step-at .ensures) (c .before .before .before .before .before .before .before .before .stepped .given .1) (d .at) (d .left - 1) (λ p i l. c .before .before .before .before .before .before .before .before .before .before .before .before .before .before .before .before .before .before .pre .1 .underway .no-shorter p i (omega (arith, l, c .before .before .before .before .before .before .before .before .before .before .before .before .before .before .before .before .before .before .pre .1 .some-left)));
+        no-shorter = quiet-next h l _ _ _
+            (c .before .before .before .before .before .before .before .before .before .before .before .step-at .ensures)
+            (c .before .before .before .before .before .before .before .before .stepped .given .1) (d .at) (d .left - 1)
+            (λ p i l. c .before .before .before .before .before .before .before .before .before .before .before .before .before .before .before .before .before .before .pre .1 .underway .no-shorter p i (omega (arith, l, c .before .before .before .before .before .before .before .before .before .before .before .before .before .before .before .before .before .before .pre .1 .some-left)));
         remembers = c .before .before .before .before .before .before .before .before .before .before .before .before .before .before .before .before .before .before .pre .1 .underway .remembers;
       },
     )
@@ -143,16 +163,19 @@ try-move-is-end-requires : (t : ℕ) → try-move-lts.Need-is-end-requires (try-
 try-move-is-end-requires t c κs = search needs
 
 try-move-cast-r : (t : ℕ) → try-move-lts.Need-cast-r (try-move-claims t) (try-move-at t) try-move.Post
-try-move-cast-r t c = omega (arith, c .before .before .before .before .before .before .before .before .before .before .before .before .before .before .before .before .before .before .before .before .before .before .before .pre .1 .below, c .before .before .before .before .before .before .before .before .before .before .before .before .before .before .before .before .before .before .before .before .before .before .before .pre .1 .underway .can .most)
+try-move-cast-r t c = omega
+    (arith, c .before .before .before .before .before .before .before .before .before .before .before .before .before .before .before .before .before .before .before .before .before .before .before .pre .1 .below, c .before .before .before .before .before .before .before .before .before .before .before .before .before .before .before .before .before .before .before .before .before .before .before .pre .1 .underway .can .most)
 
 try-move-element-write-r : (t : ℕ) → try-move-lts.Need-element-write-r (try-move-claims t) (try-move-at t) try-move.Post
-try-move-element-write-r t c = omega (arith, c .before .before .before .before .before .before .before .before .before .before .before .before .before .before .before .before .before .before .before .before .before .before .before .pre .1 .underway .most, c .before .before .before .before .before .before .before .before .before .before .before .before .before .before .before .before .before .before .before .before .before .before .before .pre .1 .some-left)
+try-move-element-write-r t c = omega
+    (arith, c .before .before .before .before .before .before .before .before .before .before .before .before .before .before .before .before .before .before .before .before .before .before .before .pre .1 .underway .most, c .before .before .before .before .before .before .before .before .before .before .before .before .before .before .before .before .before .before .before .before .before .before .before .pre .1 .some-left)
 
 try-move-enum-known-stepped-2 : (t : ℕ) → try-move-lts.Need-enum-known-stepped-2 (try-move-claims t) (try-move-at t) try-move.Post
 try-move-enum-known-stepped-2 t c = search needs
 
 try-move-full-requires : (t : ℕ) → try-move-lts.Need-full-requires (try-move-claims t) (try-move-at t) try-move.Post
-try-move-full-requires t c κs = (omega (arith, c .before .before .before .before .before .before .before .before .before .before .before .before .pre .1 .underway .most, c .before .before .before .before .before .before .before .before .before .before .before .before .pre .1 .some-left), omega (arith, c .before .before .before .before .before .before .before .before .before .before .before .before .pre .1 .below, c .before .before .before .before .before .before .before .before .before .before .before .before .pre .1 .underway .can .most))
+try-move-full-requires t c
+    κs = (omega (arith, c .before .before .before .before .before .before .before .before .before .before .before .before .pre .1 .underway .most, c .before .before .before .before .before .before .before .before .before .before .before .before .pre .1 .some-left), omega (arith, c .before .before .before .before .before .before .before .before .before .before .before .before .pre .1 .below, c .before .before .before .before .before .before .before .before .before .before .before .before .pre .1 .underway .can .most))
 
 try-move-returns-2 : (t : ℕ) → try-move-lts.Need-returns-2 (try-move-claims t) (try-move-at t) try-move.Post
 try-move-returns-2 t c =
@@ -185,72 +208,103 @@ try-move-returns-5 t c =
 
 abbrev try-plans-Inv-loop : try-plans-lts.InvT-loop
 try-plans-Inv-loop packed depth trues falses count memory₀ left move-count index₀ memory index =
-    (firstBelow (firstBy (setsIn (goalIn packed)) (actionOf (movesIn packed)) move-count (depth .at) (entriesOf count trues falses) (depth .left - 1)) index ≡ nothing)
+    (firstBelow (firstBy (setsIn (goalIn packed)) (actionOf (movesIn packed)) move-count (depth .at) (entriesOf count trues falses)
+    (depth .left - 1)) index ≡ nothing)
     × (index ≤ move-count) × (length memory ≡ length memory₀) × Remembers packed move-count memory
 
 abbrev try-plans-μ-loop : try-plans-lts.MeasureT-loop
 try-plans-μ-loop packed depth trues falses count memory₀ left move-count index₀ memory index = move-count - index
 
-try-plans-sub-goal : (t : ℕ) → try-plans-lts.Need-sub-goal (try-plans-claims t) (try-plans-at t) try-plans.Post try-plans-Inv-loop try-plans-μ-loop
+try-plans-sub-goal : (t : ℕ) → try-plans-lts.Need-sub-goal (try-plans-claims t) (try-plans-at t) try-plans.Post try-plans-Inv-loop
+    try-plans-μ-loop
 try-plans-sub-goal t c = search needs
 
-try-plans-part-goal-start : (t : ℕ) → try-plans-lts.Need-part-goal-start (try-plans-claims t) (try-plans-at t) try-plans.Post try-plans-Inv-loop try-plans-μ-loop
+try-plans-part-goal-start : (t : ℕ) → try-plans-lts.Need-part-goal-start (try-plans-claims t) (try-plans-at t) try-plans.Post
+    try-plans-Inv-loop try-plans-μ-loop
 try-plans-part-goal-start t c = search needs
 
-try-plans-part-goal-end : (t : ℕ) → try-plans-lts.Need-part-goal-end (try-plans-claims t) (try-plans-at t) try-plans.Post try-plans-Inv-loop try-plans-μ-loop
+try-plans-part-goal-end : (t : ℕ) → try-plans-lts.Need-part-goal-end (try-plans-claims t) (try-plans-at t) try-plans.Post
+    try-plans-Inv-loop try-plans-μ-loop
 try-plans-part-goal-end t c = omega (arith, c .before .before .before .before .before .pre .1 .can .long)
 
-try-plans-all-in-goal-requires : (t : ℕ) → try-plans-lts.Need-all-in-goal-requires (try-plans-claims t) (try-plans-at t) try-plans.Post try-plans-Inv-loop try-plans-μ-loop
-try-plans-all-in-goal-requires t c κs = let h = c .before .before .before .before .before .before .pre .1 .can in (h .goal-fits, slots-room h)
+try-plans-all-in-goal-requires : (t : ℕ) → try-plans-lts.Need-all-in-goal-requires (try-plans-claims t) (try-plans-at t) try-plans.Post
+    try-plans-Inv-loop try-plans-μ-loop
+try-plans-all-in-goal-requires t c κs = let h = c .before .before .before .before .before .before .pre .1 .can in
+    (h .goal-fits, slots-room h)
 
-try-plans-returns : (t : ℕ) → try-plans-lts.Need-returns (try-plans-claims t) (try-plans-at t) try-plans.Post try-plans-Inv-loop try-plans-μ-loop
+try-plans-returns : (t : ℕ) → try-plans-lts.Need-returns (try-plans-claims t) (try-plans-at t) try-plans.Post try-plans-Inv-loop
+    try-plans-μ-loop
 unfolding entries
 try-plans-returns t c =
-    let s = c .before .before .before .before .before .before .before .before .args in
-    (at-goal (setsIn (goalIn (now (s .packed)))) (actionOf (movesIn (now (s .packed)))) (s .depth .moves) (s .depth .at) (entriesOf (s .count) (now (s .trues)) (now (s .falses))) (s .depth .left) (c .before .before .before .if1 .taken) (sym (c .before .all-in-goal .ensures) ∙ c .if2 .taken), c .before .before .before .before .before .before .before .before .pre .1 .remembers)
+    let s = c .before .before .before .before .before .before .before .before .args in (
+      at-goal (setsIn (goalIn (now (s .packed)))) (actionOf (movesIn (now (s .packed)))) (s .depth .moves) (s .depth .at)
+          (entriesOf (s .count) (now (s .trues)) (now (s .falses))) (s .depth .left) (c .before .before .before .if1 .taken)
+          (sym (c .before .all-in-goal .ensures) ∙ c .if2 .taken),
+      c .before .before .before .before .before .before .before .before .pre .1 .remembers,
+    )
 
-try-plans-none-requires : (t : ℕ) → try-plans-lts.Need-none-requires (try-plans-claims t) (try-plans-at t) try-plans.Post try-plans-Inv-loop try-plans-μ-loop
+try-plans-none-requires : (t : ℕ) → try-plans-lts.Need-none-requires (try-plans-claims t) (try-plans-at t) try-plans.Post
+    try-plans-Inv-loop try-plans-μ-loop
 try-plans-none-requires t c κs = search needs
 
-try-plans-returns-2 : (t : ℕ) → try-plans-lts.Need-returns-2 (try-plans-claims t) (try-plans-at t) try-plans.Post try-plans-Inv-loop try-plans-μ-loop
+try-plans-returns-2 : (t : ℕ) → try-plans-lts.Need-returns-2 (try-plans-claims t) (try-plans-at t) try-plans.Post try-plans-Inv-loop
+    try-plans-μ-loop
 unfolding entries
 try-plans-returns-2 t c =
-    let s = c .before .before .before .before .before .before .before .before .before .args in
-    (at-short (setsIn (goalIn (now (s .packed)))) (actionOf (movesIn (now (s .packed)))) (s .depth .moves) (s .depth .at) (entriesOf (s .count) (now (s .trues)) (now (s .falses))) (s .depth .left) (c .before .before .before .before .if1 .taken) _ (sym (c .before .before .all-in-goal .ensures) ∙ c .before .if2 .left) (c .none .ensures), c .before .before .before .before .before .before .before .before .before .pre .1 .remembers)
+    let s = c .before .before .before .before .before .before .before .before .before .args in (
+      at-short (setsIn (goalIn (now (s .packed)))) (actionOf (movesIn (now (s .packed)))) (s .depth .moves) (s .depth .at)
+          (entriesOf (s .count) (now (s .trues)) (now (s .falses))) (s .depth .left) (c .before .before .before .before .if1 .taken) _
+          (sym (c .before .before .all-in-goal .ensures) ∙ c .before .if2 .left) (c .none .ensures),
+      c .before .before .before .before .before .before .before .before .before .pre .1 .remembers,
+    )
 
-try-plans-remembered-requires : (t : ℕ) → try-plans-lts.Need-remembered-requires (try-plans-claims t) (try-plans-at t) try-plans.Post try-plans-Inv-loop try-plans-μ-loop
+try-plans-remembered-requires : (t : ℕ) → try-plans-lts.Need-remembered-requires (try-plans-claims t) (try-plans-at t) try-plans.Post
+    try-plans-Inv-loop try-plans-μ-loop
 try-plans-remembered-requires t c κs = storable (c .before .before .before .before .before .before .pre .1 .can)
 
-try-plans-none-requires-2 : (t : ℕ) → try-plans-lts.Need-none-requires-2 (try-plans-claims t) (try-plans-at t) try-plans.Post try-plans-Inv-loop try-plans-μ-loop
+try-plans-none-requires-2 : (t : ℕ) → try-plans-lts.Need-none-requires-2 (try-plans-claims t) (try-plans-at t) try-plans.Post
+    try-plans-Inv-loop try-plans-μ-loop
 try-plans-none-requires-2 t c κs = search needs
 
-try-plans-same-length : (t : ℕ) → try-plans-lts.Need-same-length (try-plans-claims t) (try-plans-at t) try-plans.Post try-plans-Inv-loop try-plans-μ-loop
+try-plans-same-length : (t : ℕ) → try-plans-lts.Need-same-length (try-plans-claims t) (try-plans-at t) try-plans.Post try-plans-Inv-loop
+    try-plans-μ-loop
 try-plans-same-length t c = search needs
 
-try-plans-returns-3 : (t : ℕ) → try-plans-lts.Need-returns-3 (try-plans-claims t) (try-plans-at t) try-plans.Post try-plans-Inv-loop try-plans-μ-loop
+try-plans-returns-3 : (t : ℕ) → try-plans-lts.Need-returns-3 (try-plans-claims t) (try-plans-at t) try-plans.Post try-plans-Inv-loop
+    try-plans-μ-loop
 unfolding entries
 try-plans-returns-3 t c =
     let s = c .before .before .before .before .before .before .before .before .before .args in (
-      no-answer (setsIn (goalIn (now (s .packed)))) (actionOf (movesIn (now (s .packed)))) (s .depth .moves) (s .depth .at) (entriesOf (s .count) (now (s .trues)) (now (s .falses))) (s .depth .left)
-          (skip (now (s .packed)) (s .depth .moves) (s .depth .at) (c .before .before .before .before .before .before .before .before .before .pre .1 .remembers) (c .before .before .remembered .ensures (c .before .if3 .taken)))
+      no-answer (setsIn (goalIn (now (s .packed)))) (actionOf (movesIn (now (s .packed)))) (s .depth .moves) (s .depth .at)
+          (entriesOf (s .count) (now (s .trues)) (now (s .falses))) (s .depth .left)
+          (skip (now (s .packed)) (s .depth .moves) (s .depth .at)
+          (c .before .before .before .before .before .before .before .before .before .pre .1 .remembers)
+          (c .before .before .remembered .ensures (c .before .if3 .taken)))
           (c .none2 .ensures),
       c .before .before .before .before .before .before .before .before .before .pre .1 .remembers,
     )
 
-try-plans-remember-requires : (t : ℕ) → try-plans-lts.Need-remember-requires (try-plans-claims t) (try-plans-at t) try-plans.Post try-plans-Inv-loop try-plans-μ-loop
-try-plans-remember-requires t c κs = let h = c .before .before .before .before .before .before .before .before .before .pre .1 in (omega (arith, h .most), storable (h .can))
+try-plans-remember-requires : (t : ℕ) → try-plans-lts.Need-remember-requires (try-plans-claims t) (try-plans-at t) try-plans.Post
+    try-plans-Inv-loop try-plans-μ-loop
+try-plans-remember-requires t c κs = let h = c .before .before .before .before .before .before .before .before .before .pre .1 in
+    (omega (arith, h .most), storable (h .can))
 
-try-plans-loop-holds : (t : ℕ) → try-plans-lts.Need-loop-holds (try-plans-claims t) (try-plans-at t) try-plans.Post try-plans-Inv-loop try-plans-μ-loop
+try-plans-loop-holds : (t : ℕ) → try-plans-lts.Need-loop-holds (try-plans-claims t) (try-plans-at t) try-plans.Post try-plans-Inv-loop
+    try-plans-μ-loop
 unfolding entries
 try-plans-loop-holds t c =
     let s = c .before .before .before .before .before .before .before .before .before .before .before .before .args in (
       refl,
       omega arith,
       refl,
-      c .before .before .remember .ensures (now (s .packed)) (s .depth .moves) (c .before .before .before .before .before .before .before .before .before .before .before .before .pre .1 .remembers) (entered (now (s .packed)) (s .depth .moves) (entriesOf (s .count) (now (s .trues)) (now (s .falses))) (s .depth .at) (s .depth .left) (c .before .before .before .before .before .before .before .before .before .before .before .before .pre .1 .no-shorter)),
+      c .before .before .remember .ensures (now (s .packed)) (s .depth .moves)
+          (c .before .before .before .before .before .before .before .before .before .before .before .before .pre .1 .remembers)
+          (entered (now (s .packed)) (s .depth .moves) (entriesOf (s .count) (now (s .trues)) (now (s .falses))) (s .depth .at)
+          (s .depth .left) (c .before .before .before .before .before .before .before .before .before .before .before .before .pre .1 .no-shorter)),
     )
 
-try-plans-try-move-requires : (t : ℕ) → try-plans-lts.Need-try-move-requires (try-plans-claims t) (try-plans-at t) try-plans.Post try-plans-Inv-loop try-plans-μ-loop
+try-plans-try-move-requires : (t : ℕ) → try-plans-lts.Need-try-move-requires (try-plans-claims t) (try-plans-at t) try-plans.Post
+    try-plans-Inv-loop try-plans-μ-loop
 try-plans-try-move-requires t c κs =
     let h = c .before .before .before .before .before .before .before .before .before .before .before .before .before .before .before .pre .1 in
     let n = c .before .before .before .before .before .before .before .before .before .before .if1 .left in (
@@ -262,58 +316,84 @@ try-plans-try-move-requires t c κs =
       },
     )
 
-try-plans-is-end-requires : (t : ℕ) → try-plans-lts.Need-is-end-requires (try-plans-claims t) (try-plans-at t) try-plans.Post try-plans-Inv-loop try-plans-μ-loop
+try-plans-is-end-requires : (t : ℕ) → try-plans-lts.Need-is-end-requires (try-plans-claims t) (try-plans-at t) try-plans.Post
+    try-plans-Inv-loop try-plans-μ-loop
 try-plans-is-end-requires t c κs = search needs
 
-try-plans-same-length-2 : (t : ℕ) → try-plans-lts.Need-same-length-2 (try-plans-claims t) (try-plans-at t) try-plans.Post try-plans-Inv-loop try-plans-μ-loop
+try-plans-same-length-2 : (t : ℕ) → try-plans-lts.Need-same-length-2 (try-plans-claims t) (try-plans-at t) try-plans.Post
+    try-plans-Inv-loop try-plans-μ-loop
 try-plans-same-length-2 t c = search needs
 
-try-plans-returns-4 : (t : ℕ) → try-plans-lts.Need-returns-4 (try-plans-claims t) (try-plans-at t) try-plans.Post try-plans-Inv-loop try-plans-μ-loop
+try-plans-returns-4 : (t : ℕ) → try-plans-lts.Need-returns-4 (try-plans-claims t) (try-plans-at t) try-plans.Post try-plans-Inv-loop
+    try-plans-μ-loop
 unfolding entries
 try-plans-returns-4 t c =
     let s = c .before .before .before .before .before .before .before .before .before .before .before .before .before .before .before .before .before .before .before .before .args in
     let g = c .before .before .before .before .before .before .before .loop in (
-      found-now (setsIn (goalIn (now (s .packed)))) (actionOf (movesIn (now (s .packed)))) (s .depth .moves) (s .depth .at) (entriesOf (s .count) (now (s .trues)) (now (s .falses))) (s .depth .left - 1) (g .index) _ (g .inv .0) (s .depth .left) (omega (arith, c .before .before .before .before .before .before .before .before .before .before .before .before .before .before .before .if1 .left)) (c .before .before .before .before .before .before .loop-test .taken) (c .before .before .before .before .try-move .ensures .0) (sym (c .before .is-end .ensures) ∙ c .if4 .taken),
+      found-now (setsIn (goalIn (now (s .packed)))) (actionOf (movesIn (now (s .packed)))) (s .depth .moves) (s .depth .at)
+          (entriesOf (s .count) (now (s .trues)) (now (s .falses))) (s .depth .left - 1) (g .index) _ (g .inv .0) (s .depth .left)
+          (omega (arith, c .before .before .before .before .before .before .before .before .before .before .before .before .before .before .before .if1 .left)) (c .before .before .before .before .before .before .loop-test .taken) (c .before .before .before .before .try-move .ensures .0) (sym (c .before .is-end .ensures) ∙ c .if4 .taken),
       c .before .before .before .before .try-move .ensures .1,
     )
 
-try-plans-add-index : (t : ℕ) → try-plans-lts.Need-add-index (try-plans-claims t) (try-plans-at t) try-plans.Post try-plans-Inv-loop try-plans-μ-loop
-try-plans-add-index t c = omega (arith, c .before .before .before .before .before .before .before .before .before .before .before .before .before .before .before .before .before .before .before .before .pre .1 .can .most)
+try-plans-add-index : (t : ℕ) → try-plans-lts.Need-add-index (try-plans-claims t) (try-plans-at t) try-plans.Post try-plans-Inv-loop
+    try-plans-μ-loop
+try-plans-add-index t c = omega
+    (arith, c .before .before .before .before .before .before .before .before .before .before .before .before .before .before .before .before .before .before .before .before .pre .1 .can .most)
 
-try-plans-loop-less : (t : ℕ) → try-plans-lts.Need-loop-less (try-plans-claims t) (try-plans-at t) try-plans.Post try-plans-Inv-loop try-plans-μ-loop
+try-plans-loop-less : (t : ℕ) → try-plans-lts.Need-loop-less (try-plans-claims t) (try-plans-at t) try-plans.Post try-plans-Inv-loop
+    try-plans-μ-loop
 try-plans-loop-less t c = search needs
 
-try-plans-loop-again : (t : ℕ) → try-plans-lts.Need-loop-again (try-plans-claims t) (try-plans-at t) try-plans.Post try-plans-Inv-loop try-plans-μ-loop
+try-plans-loop-again : (t : ℕ) → try-plans-lts.Need-loop-again (try-plans-claims t) (try-plans-at t) try-plans.Post try-plans-Inv-loop
+    try-plans-μ-loop
 unfolding entries
 try-plans-loop-again t c =
     let s = c .before .before .before .before .before .before .before .before .before .before .before .before .before .before .before .before .before .before .before .before .args in
     let g = c .before .before .before .before .before .before .before .loop in (
-      not-yet (setsIn (goalIn (now (s .packed)))) (actionOf (movesIn (now (s .packed)))) (s .depth .moves) (s .depth .at) (entriesOf (s .count) (now (s .trues)) (now (s .falses))) (s .depth .left - 1) (g .index) _ (g .inv .0) (c .before .before .before .before .try-move .ensures .0) (sym (c .before .is-end .ensures) ∙ c .if4 .left),
+      not-yet (setsIn (goalIn (now (s .packed)))) (actionOf (movesIn (now (s .packed)))) (s .depth .moves) (s .depth .at)
+          (entriesOf (s .count) (now (s .trues)) (now (s .falses))) (s .depth .left - 1) (g .index) _ (g .inv .0)
+          (c .before .before .before .before .try-move .ensures .0) (sym (c .before .is-end .ensures) ∙ c .if4 .left),
       omega arith,
       search needs,
       c .before .before .before .before .try-move .ensures .1,
     )
 
-try-plans-add-remember : (t : ℕ) → try-plans-lts.Need-add-remember (try-plans-claims t) (try-plans-at t) try-plans.Post try-plans-Inv-loop try-plans-μ-loop
-try-plans-add-remember t c = omega (arith, c .before .before .before .before .before .before .before .before .before .before .before .before .before .before .before .pre .1 .most)
+try-plans-add-remember : (t : ℕ) → try-plans-lts.Need-add-remember (try-plans-claims t) (try-plans-at t) try-plans.Post try-plans-Inv-loop
+    try-plans-μ-loop
+try-plans-add-remember t c = omega
+    (arith, c .before .before .before .before .before .before .before .before .before .before .before .before .before .before .before .pre .1 .most)
 
-try-plans-remember-requires-2 : (t : ℕ) → try-plans-lts.Need-remember-requires-2 (try-plans-claims t) (try-plans-at t) try-plans.Post try-plans-Inv-loop try-plans-μ-loop
-try-plans-remember-requires-2 t c κs = let h = c .before .before .before .before .before .before .before .before .before .before .before .before .before .before .before .pre .1 in (omega (arith, h .most), storable (h .can))
+try-plans-remember-requires-2 : (t : ℕ) → try-plans-lts.Need-remember-requires-2 (try-plans-claims t) (try-plans-at t) try-plans.Post
+    try-plans-Inv-loop try-plans-μ-loop
+try-plans-remember-requires-2 t c κs = let
+    h = c .before .before .before .before .before .before .before .before .before .before .before .before .before .before .before .pre .1 in (omega (arith, h .most), storable (h .can))
 
-try-plans-none-requires-3 : (t : ℕ) → try-plans-lts.Need-none-requires-3 (try-plans-claims t) (try-plans-at t) try-plans.Post try-plans-Inv-loop try-plans-μ-loop
+try-plans-none-requires-3 : (t : ℕ) → try-plans-lts.Need-none-requires-3 (try-plans-claims t) (try-plans-at t) try-plans.Post
+    try-plans-Inv-loop try-plans-μ-loop
 try-plans-none-requires-3 t c κs = search needs
 
-try-plans-same-length-3 : (t : ℕ) → try-plans-lts.Need-same-length-3 (try-plans-claims t) (try-plans-at t) try-plans.Post try-plans-Inv-loop try-plans-μ-loop
+try-plans-same-length-3 : (t : ℕ) → try-plans-lts.Need-same-length-3 (try-plans-claims t) (try-plans-at t) try-plans.Post
+    try-plans-Inv-loop try-plans-μ-loop
 try-plans-same-length-3 t c = search needs
 
-try-plans-returns-5 : (t : ℕ) → try-plans-lts.Need-returns-5 (try-plans-claims t) (try-plans-at t) try-plans.Post try-plans-Inv-loop try-plans-μ-loop
+try-plans-returns-5 : (t : ℕ) → try-plans-lts.Need-returns-5 (try-plans-claims t) (try-plans-at t) try-plans.Post try-plans-Inv-loop
+    try-plans-μ-loop
 unfolding entries
 try-plans-returns-5 t c =
     let s = c .before .before .before .before .before .before .before .before .before .before .before .before .before .before .before .before .before .before .before .args in
     let g = c .before .before .before .before .before .before .loop in
-    let q = none-at-all (setsIn (goalIn (now (s .packed)))) (actionOf (movesIn (now (s .packed)))) (s .depth .moves) (s .depth .at) (entriesOf (s .count) (now (s .trues)) (now (s .falses))) (s .depth .left - 1) (g .index) (c .none3 .result) (g .inv .0) (s .depth .left) (omega (arith, c .before .before .before .before .before .before .before .before .before .before .before .before .before .before .if1 .left)) (omega (arith, c .before .before .before .before .before .loop-test .left, g .inv .1)) in (
-      no-answer (setsIn (goalIn (now (s .packed)))) (actionOf (movesIn (now (s .packed)))) (s .depth .moves) (s .depth .at) (entriesOf (s .count) (now (s .trues)) (now (s .falses))) (s .depth .left) q (c .none3 .ensures),
-      c .before .before .before .remember2 .ensures (now (s .packed)) (s .depth .moves) (g .inv .3) (tried (now (s .packed)) (s .depth .moves) (entriesOf (s .count) (now (s .trues)) (now (s .falses))) (s .depth .at) (s .depth .left) (c .before .before .before .before .before .before .before .before .before .before .before .before .before .before .before .before .before .before .before .pre .1 .no-shorter) q),
+    let q = none-at-all (setsIn (goalIn (now (s .packed)))) (actionOf (movesIn (now (s .packed)))) (s .depth .moves) (s .depth .at)
+    (entriesOf (s .count) (now (s .trues)) (now (s .falses))) (s .depth .left - 1) (g .index) (c .none3 .result) (g .inv .0)
+    (s .depth .left) (omega (
+      arith,
+      c .before .before .before .before .before .before .before .before .before .before .before .before .before .before .if1 .left,
+    )) (omega (arith, c .before .before .before .before .before .loop-test .left, g .inv .1)) in (
+      no-answer (setsIn (goalIn (now (s .packed)))) (actionOf (movesIn (now (s .packed)))) (s .depth .moves) (s .depth .at)
+          (entriesOf (s .count) (now (s .trues)) (now (s .falses))) (s .depth .left) q (c .none3 .ensures),
+      c .before .before .before .remember2 .ensures (now (s .packed)) (s .depth .moves) (g .inv .3)
+          (tried (now (s .packed)) (s .depth .moves) (entriesOf (s .count) (now (s .trues)) (now (s .falses))) (s .depth .at)
+          (s .depth .left) (c .before .before .before .before .before .before .before .before .before .before .before .before .before .before .before .before .before .before .before .pre .1 .no-shorter) q),
     )
 
 pub +try-move+try-plans-spec : {M : Type 1} → statement M

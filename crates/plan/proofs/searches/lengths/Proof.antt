@@ -1,4 +1,5 @@
--- `plan::searches::lengths` meets its contract. The loop's invariant: no plan that is shorter has an answer, and what the memory says is so. Assumes nothing.
+-- `plan::searches::lengths` meets its contract. The loop's invariant: no plan that is shorter has an answer, and what the memory says is
+-- so. Assumes nothing.
 use mathlib.Core.Path.{_≡_, refl, sym, _∙_}
 use Prim.Native.Nat.{_+_, _-_, _≤_}
 use native.Mathlib.Omega.{arith}
@@ -19,69 +20,72 @@ use Rattle.plan.proofs.searches.lengths.Tie as tie
 
 abbrev Inv-loop : tie.InvT-loop
 Inv-loop packed move-count trues falses count limit memory₀ length₀ memory length =
-    (firstBelow (firstFrom (setsIn (goalIn packed)) (actionOf (movesIn packed)) move-count 0 (entriesOf count trues falses)) length ≡ nothing) × (length ≤ limit + 1) × (N.length memory ≡ N.length memory₀) × Remembers packed move-count memory
+    (firstBelow (firstFrom (setsIn (goalIn packed)) (actionOf (movesIn packed)) move-count 0 (entriesOf count trues falses)) length
+    ≡ nothing) × (length ≤ limit + 1) × (N.length memory ≡ N.length memory₀) × Remembers packed move-count memory
 
 abbrev μ-loop : tie.MeasureT-loop
 μ-loop packed move-count trues falses count limit memory₀ length₀ memory length = limit + 1 - length
 
-forget-requires : tie.Need-forget-requires Inv-loop μ-loop
-forget-requires c κs = search needs
-
 loop-holds : tie.Need-loop-holds Inv-loop μ-loop
 loop-holds c =
-    let s = c .before .before .before .before .before .before .before .before .args in
-    (refl, omega arith, refl, c .before .before .forget .ensures (now (s .packed)) (s .move-count))
+    let after-forget = c .before .before in
+    let start = after-forget .before .before .before .before .before .before in
+    let s = start .args in
+    (refl, omega arith, refl, after-forget .forget .ensures (now (s .packed)) (s .move-count))
 
 try-plans-requires : tie.Need-try-plans-requires Inv-loop μ-loop
 unfolding entries
 try-plans-requires c κs =
-    let s = c .before .before .before .before .before .before .before .before .before .before .before .args in
-    let g = c .before .before .loop in
+    let at-loop = c .before .before in
+    let start = at-loop .before .before .before .before .before .before .before .before .before in
+    let s = start .args in
+    let g = at-loop .loop in
     record {
-      can = c .before .before .before .before .before .before .before .before .before .before .before .pre .0;
+      can = start .pre .0;
       most = omega arith;
-      no-shorter = quiet-lengths (setsIn (goalIn (now (s .packed)))) (actionOf (movesIn (now (s .packed)))) (s .move-count) (entriesOf (s .count) (now (s .trues)) (now (s .falses))) (g .length) (g .inv .0);
+      no-shorter = quiet-lengths (setsIn (goalIn (now (s .packed)))) (actionOf (movesIn (now (s .packed)))) (s .move-count)
+          (entriesOf (s .count) (now (s .trues)) (now (s .falses))) (g .length) (g .inv .0);
       remembers = g .inv .3;
     }
-
-is-end-requires : tie.Need-is-end-requires Inv-loop μ-loop
-is-end-requires c κs = search needs
-
-same-length : tie.Need-same-length Inv-loop μ-loop
-same-length c = search needs
 
 returns : tie.Need-returns Inv-loop μ-loop
 unfolding entries
 returns c =
-    let s = c .before .before .before .before .before .before .before .before .before .before .before .before .before .before .before .before .args in
-    let g = c .before .before .before .before .before .before .before .loop in
-    length-found (setsIn (goalIn (now (s .packed)))) (actionOf (movesIn (now (s .packed)))) (s .move-count) (entriesOf (s .count) (now (s .trues)) (now (s .falses))) (s .limit) (g .length) _ (g .inv .0) (c .before .before .before .before .before .before .loop-test .taken) (c .before .before .before .before .try-plans .ensures .0) (sym (c .before .is-end .ensures) ∙ c .if1 .taken)
-
-add-length : tie.Need-add-length Inv-loop μ-loop
-add-length c = search needs
-
-loop-less : tie.Need-loop-less Inv-loop μ-loop
-loop-less c = search needs
+    let after-try-plans = c .before .before .before .before in
+    let after-loop-test = after-try-plans .before .before in
+    let at-loop = after-loop-test .before in
+    let start = at-loop .before .before .before .before .before .before .before .before .before in
+    let s = start .args in
+    let g = at-loop .loop in
+    length-found (setsIn (goalIn (now (s .packed)))) (actionOf (movesIn (now (s .packed)))) (s .move-count)
+    (entriesOf (s .count) (now (s .trues)) (now (s .falses))) (s .limit) (g .length) _ (g .inv .0) (after-loop-test .loop-test .taken)
+    (after-try-plans .try-plans .ensures .0) (sym (c .before .is-end .ensures) ∙ c .if1 .taken)
 
 loop-again : tie.Need-loop-again Inv-loop μ-loop
 unfolding entries
 loop-again c =
-    let s = c .before .before .before .before .before .before .before .before .before .before .before .before .before .before .before .before .args in
-    let g = c .before .before .before .before .before .before .before .loop in
-    (length-next (setsIn (goalIn (now (s .packed)))) (actionOf (movesIn (now (s .packed)))) (s .move-count) (entriesOf (s .count) (now (s .trues)) (now (s .falses))) (s .limit) (g .length) _ (g .inv .0) (c .before .before .before .before .try-plans .ensures .0) (sym (c .before .is-end .ensures) ∙ c .if1 .left), omega arith, search needs, c .before .before .before .before .try-plans .ensures .1)
-
-none-requires : tie.Need-none-requires Inv-loop μ-loop
-none-requires c κs = search needs
-
-same-length-2 : tie.Need-same-length-2 Inv-loop μ-loop
-same-length-2 c = search needs
+    let after-try-plans = c .before .before .before .before in
+    let at-loop = after-try-plans .before .before .before in
+    let start = at-loop .before .before .before .before .before .before .before .before .before in
+    let s = start .args in
+    let g = at-loop .loop in (
+      length-next (setsIn (goalIn (now (s .packed)))) (actionOf (movesIn (now (s .packed)))) (s .move-count)
+          (entriesOf (s .count) (now (s .trues)) (now (s .falses))) (s .limit) (g .length) _ (g .inv .0)
+          (after-try-plans .try-plans .ensures .0) (sym (c .before .is-end .ensures) ∙ c .if1 .left),
+      omega arith,
+      search needs,
+      after-try-plans .try-plans .ensures .1,
+    )
 
 returns-2 : tie.Need-returns-2 Inv-loop μ-loop
 unfolding entries
 returns-2 c =
-    let s = c .before .before .before .before .before .before .before .before .before .before .before .args in
-    let g = c .before .before .loop in
-    length-none (setsIn (goalIn (now (s .packed)))) (actionOf (movesIn (now (s .packed)))) (s .move-count) (entriesOf (s .count) (now (s .trues)) (now (s .falses))) (s .limit) (g .length) _ (g .inv .0) (omega arith) (c .none .ensures)
+    let at-loop = c .before .before in
+    let start = at-loop .before .before .before .before .before .before .before .before .before in
+    let s = start .args in
+    let g = at-loop .loop in
+    length-none (setsIn (goalIn (now (s .packed)))) (actionOf (movesIn (now (s .packed)))) (s .move-count)
+    (entriesOf (s .count) (now (s .trues)) (now (s .falses))) (s .limit) (g .length) _ (g .inv .0) (omega arith) (c .none .ensures)
 
 pub lengths-spec : {M : Type 1} → statement M
 lengths-spec =
@@ -89,15 +93,15 @@ lengths-spec =
     (tie.spec
     Inv-loop
     μ-loop
-    forget-requires
+    (λ c κs. search needs)
     loop-holds
     try-plans-requires
-    is-end-requires
-    same-length
+    (λ c κs. search needs)
+    (λ c. search needs)
     returns
-    add-length
-    loop-less
+    (λ c. search needs)
+    (λ c. search needs)
     loop-again
-    none-requires
-    same-length-2
+    (λ c κs. search needs)
+    (λ c. search needs)
     returns-2)

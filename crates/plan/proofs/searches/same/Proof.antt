@@ -24,48 +24,21 @@ returns c = λ e. absurd (true≢false (sym e))
 loop-holds : tie.Need-loop-holds Inv-loop μ-loop
 loop-holds c = (omega arith, λ k l. absurd (not-suc-le-zero l), λ k l. absurd (not-suc-le-zero l))
 
-mul-if2 : tie.Need-mul-if2 Inv-loop μ-loop
-mul-if2 c = search needs
-
-shared-slice-read-if2 : tie.Need-shared-slice-read-if2 Inv-loop μ-loop
-shared-slice-read-if2 c = search needs
-
-mul-if2-2 : tie.Need-mul-if2-2 Inv-loop μ-loop
-mul-if2-2 c = search needs
-
-shared-slice-read-if2-2 : tie.Need-shared-slice-read-if2-2 Inv-loop μ-loop
-shared-slice-read-if2-2 c = search needs
-
 returns-2 : tie.Need-returns-2 Inv-loop μ-loop
 returns-2 c = λ e. absurd (true≢false (sym e))
-
-mul-if3 : tie.Need-mul-if3 Inv-loop μ-loop
-mul-if3 c = search needs
-
-shared-slice-read-if3 : tie.Need-shared-slice-read-if3 Inv-loop μ-loop
-shared-slice-read-if3 c = search needs
-
-mul-if3-2 : tie.Need-mul-if3-2 Inv-loop μ-loop
-mul-if3-2 c = search needs
-
-shared-slice-read-if3-2 : tie.Need-shared-slice-read-if3-2 Inv-loop μ-loop
-shared-slice-read-if3-2 c = search needs
 
 returns-3 : tie.Need-returns-3 Inv-loop μ-loop
 returns-3 c = λ e. absurd (true≢false (sym e))
 
-add-i : tie.Need-add-i Inv-loop μ-loop
-add-i c = search needs
-
-loop-less : tie.Need-loop-less Inv-loop μ-loop
-loop-less c = search needs
-
 loop-again : tie.Need-loop-again Inv-loop μ-loop
 loop-again c =
-    let v = c .before .before .before .before .before .before .before .loop in
-    let s = c .before .before .before .before .before .before .before .before .before .args in (
+    let after-if2 = c .before .before .before in
+    let at-loop = after-if2 .before .before .before .before in
+    let start = at-loop .before .before in
+    let v = at-loop .loop in
+    let s = start .args in (
       omega arith,
-      below-more (λ k. getD (now (s .trues)) k 0 ≡ getD (now (s .other-trues)) k 0) (v .i) (v .inv .1) (c .before .before .before .if2 .left),
+      below-more (λ k. getD (now (s .trues)) k 0 ≡ getD (now (s .other-trues)) k 0) (v .i) (v .inv .1) (after-if2 .if2 .left),
       below-more (λ k. getD (now (s .falses)) k 0 ≡ getD (now (s .other-falses)) k 0) (v .i) (v .inv .2) (c .if3 .left),
     )
 
@@ -75,7 +48,8 @@ returns-4 c = λ _.
     let v = c .before .loop in
     let e = c .before .before .if1 .left in
     agree-entries (s .count) (s .others) (now (s .trues)) (now (s .falses)) (now (s .other-trues)) (now (s .other-falses)) e
-    (λ i l. v .inv .1 i (omega (arith, e, v .inv .0, c .loop-test .left))) (λ i l. v .inv .2 i (omega (arith, e, v .inv .0, c .loop-test .left)))
+    (λ i l. v .inv .1 i (omega (arith, e, v .inv .0, c .loop-test .left)))
+    (λ i l. v .inv .2 i (omega (arith, e, v .inv .0, c .loop-test .left)))
 
 pub same-spec : {M : Type 1} → statement M
 same-spec =
@@ -85,17 +59,17 @@ same-spec =
     μ-loop
     returns
     loop-holds
-    mul-if2
-    shared-slice-read-if2
-    mul-if2-2
-    shared-slice-read-if2-2
+    (λ c. search needs)
+    (λ c. search needs)
+    (λ c. search needs)
+    (λ c. search needs)
     returns-2
-    mul-if3
-    shared-slice-read-if3
-    mul-if3-2
-    shared-slice-read-if3-2
+    (λ c. search needs)
+    (λ c. search needs)
+    (λ c. search needs)
+    (λ c. search needs)
     returns-3
-    add-i
-    loop-less
+    (λ c. search needs)
+    (λ c. search needs)
     loop-again
     returns-4)

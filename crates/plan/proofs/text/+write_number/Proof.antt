@@ -70,8 +70,10 @@ write-number-returns-2 : (t : ℕ) → write-number-lts.Need-returns-2 (claims t
 write-number-returns-2 t c =
     let s = c .before .before .before .before .before .before in
     let few = few-higher (s .args .value) (omega arith) in
-    let w = c .before .before .write-number in
-    (wrote-high _ _ _ _ _ (c .before .before .before .before .if1 .left) (omega arith) (w .kept .0) (w .ensures .0), omega (arith, w .ensures .0 .place))
+    let w = c .before .before .write-number in (
+      wrote-high _ _ _ _ _ (c .before .before .before .before .if1 .left) (omega arith) (w .kept .0) (w .ensures .0),
+      omega (arith, w .ensures .0 .place),
+    )
 
 pub +write-number-spec : {M : Type 1} → statement M
 +write-number-spec = close μ-write-number λ t. write-number-lts.spec (claims t) (write-number-at t) write-number.Post

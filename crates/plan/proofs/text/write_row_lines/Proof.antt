@@ -14,33 +14,31 @@ use Rattle.plan.proofs.text.write_row_lines.Tie as tie
 
 abbrev Inv-loop : tie.InvT-loop
 Inv-loop out₀ at rows entries clauses next₀ i₀ out next i =
-    (i ≤ rows) × (next ≤ at + 63 * i) × (length out ≡ length out₀) × Wrote out₀ at (rowsText (rowsBelow (countsIn rows entries clauses) i)) next out
+    (i ≤ rows) × (next ≤ at + 63 * i) × (length out ≡ length out₀)
+    × Wrote out₀ at (rowsText (rowsBelow (countsIn rows entries clauses) i)) next out
 
 abbrev μ-loop : tie.MeasureT-loop
 μ-loop out₀ at rows entries clauses next₀ i₀ out next i = rows - i
 
 loop-holds : tie.Need-loop-holds Inv-loop μ-loop
-loop-holds c = let a = c .before .args in (omega arith, omega arith, refl, wrote-no-rows (countsIn (a .rows) (a .entries .now) (a .clauses .now)) _ _)
-
-row-at-requires : tie.Need-row-at-requires Inv-loop μ-loop
-row-at-requires c κs = search needs
-
-write-row-line-requires : tie.Need-write-row-line-requires Inv-loop μ-loop
-write-row-line-requires c κs = omega arith
-
-add-i : tie.Need-add-i Inv-loop μ-loop
-add-i c = omega arith
-
-loop-less : tie.Need-loop-less Inv-loop μ-loop
-loop-less c = omega arith
+loop-holds c = let a = c .before .args in
+    (omega arith, omega arith, refl, wrote-no-rows (countsIn (a .rows) (a .entries .now) (a .clauses .now)) _ _)
 
 loop-again : tie.Need-loop-again Inv-loop μ-loop
 loop-again c =
-    let o = c .before .before .before .before .before .before in
-    let a = c .before .before .before .before .before .before .before .before .args in
-    let w = c .before .before .write-row-line in
-    let rows = countsIn (a .rows) (a .entries .now) (a .clauses .now) in
-    (omega arith, omega arith, w .kept .0 ∙ o .loop .inv .2, wrote-row rows (o .loop .i) (c .before .before .before .before .row-at .ensures) (o .loop .inv .3) (omega arith) (w .ensures .0))
+    let after-write-row-line = c .before .before in
+    let after-row-at = after-write-row-line .before .before in
+    let after-6 = after-row-at .before .before in
+    let start = after-6 .before .before in
+    let o = after-6 in
+    let a = start .args in
+    let w = after-write-row-line .write-row-line in
+    let rows = countsIn (a .rows) (a .entries .now) (a .clauses .now) in (
+      omega arith,
+      omega arith,
+      w .kept .0 ∙ o .loop .inv .2,
+      wrote-row rows (o .loop .i) (after-row-at .row-at .ensures) (o .loop .inv .3) (omega arith) (w .ensures .0),
+    )
 
 same-length : tie.Need-same-length Inv-loop μ-loop
 same-length c = c .before .loop .inv .2
@@ -60,10 +58,10 @@ write-row-lines-spec =
     Inv-loop
     μ-loop
     loop-holds
-    row-at-requires
-    write-row-line-requires
-    add-i
-    loop-less
+    (λ c κs. search needs)
+    (λ c κs. omega arith)
+    (λ c. omega arith)
+    (λ c. omega arith)
     loop-again
     same-length
     returns)

@@ -112,7 +112,8 @@ module _ {A : Type 0} where
   all-fails f [] t = t
   all-fails f (x ∷ xs) t = go (and-not (f x) (allOf f xs) t) (all-fails f xs)
     where
-      go : T (not (f x)) ⊎ T (not (allOf f xs)) → (T (not (allOf f xs)) → Any (λ y. T (not (f y))) xs) → T (not (f x)) ⊎ Any (λ y. T (not (f y))) xs
+      go : T (not (f x)) ⊎ T (not (allOf f xs)) → (T (not (allOf f xs)) → Any (λ y. T (not (f y))) xs) → T (not (f x))
+          ⊎ Any (λ y. T (not (f y))) xs
       go (inl l) k = inl l
       go (inr r) k = inr (k r)
 
@@ -186,7 +187,8 @@ module _ {A B : Type 0} where
   all-collected f P (x ∷ xs) h = all-append P (f x) (collect f xs) (h .0) (all-collected f P xs (h .1))
 
   -- the same w at whichever member
-  pub any-choose : (P : A → B → Type 0) (R : B → Type 0) (xs : List A) → Any (λ x. (w : B) × (P x w × R w)) xs → (w : B) × (Any (λ x. P x w) xs × R w)
+  pub any-choose : (P : A → B → Type 0) (R : B → Type 0) (xs : List A) → Any (λ x. (w : B) × (P x w × R w)) xs → (w : B)
+      × (Any (λ x. P x w) xs × R w)
   any-choose P R [] h = absurd h
   any-choose P R (x ∷ xs) (inl p) = (p .0, (inl (p .1 .0), p .1 .1))
   any-choose P R (x ∷ xs) (inr r) = let q = any-choose P R xs r in (q .0, (inr (q .1 .0), q .1 .1))

@@ -60,14 +60,16 @@ module _ {A : Type 0} where
   pad-suc (suc i) d [] h = ap (λ (r : List A). d ∷ r) (pad-suc i d [] (omega arith))
   pad-suc (suc i) d (x ∷ xs) h = ap (λ (r : List A). x ∷ r) (pad-suc i d xs (le-of-suc-le-suc h))
 
-  pub pad-over : (n cap : ℕ) (d : A) (xs ys : List A) → length xs ≤ n → length ys ≡ n → n ≤ cap → pad n d xs ++ drop n (pad cap d ys) ≡ pad cap d xs
+  pub pad-over : (n cap : ℕ) (d : A) (xs ys : List A) → length xs ≤ n → length ys ≡ n → n ≤ cap → pad n d xs
+      ++ drop n (pad cap d ys) ≡ pad cap d xs
   unfolding pad
   pad-over zero cap d [] [] h e k = refl
   pad-over zero cap d [] (y ∷ ys) h e k = absurd (suc-ne-zero (length ys) e)
   pad-over zero cap d (x ∷ xs) ys h e k = absurd (not-suc-le-zero h)
   pad-over (suc n) zero d xs ys h e k = absurd (not-suc-le-zero k)
   pad-over (suc n) (suc cap) d xs [] h e k = absurd (suc-ne-zero n (sym e))
-  pad-over (suc n) (suc cap) d [] (y ∷ ys) h e k = ap (λ (r : List A). d ∷ r) (pad-over n cap d [] ys (omega arith) (suc-inj e) (le-of-suc-le-suc k))
+  pad-over (suc n) (suc cap) d [] (y ∷ ys) h e k = ap (λ (r : List A). d ∷ r)
+      (pad-over n cap d [] ys (omega arith) (suc-inj e) (le-of-suc-le-suc k))
   pad-over (suc n) (suc cap) d (x ∷ xs) (y ∷ ys) h e k =
       ap (λ (r : List A). x ∷ r) (pad-over n cap d xs ys (le-of-suc-le-suc h) (suc-inj e) (le-of-suc-le-suc k))
 

@@ -102,7 +102,8 @@ roles-ascending : (n : ℕ) (last : Option ℕ) (k : ℕ) → Roles (ascending n
 unfolding ascending
 roles-ascending n last zero = tt
 roles-ascending n last (suc k) =
-    roles-then _ _ (roles-judged (literalFault n last) (told-literal n last)) (λ b. roles-then _ _ (roles-ascending n (some b) k) (λ bs. tt))
+    roles-then _ _ (roles-judged (literalFault n last) (told-literal n last))
+    (λ b. roles-then _ _ (roles-ascending n (some b) k) (λ bs. tt))
 
 roles-literals : (n low high : ℕ) → Roles (literals n low high)
 unfolding literals
@@ -118,7 +119,8 @@ unfolding actions action effect
 roles-actions n =
     roles-list 1 32 _
     (roles-then _ _ (roles-literals n 0 8) (λ p.
-    roles-then _ _ (roles-list 0 8 _ (roles-then _ _ (roles-literals n 0 4) (λ c. roles-then _ _ (roles-literals n 1 4) (λ r. tt)))) (λ es. tt)))
+    roles-then _ _ (roles-list 0 8 _ (roles-then _ _ (roles-literals n 0 4) (λ c. roles-then _ _ (roles-literals n 1 4) (λ r. tt))))
+    (λ es. tt)))
 
 roles-facts : Roles facts
 unfolding facts

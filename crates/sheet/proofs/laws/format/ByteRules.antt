@@ -73,13 +73,18 @@ after-of n l b = refl
 pub literal-3 : (n : ℕ) (last : Option ℕ) (b : ℕ) → (literalFault n last b ≡ 3) ↔ (2 * n ≤ b)
 unfolding chain
 literal-3 n none b = (λ e. leb-true _ _ (chain-3 _ false false (sym (first-of n b) ∙ e)), λ h. first-of n b ∙ rw (le-leb (2 * n) b h))
-literal-3 n (some l) b =
-    (λ e. leb-true _ _ (chain-3 _ (leb b l) (eqb (b / 2) (l / 2)) (sym (after-of n l b) ∙ e)), λ h. after-of n l b ∙ rw (le-leb (2 * n) b h))
+literal-3 n (some l) b = (
+  λ e. leb-true _ _ (chain-3 _ (leb b l) (eqb (b / 2) (l / 2)) (sym (after-of n l b) ∙ e)),
+  λ h. after-of n l b
+      ∙ rw (le-leb (2 * n) b h),
+)
 
 pub literal-4 : (n : ℕ) (last : Option ℕ) (b : ℕ) → (literalFault n last b ≡ 4) ↔ ((l : ℕ) × (last ≡ some l) × (b < 2 * n) × (b ≤ l))
 unfolding chain
-literal-4 n none b =
-    (λ e. absurd (no (chain-4 (leb (2 * n) b) false false (sym (first-of n b) ∙ e) .1)), λ r. absurd (let z : _≡_ {A = ℕ} 0 1 = cc (r .1) in omega arith))
+literal-4 n none b = (
+  λ e. absurd (no (chain-4 (leb (2 * n) b) false false (sym (first-of n b) ∙ e) .1)),
+  λ r. absurd (let z : _≡_ {A = ℕ} 0 1 = cc (r .1) in omega arith),
+)
   where
     no : false ≡ true → ⊥
     no e = let z : _≡_ {A = ℕ} 0 1 = cc in omega arith
@@ -98,8 +103,10 @@ literal-4 n (some l) b = (there, back)
 pub literal-5 : (n : ℕ) (last : Option ℕ) (b : ℕ)
     → (literalFault n last b ≡ 5) ↔ ((l : ℕ) × (last ≡ some l) × (b < 2 * n) × (l < b) × (b / 2 ≡ l / 2))
 unfolding chain
-literal-5 n none b =
-    (λ e. absurd (no (chain-5 (leb (2 * n) b) false false (sym (first-of n b) ∙ e) .2)), λ r. absurd (let z : _≡_ {A = ℕ} 0 1 = cc (r .1) in omega arith))
+literal-5 n none b = (
+  λ e. absurd (no (chain-5 (leb (2 * n) b) false false (sym (first-of n b) ∙ e) .2)),
+  λ r. absurd (let z : _≡_ {A = ℕ} 0 1 = cc (r .1) in omega arith),
+)
   where
     no : false ≡ true → ⊥
     no e = let z : _≡_ {A = ℕ} 0 1 = cc in omega arith
@@ -113,4 +120,8 @@ literal-5 n (some l) b = (there, back)
     back : (k : ℕ) × (some l ≡ some k) × (b < 2 * n) × (k < b) × (b / 2 ≡ k / 2) → literalFault n (some l) b ≡ 5
     back r =
         let q : l ≡ r .0 = cc (r .1) in
-        after-of n l b ∙ rw (lt-leb (2 * n) b (r .2), lt-leb b l (omega (arith, q, r .3)), eq-eqb (b / 2) (l / 2) (r .4 ∙ ap (λ (x : ℕ). x / 2) (sym q)))
+        after-of n l b ∙ rw (
+          lt-leb (2 * n) b (r .2),
+          lt-leb b l (omega (arith, q, r .3)),
+          eq-eqb (b / 2) (l / 2) (r .4 ∙ ap (λ (x : ℕ). x / 2) (sym q)),
+        )

@@ -57,7 +57,8 @@ module _ {A : Type 0} {f : Form A} {bytes : A → List ℕ} {P : A → Type 0} (
   lead g a bs h = due-then f g (bytes a) bs (codec .complete a h)
 
   -- the value of f in another shape: from the bytes to the value, and back
-  shaped : {C : Type 0} (make : A → C) (bs : List ℕ) (c : C) → due (f >>= (λ a. done (make a))) bs ≡ some (done c) → Shaped bytes P make bs c
+  shaped : {C : Type 0} (make : A → C) (bs : List ℕ) (c : C) → due (f >>= (λ a. done (make a))) bs ≡ some (done c)
+      → Shaped bytes P make bs c
   shaped make bs c e =
       let m = run-map f make bs c .0 e in
       let s : P (m .0) × (bs ≡ bytes (m .0)) = codec .sound bs (m .0) (m .1) in
@@ -77,7 +78,8 @@ codec-judged rule P iff = record {
 
 codec-count : (low high : ℕ) → Codec (count low high) (λ b. b ∷ []) (λ b. (low ≤ b) × (b ≤ high))
 unfolding countFault
-codec-count low high = codec-judged (countFault low high) _ (λ b. (count-range low high b, λ h. rw (le-ltb b low (h .0), le-ltb high b (h .1))))
+codec-count low high = codec-judged (countFault low high) _
+    (λ b. (count-range low high b, λ h. rw (le-ltb b low (h .0), le-ltb high b (h .1))))
 
 codec-number : (m : ℕ) → Codec (judged (numberFault m)) (λ b. b ∷ []) (λ b. b < m)
 unfolding numberFault
@@ -90,7 +92,8 @@ codec-number m = codec-judged (numberFault m) _ (λ b. (λ e. go b (leb m b) ref
 -- ---- lists
 
 module _ {A : Type 0} {one : Form A} {bytes : A → List ℕ} {P : A → Type 0} (codec : Codec one bytes P) where
-  times-sound : (k : ℕ) (bs : List ℕ) (xs : List A) → due (times k one) bs ≡ some (done xs) → (length xs ≡ k) × All P xs × (bs ≡ collect bytes xs)
+  times-sound : (k : ℕ) (bs : List ℕ) (xs : List A) → due (times k one) bs ≡ some (done xs) → (length xs ≡ k) × All P xs
+      × (bs ≡ collect bytes xs)
   unfolding times
   times-sound zero bs xs e =
       let r = run-done [] xs bs e in
@@ -99,7 +102,8 @@ module _ {A : Type 0} {one : Form A} {bytes : A → List ℕ} {P : A → Type 0}
       let p = led codec _ bs xs e in
       let m = run-map (times k one) (λ (ys : List A). p .value ∷ ys) (p .left) xs .0 (p .rest) in
       let r = times-sound k (p .left) (m .0) (m .1) in
-      subst (λ (ys : List A). (length ys ≡ suc k) × All P ys × (bs ≡ collect bytes ys)) (m .2) (ap suc (r .0), (p .proper, r .1), cc (p .whole, r .2))
+      subst (λ (ys : List A). (length ys ≡ suc k) × All P ys × (bs ≡ collect bytes ys)) (m .2)
+      (ap suc (r .0), (p .proper, r .1), cc (p .whole, r .2))
 
   times-complete : (xs : List A) → All P xs → due (times (length xs) one) (collect bytes xs) ≡ some (done xs)
   unfolding times due
@@ -126,7 +130,8 @@ module _ (n : ℕ) (bound : n ≤ 32) where
   unfolding literals setBytes
   codec-literals low high = record { sound = sound; complete = complete }
     where
-      sound : (bs : List ℕ) (a : Literals) → due (literals n low high) bs ≡ some (done a) → ProperList n low high a × (bs ≡ length (members a 0) ∷ members a 0)
+      sound : (bs : List ℕ) (a : Literals) → due (literals n low high) bs ≡ some (done a) → ProperList n low high a
+          × (bs ≡ length (members a 0) ∷ members a 0)
       sound bs a e =
           let p = led (codec-count low high) _ bs a e in
           let m = run-map (ascending n none (p .value)) setOf (p .left) a .0 (p .rest) in
@@ -174,12 +179,14 @@ module _ (n : ℕ) (bound : n ≤ 32) where
   codec-action = record {
     sound = λ bs a h.
         let p = led (codec-literals 0 8) _ bs a h in
-        let q = shaped (codec-list codec-effect 0 8) (λ (es : List Effect). record { precondition = p .value; effects = es }) (p .left) a (p .rest) in
+        let q = shaped (codec-list codec-effect 0 8) (λ (es : List Effect). record { precondition = p .value; effects = es }) (p .left) a
+        (p .rest) in
         subst (λ (x : Action). ProperAction n x × (bs ≡ setBytes (x .precondition) ++ listBytes effectBytes (x .effects))) (q .made)
         (record { precondition = p .proper; effects = q .proper }, cc (p .whole, q .whole));
     complete = λ a h.
         lead (codec-literals 0 8) _ (a .precondition) (listBytes effectBytes (a .effects)) (h .precondition)
-        ∙ shape (codec-list codec-effect 0 8) (λ (es : List Effect). record { precondition = a .precondition; effects = es }) (a .effects) (h .effects);
+        ∙ shape (codec-list codec-effect 0 8) (λ (es : List Effect). record { precondition = a .precondition; effects = es }) (a .effects)
+        (h .effects);
   }
 
   codec-actions : Codec (actions n) (listBytes actionBytes) (Counted 1 32 (ProperAction n))

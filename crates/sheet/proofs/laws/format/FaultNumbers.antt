@@ -62,10 +62,12 @@ module _ (s : List ℕ) where
       go (byte rule next) (c ∷ cs) n q = omega (arith, at-most-seven (n .0 c))
 
   -- ---- 1: the bytes end too early
-  pub judge-1 : (p : ℕ) → (judgeOf s ≡ Refused 1 p) ↔ ((p ≡ length s) × ((rule : ℕ → ℕ) × (next : ℕ → Form Statement) × (due sheet s ≡ some (byte rule next))))
+  pub judge-1 : (p : ℕ) → (judgeOf s ≡ Refused 1 p)
+      ↔ ((p ≡ length s) × ((rule : ℕ → ℕ) × (next : ℕ → Form Statement) × (due sheet s ≡ some (byte rule next))))
   judge-1 p = (there, back)
     where
-      there : judgeOf s ≡ Refused 1 p → (p ≡ length s) × ((rule : ℕ → ℕ) × (next : ℕ → Form Statement) × (due sheet s ≡ some (byte rule next)))
+      there : judgeOf s ≡ Refused 1 p → (p ≡ length s)
+          × ((rule : ℕ → ℕ) × (next : ℕ → Form Statement) × (due sheet s ≡ some (byte rule next)))
       there e = (end, go (r .form) (drop p s) (r .before) (roles-at 1 p r) (r .number))
         where
           r : FirstFault s 1 p
@@ -77,13 +79,15 @@ module _ (s : List ℕ) where
           whole : take p s ≡ s
           whole = ap (λ (i : ℕ). take i s) end ∙ take-length s
 
-          go : (g : Form Statement) (l : List ℕ) → due sheet (take p s) ≡ some g → Roles g → faultOf g l ≡ 1 → (rule : ℕ → ℕ) × (next : ℕ → Form Statement) × (due sheet s ≡ some (byte rule next))
+          go : (g : Form Statement) (l : List ℕ) → due sheet (take p s) ≡ some g → Roles g → faultOf g l ≡ 1 → (rule : ℕ → ℕ)
+              × (next : ℕ → Form Statement) × (due sheet s ≡ some (byte rule next))
           go (done x) [] b n q = absurd (omega arith)
           go (done x) (c ∷ cs) b n q = absurd (omega arith)
           go (byte rule next) [] b n q = (rule, next, ap (due sheet) (sym whole) ∙ b)
           go (byte rule next) (c ∷ cs) b n q = absurd (not-one (n .0 c) q)
 
-      back : (p ≡ length s) × ((rule : ℕ → ℕ) × (next : ℕ → Form Statement) × (due sheet s ≡ some (byte rule next))) → judgeOf s ≡ Refused 1 p
+      back : (p ≡ length s) × ((rule : ℕ → ℕ) × (next : ℕ → Form Statement) × (due sheet s ≡ some (byte rule next)))
+          → judgeOf s ≡ Refused 1 p
       back h = go (drop p s) refl
         where
           go : (l : List ℕ) → drop p s ≡ l → judgeOf s ≡ Refused 1 p
@@ -106,9 +110,11 @@ module _ (s : List ℕ) where
           r : FirstFault s 6 p
           r = judge-refused s 6 p .0 e
 
-          go : (g : Form Statement) (l : List ℕ) → drop p s ≡ l → due sheet (take p s) ≡ some g → Roles g → faultOf g l ≡ 6 → (p < length s) × (judgeOf (take p s) ≡ Accepted)
+          go : (g : Form Statement) (l : List ℕ) → drop p s ≡ l → due sheet (take p s) ≡ some g → Roles g → faultOf g l ≡ 6
+              → (p < length s) × (judgeOf (take p s) ≡ Accepted)
           go (done x) [] d b n q = absurd (omega arith)
-          go (done x) (c ∷ cs) d b n q = (omega (arith, length-drop p s, ap length d), judge-says (take p s) .1 (x, judging.accepted-iff (take p s) x .1 b))
+          go (done x) (c ∷ cs) d b n
+              q = (omega (arith, length-drop p s, ap length d), judge-says (take p s) .1 (x, judging.accepted-iff (take p s) x .1 b))
           go (byte rule next) [] d b n q = absurd (omega arith)
           go (byte rule next) (c ∷ cs) d b n q = absurd (not-six (n .0 c) q)
 
@@ -144,7 +150,13 @@ module _ (s : List ℕ) where
       go (done x) (c ∷ cs) d b n q = absurd (i (sym q))
       go (byte rule next) [] d b n q = absurd (h (sym q))
       go (byte rule next) (c ∷ cs) d b n q =
-          record { rule = rule; value = c; at = record { next = next; before = b; later = cs; here = d }; gives = q; tells = subst (TellsRole rule) q (n .0 c) }
+          record {
+            rule = rule;
+            value = c;
+            at = record { next = next; before = b; later = cs; here = d };
+            gives = q;
+            tells = subst (TellsRole rule) q (n .0 c);
+          }
 
   breaks : (k p : ℕ) (rule : ℕ → ℕ) (b : ℕ) → (k ≡ 0 → ⊥) → ByteDue s p rule b → rule b ≡ k → judgeOf s ≡ Refused k p
   breaks k p rule b h d e =
@@ -161,17 +173,25 @@ module _ (s : List ℕ) where
   Due k p f = (b : ℕ) × ByteDue s p f b × (f b ≡ k)
 
   due-by : (k p : ℕ) (r : Broken k p) (f : ℕ → ℕ) → r .rule ≡ f → Due k p f
-  due-by k p r f e = (r .value, subst (λ (g : ℕ → ℕ). ByteDue s p g (r .value)) e (r .at), ap (λ (g : ℕ → ℕ). g (r .value)) (sym e) ∙ r .gives)
+  due-by k p r f e = (
+    r .value,
+    subst (λ (g : ℕ → ℕ). ByteDue s p g (r .value)) e (r .at),
+    ap (λ (g : ℕ → ℕ). g (r .value)) (sym e)
+        ∙ r .gives,
+  )
 
-  pub judge-2 : (p : ℕ) → (judgeOf s ≡ Refused 2 p) ↔ ((low : ℕ) × (high : ℕ) × (b : ℕ) × ByteDue s p (countFault low high) b × ((b < low) ⊎ (high < b)))
+  pub judge-2 : (p : ℕ) → (judgeOf s ≡ Refused 2 p)
+      ↔ ((low : ℕ) × (high : ℕ) × (b : ℕ) × ByteDue s p (countFault low high) b × ((b < low) ⊎ (high < b)))
   judge-2 p = (
     λ e. let r = broken 2 p (λ z. omega arith) (λ z. omega arith) e in go r (r .tells),
     λ h. breaks 2 p (countFault (h .0) (h .1)) (h .2) (λ z. omega arith) (h .3) (count-2 (h .0) (h .1) (h .2) .1 (h .4)),
   )
     where
-      go : (r : Broken 2 p) → TellsRole (r .rule) 2 → (low : ℕ) × (high : ℕ) × (b : ℕ) × ByteDue s p (countFault low high) b × ((b < low) ⊎ (high < b))
+      go : (r : Broken 2 p) → TellsRole (r .rule) 2 → (low : ℕ) × (high : ℕ) × (b : ℕ) × ByteDue s p (countFault low high) b
+          × ((b < low) ⊎ (high < b))
       go r (fine e) = absurd (omega arith)
-      go r (of-count low high f e) = let d = due-by 2 p r (countFault low high) f in (low, high, d .0, d .1, count-2 low high (d .0) .0 (d .2))
+      go r (of-count low high f e) = let d = due-by 2 p r (countFault low high) f in
+          (low, high, d .0, d .1, count-2 low high (d .0) .0 (d .2))
       go r (of-literal n last f l h) = absurd (omega arith)
       go r (of-number m f e) = absurd (omega arith)
 
@@ -203,31 +223,38 @@ module _ (s : List ℕ) where
       go (of-literal n last f l h) = (n, last, due-by k p r (literalFault n last) f)
       go (of-number m f z) = absurd (omega arith)
 
-  due-after : (p n b l : ℕ) (last : Option ℕ) → last ≡ some l → ByteDue s p (literalFault n last) b → ByteDue s p (literalFault n (some l)) b
+  due-after : (p n b l : ℕ) (last : Option ℕ) → last ≡ some l → ByteDue s p (literalFault n last) b
+      → ByteDue s p (literalFault n (some l)) b
   due-after p n b l last e d = subst (λ (o : Option ℕ). ByteDue s p (literalFault n o) b) e d
 
-  pub judge-3 : (p : ℕ) → (judgeOf s ≡ Refused 3 p) ↔ ((n : ℕ) × (last : Option ℕ) × (b : ℕ) × ByteDue s p (literalFault n last) b × (2 * n ≤ b))
+  pub judge-3 : (p : ℕ) → (judgeOf s ≡ Refused 3 p)
+      ↔ ((n : ℕ) × (last : Option ℕ) × (b : ℕ) × ByteDue s p (literalFault n last) b × (2 * n ≤ b))
   judge-3 p = (
-    λ e. let k = literal-at 3 p (omega arith) (omega arith) e in let d = k .2 in (k .0, k .1, d .0, d .1, literal-3 (k .0) (k .1) (d .0) .0 (d .2)),
+    λ e. let k = literal-at 3 p (omega arith) (omega arith) e in let d = k .2 in
+        (k .0, k .1, d .0, d .1, literal-3 (k .0) (k .1) (d .0) .0 (d .2)),
     λ h. breaks 3 p (literalFault (h .0) (h .1)) (h .2) (λ z. omega arith) (h .3) (literal-3 (h .0) (h .1) (h .2) .1 (h .4)),
   )
 
-  pub judge-4 : (p : ℕ) → (judgeOf s ≡ Refused 4 p) ↔ ((n : ℕ) × (l : ℕ) × (b : ℕ) × ByteDue s p (literalFault n (some l)) b × (b < 2 * n) × (b ≤ l))
+  pub judge-4 : (p : ℕ) → (judgeOf s ≡ Refused 4 p)
+      ↔ ((n : ℕ) × (l : ℕ) × (b : ℕ) × ByteDue s p (literalFault n (some l)) b × (b < 2 * n) × (b ≤ l))
   judge-4 p = (
     λ e.
         let k = literal-at 4 p (omega arith) (omega arith) e in
         let d = k .2 in
         let i = literal-4 (k .0) (k .1) (d .0) .0 (d .2) in
         (k .0, i .0, d .0, due-after p (k .0) (d .0) (i .0) (k .1) (i .1) (d .1), i .2, i .3),
-    λ h. breaks 4 p (literalFault (h .0) (some (h .1))) (h .2) (λ z. omega arith) (h .3) (literal-4 (h .0) (some (h .1)) (h .2) .1 (h .1, refl, h .4, h .5)),
+    λ h. breaks 4 p (literalFault (h .0) (some (h .1))) (h .2) (λ z. omega arith) (h .3)
+        (literal-4 (h .0) (some (h .1)) (h .2) .1 (h .1, refl, h .4, h .5)),
   )
 
-  pub judge-5 : (p : ℕ) → (judgeOf s ≡ Refused 5 p) ↔ ((n : ℕ) × (l : ℕ) × (b : ℕ) × ByteDue s p (literalFault n (some l)) b × (b < 2 * n) × (l < b) × (b / 2 ≡ l / 2))
+  pub judge-5 : (p : ℕ) → (judgeOf s ≡ Refused 5 p)
+      ↔ ((n : ℕ) × (l : ℕ) × (b : ℕ) × ByteDue s p (literalFault n (some l)) b × (b < 2 * n) × (l < b) × (b / 2 ≡ l / 2))
   judge-5 p = (
     λ e.
         let k = literal-at 5 p (omega arith) (omega arith) e in
         let d = k .2 in
         let i = literal-5 (k .0) (k .1) (d .0) .0 (d .2) in
         (k .0, i .0, d .0, due-after p (k .0) (d .0) (i .0) (k .1) (i .1) (d .1), i .2, i .3, i .4),
-    λ h. breaks 5 p (literalFault (h .0) (some (h .1))) (h .2) (λ z. omega arith) (h .3) (literal-5 (h .0) (some (h .1)) (h .2) .1 (h .1, refl, h .4, h .5, h .6)),
+    λ h. breaks 5 p (literalFault (h .0) (some (h .1))) (h .2) (λ z. omega arith) (h .3)
+        (literal-5 (h .0) (some (h .1)) (h .2) .1 (h .1, refl, h .4, h .5, h .6)),
   )

@@ -23,7 +23,8 @@ pub passed-some : {B : Type 0} (k : ℕ) {x : Option B} {y : B} → passed k x �
 passed-some zero e = (refl, e)
 passed-some (suc k) e = (cc, cc)
 
-pub due-cons : {A : Type 0} (rule : ℕ → ℕ) (next : ℕ → Form A) (b : ℕ) (bs : List ℕ) {x : Option (Form A)} → rule b ≡ 0 → due (next b) bs ≡ x
+pub due-cons : {A : Type 0} (rule : ℕ → ℕ) (next : ℕ → Form A) (b : ℕ) (bs : List ℕ) {x : Option (Form A)} → rule b ≡ 0
+    → due (next b) bs ≡ x
     → due (byte rule next) (b ∷ bs) ≡ x
 unfolding due
 due-cons rule next b bs z e = rw z e
@@ -121,7 +122,8 @@ pub record Stop {A : Type 0} (f : Form A) (s : List ℕ) : Type 0 where
   pub form : Form A
   pub whole : s ≡ taken ++ left
   pub before : due f taken ≡ some form
-  pub why : ((a : A) × (form ≡ done a)) ⊎ ((rule : ℕ → ℕ) × (next : ℕ → Form A) × (k : ℕ) × (form ≡ byte rule next) × (faultOf form left ≡ suc k))
+  pub why : ((a : A) × (form ≡ done a)) ⊎
+      ((rule : ℕ → ℕ) × (next : ℕ → Form A) × (k : ℕ) × (form ≡ byte rule next) × (faultOf form left ≡ suc k))
 
 pub stop : {A : Type 0} (f : Form A) (s : List ℕ) → Stop f s
 unfolding due
@@ -237,7 +239,12 @@ bounded-then f g d e p q bs h u = go (due-split f g bs u)
   where
     go : Parts f g bs h ⊎ Inside f g bs h → length bs ≤ d + e
     go (inl r) =
-        omega (arith, simp length-append at (ap length (r .whole)), p (r .first) _ (r .of-first), q (r .value) (r .first) (r .of-first) (r .second) h (r .of-second))
+        omega (
+          arith,
+          simp length-append at (ap length (r .whole)),
+          p (r .first) _ (r .of-first),
+          q (r .value) (r .first) (r .of-first) (r .second) h (r .of-second),
+        )
     go (inr r) = omega (arith, p bs _ (r .of-first))
 
 pub bounded-times : {A : Type 0} (one : Form A) (d : ℕ) → Bounded one d → (k : ℕ) → Bounded (times k one) (k * d)
@@ -245,7 +252,8 @@ unfolding times
 bounded-times one d h zero = rw zero-mul (bounded-done [])
 bounded-times one d h (suc k) =
     bounded-le _ _ _ (omega (arith, suc-mul k d))
-    (bounded-then one _ d (k * d + 0) h (λ x bs p. bounded-then (times k one) _ (k * d) 0 (bounded-times one d h k) (λ xs cs q. bounded-done (x ∷ xs))))
+    (bounded-then one _ d (k * d + 0) h
+    (λ x bs p. bounded-then (times k one) _ (k * d) 0 (bounded-times one d h k) (λ xs cs q. bounded-done (x ∷ xs))))
 
 -- a count without fault is in its range
 pub count-range : (low high b : ℕ) → countFault low high b ≡ 0 → (low ≤ b) × (b ≤ high)

@@ -73,7 +73,8 @@ judgement s = go (stop sheet s)
 
 fault-refused : (s : List ℕ) (k p : ℕ) → FirstFault s k p → sheetOf s ≡ refused k p
 fault-refused s k p r =
-    rw (take-append-drop, length-take-le p s (r .within)) at (refused-at (take p s) (drop p s) (r .form) k (r .before) (r .number) (r .wrong))
+    rw (take-append-drop, length-take-le p s (r .within)) at
+    (refused-at (take p s) (drop p s) (r .form) k (r .before) (r .number) (r .wrong))
 
 pub refused-iff : (s : List ℕ) (k p : ℕ) → (sheetOf s ≡ refused k p) ↔ FirstFault s k p
 refused-iff s k p = (λ e. go e (judgement s), fault-refused s k p)
@@ -124,14 +125,16 @@ agree s p l t w =
 pub local : (s : List ℕ) (k p : ℕ) → sheetOf s ≡ refused k p → (k ≡ 1 → ⊥) → (t : List ℕ) → take (p + 1) t ≡ take (p + 1) s
     → sheetOf t ≡ refused k p
 local s k p e h t w =
-    rw (length-take-le p s (r .within)) at (ap sheetOf (agree s p inside t w) ∙ refused-at (take p s) _ (r .form) k (r .before) number (r .wrong))
+    rw (length-take-le p s (r .within)) at
+    (ap sheetOf (agree s p inside t w) ∙ refused-at (take p s) _ (r .form) k (r .before) number (r .wrong))
   where
     r : FirstFault s k p
     r = refused-iff s k p .0 e
 
     inside : p < length s
     inside =
-        let n : p ≡ length s → ⊥ = λ q. omega (arith, fault-none (r .form), r .wrong, rw (drop-of-length-le s (le-of-eq (sym q))) at (r .number)) in
+        let n : p ≡ length s → ⊥ = λ q. omega
+        (arith, fault-none (r .form), r .wrong, rw (drop-of-length-le s (le-of-eq (sym q))) at (r .number)) in
         omega (arith, r .within)
 
     number : faultOf (r .form) (getD s p 0 ∷ drop (suc p) t) ≡ k
@@ -182,7 +185,8 @@ bounded-actions : (n : ℕ) → Bounded (actions n) 2881
 unfolding actions action
 bounded-actions n =
     bounded-list 1 32 _ 90
-    (bounded-then _ _ 9 81 (bounded-literals n 0 8) (λ c bs p. bounded-then _ _ 81 0 (bounded-list 0 8 _ 10 (bounded-effect n)) (λ r cs q. bounded-done _)))
+    (bounded-then _ _ 9 81 (bounded-literals n 0 8)
+    (λ c bs p. bounded-then _ _ 81 0 (bounded-list 0 8 _ 10 (bounded-effect n)) (λ r cs q. bounded-done _)))
 
 bounded-facts : Bounded facts 692
 unfolding facts

@@ -82,7 +82,8 @@ contains-literal : (b m : ℕ) → contains (literal b) m ≡ eqb m b
 unfolding contains literal
 contains-literal b m =
     iff-eq _ _
-    (λ e. let i : (sign m ≡ sign b) × (m / 2 ≡ b / 2) = single-is (sign b) (b / 2) (sign m) (m / 2) e in eq-eqb m b (sym (byte-of m) ∙ ap₂ byte (i .0) (i .1) ∙ byte-of b))
+    (λ e. let i : (sign m ≡ sign b) × (m / 2 ≡ b / 2) = single-is (sign b) (b / 2) (sign m) (m / 2) e in eq-eqb m b
+    (sym (byte-of m) ∙ ap₂ byte (i .0) (i .1) ∙ byte-of b))
     (λ e. ap (λ (x : ℕ). mem (single (sign b) (b / 2)) (sign x) (x / 2)) (eqb-true m b e) ∙ mem-self (sign b) (b / 2))
 
 pub mem-none : (s : Bool) (p : ℕ) → mem noLiteral s p ≡ false
@@ -96,20 +97,23 @@ contains-nil m = mem-none (sign m) (m / 2)
 
 contains-cons : (b : ℕ) (bs : List ℕ) (m : ℕ) → contains (setOf (b ∷ bs)) m ≡ (eqb m b || contains (setOf bs) m)
 unfolding contains setOf
-contains-cons b bs m = mem-join (literal b) (setOf bs) (sign m) (m / 2) ∙ ap (λ (t : Bool). t || mem (setOf bs) (sign m) (m / 2)) (contains-literal b m)
+contains-cons b bs m = mem-join (literal b) (setOf bs) (sign m) (m / 2)
+    ∙ ap (λ (t : Bool). t || mem (setOf bs) (sign m) (m / 2)) (contains-literal b m)
 
 -- a literal is in the set if it is in the list
 of-contains : (bs : List ℕ) (m : ℕ) → contains (setOf bs) m ≡ true → List·Memᴰ m bs
 of-contains [] m e = absurd (false≢true (sym (contains-nil m) ∙ e))
 of-contains (b ∷ bs) m e =
-    ⊎-elim (λ (q : eqb m b ≡ true). List·Memᴰ·head (eqb-true m b q)) (λ (q : contains (setOf bs) m ≡ true). List·Memᴰ·tail (of-contains bs m q))
+    ⊎-elim (λ (q : eqb m b ≡ true). List·Memᴰ·head (eqb-true m b q))
+    (λ (q : contains (setOf bs) m ≡ true). List·Memᴰ·tail (of-contains bs m q))
     (or-cases _ _ (sym (contains-cons b bs m) ∙ e))
 
 contains-of : (bs : List ℕ) (m : ℕ) → List·Memᴰ m bs → contains (setOf bs) m ≡ true
 contains-of [] m i = absurd (List·Memᴰ·not-nil i)
 contains-of (b ∷ bs) m i =
     contains-cons b bs m
-    ∙ ⊎-elim (λ (q : m ≡ b). or-left _ _ (eq-eqb m b q)) (λ (j : List·Memᴰ m bs). or-right (eqb m b) _ (contains-of bs m j)) (List·Memᴰ·cases-cons i)
+    ∙ ⊎-elim (λ (q : m ≡ b). or-left _ _ (eq-eqb m b q)) (λ (j : List·Memᴰ m bs). or-right (eqb m b) _ (contains-of bs m j))
+    (List·Memᴰ·cases-cons i)
 
 -- no literal of the set is below the list's start
 from-least : (n l : ℕ) (bs : List ℕ) → From n l bs → (m : ℕ) → contains (setOf bs) m ≡ true → l ≤ m
@@ -138,7 +142,11 @@ from-consistent n l (b ∷ bs) h =
     go : (t : Bool) → mem (setOf bs) (not (sign b)) (b / 2) ≡ t → mem (setOf bs) (not (sign b)) (b / 2) ≡ false
     go true q =
         let c : ℕ = byte (not (sign b)) (b / 2) in
-        absurd (omega (arith, byte-place (not (sign b)) (b / 2), from-least n (beyond b) bs (h .2) c (contains-byte (setOf bs) (not (sign b)) (b / 2) ∙ q)))
+        absurd (omega (
+          arith,
+          byte-place (not (sign b)) (b / 2),
+          from-least n (beyond b) bs (h .2) c (contains-byte (setOf bs) (not (sign b)) (b / 2) ∙ q),
+        ))
     go false q = q
 
 -- the first literal from l on is the next one
@@ -209,7 +217,8 @@ set-members n h a b = set-ext _ _ (λ s p. sym (contains-byte _ s p) ∙ same s 
     same : (s : Bool) (p : ℕ) → contains (setOf (members a 0)) (byte s p) ≡ contains a (byte s p)
     same s p =
         iff-eq _ _ (λ e. of-member a (byte s p) 0 (of-contains (members a 0) (byte s p) e) .2)
-        (λ e. contains-of (members a 0) (byte s p) (member-of a (byte s p) (omega (arith, contains-lt n a b (byte s p) e)) e 0 (omega arith)))
+        (λ e. contains-of (members a 0) (byte s p)
+        (member-of a (byte s p) (omega (arith, contains-lt n a b (byte s p) e)) e 0 (omega arith)))
 
 -- ---- lists without fault are the lists of consistent sets
 

@@ -167,12 +167,14 @@ members-loop a l e h =
 
 -- a byte is listed if it is a literal of a from l on
 pub of-member : (a : Literals) (m l : ℕ) → List·Memᴰ m (members a l) → (l ≤ m) × (m < 64) × (contains a m ≡ true)
-of-member a m = down P (λ l h i. absurd (List·Memᴰ·not-nil (subst (List·Memᴰ m) (members-end a l h) i))) (λ l h r i. pick l h r i (contains a l) refl)
+of-member a m = down P (λ l h i. absurd (List·Memᴰ·not-nil (subst (List·Memᴰ m) (members-end a l h) i)))
+    (λ l h r i. pick l h r i (contains a l) refl)
   where
     P : ℕ → Type 0
     P l = List·Memᴰ m (members a l) → (l ≤ m) × (m < 64) × (contains a m ≡ true)
 
-    pick : (l : ℕ) → l < 64 → P (l + 1) → List·Memᴰ m (members a l) → (t : Bool) → contains a l ≡ t → (l ≤ m) × (m < 64) × (contains a m ≡ true)
+    pick : (l : ℕ) → l < 64 → P (l + 1) → List·Memᴰ m (members a l) → (t : Bool) → contains a l ≡ t → (l ≤ m) × (m < 64)
+        × (contains a m ≡ true)
     pick l h r i true e =
         ⊎-elim (λ (q : m ≡ l). (omega arith, omega arith, ap (contains a) q ∙ e))
         (λ (j : List·Memᴰ m (members a (l + 1))). let k = r j in (omega arith, k .1, k .2))

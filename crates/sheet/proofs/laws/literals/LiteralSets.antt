@@ -62,7 +62,8 @@ mem-state n w h true p = go (has w p) refl
 pub set-ext : (a b : Literals) → ((s : Bool) (p : ℕ) → mem a s p ≡ mem b s p) → a ≡ b
 unfolding mem
 set-ext a b h =
-    ap₂ {C = Literals} (λ (x y : ℕ). record { trues = x; falses = y }) (ext (a .trues) (b .trues) (h true)) (ext (a .falses) (b .falses) (h false))
+    ap₂ {C = Literals} (λ (x y : ℕ). record { trues = x; falses = y }) (ext (a .trues) (b .trues) (h true))
+    (ext (a .falses) (b .falses) (h false))
 
 -- ---- within
 
@@ -87,7 +88,8 @@ not-within a b e = go (eqb (bitAnd (a .trues) (b .trues)) (a .trues)) refl
     go : (t : Bool) → eqb (bitAnd (a .trues) (b .trues)) (a .trues) ≡ t
         → (s : Bool) × (p : ℕ) × (has (side a s) p ≡ true) × (has (side b s) p ≡ false)
     go true f =
-        let r = not-sub (a .falses) (b .falses) (eqb-false _ _ (ap (λ (t : Bool). t && eqb (bitAnd (a .falses) (b .falses)) (a .falses)) (sym f) ∙ e)) in
+        let r = not-sub (a .falses) (b .falses)
+        (eqb-false _ _ (ap (λ (t : Bool). t && eqb (bitAnd (a .falses) (b .falses)) (a .falses)) (sym f) ∙ e)) in
         (false, r .0, r .1, r .2)
     go false f = let r = not-sub (a .trues) (b .trues) (eqb-false _ _ f) in (true, r .0, r .1, r .2)
 
@@ -115,7 +117,8 @@ clash-at a b e = go (eqb (bitAnd (a .trues) (b .falses)) 0) refl
     go : (t : Bool) → eqb (bitAnd (a .trues) (b .falses)) 0 ≡ t
         → (s : Bool) × (p : ℕ) × (has (side a s) p ≡ true) × (has (side b (not s)) p ≡ true)
     go true f =
-        let r = not-disjoint (a .falses) (b .trues) (eqb-false _ _ (ap (λ (t : Bool). t && eqb (bitAnd (a .falses) (b .trues)) 0) (sym f) ∙ not-true _ e)) in
+        let r = not-disjoint (a .falses) (b .trues)
+        (eqb-false _ _ (ap (λ (t : Bool). t && eqb (bitAnd (a .falses) (b .trues)) 0) (sym f) ∙ not-true _ e)) in
         (false, r .0, r .1, r .2)
     go false f = let r = not-disjoint (a .trues) (b .falses) (eqb-false _ _ f) in (true, r .0, r .1, r .2)
 
@@ -169,7 +172,8 @@ pub within-join : (a b c : Literals) → within (join a b) c ≡ (within a c && 
 within-join a b c =
     iff-eq _ _
     (λ e. let w = true-T (within (join a b) c) e in
-    both _ _ (T-true (within a c) (within-trans a (join a b) c (within-join-l a b) w)) (T-true (within b c) (within-trans b (join a b) c (within-join-r a b) w)))
+    both _ _ (T-true (within a c) (within-trans a (join a b) c (within-join-l a b) w))
+    (T-true (within b c) (within-trans b (join a b) c (within-join-r a b) w)))
     (λ e.
     of-within _ _ (λ s p m.
     ⊎-elim (within-of a c (and-eq-true-iff _ _ .0 e .0) s p) (within-of b c (and-eq-true-iff (within a c) _ .0 e .1) s p)
@@ -177,7 +181,8 @@ within-join a b c =
 
 pub join-same : (a b : Literals) → within b a ≡ true → join a b ≡ a
 join-same a b e =
-    within-antisym _ _ (within-join a b a ∙ both _ _ (T-true (within a a) (within-refl a)) e) (T-true (within a (join a b)) (within-join-l a b))
+    within-antisym _ _ (within-join a b a ∙ both _ _ (T-true (within a a) (within-refl a)) e)
+    (T-true (within a (join a b)) (within-join-l a b))
 
 pub join-comm : (a b : Literals) → join a b ≡ join b a
 join-comm a b = set-ext _ _ (λ s p. simp mem-join (or-comm (mem a s p) (mem b s p)))
@@ -206,7 +211,8 @@ clash-join a b c =
     ⊎-elim (λ m. or-left _ _ (clash-here a c (r .0) (r .1) m (r .3))) (λ m. or-right (clash a c) _ (clash-here b c (r .0) (r .1) m (r .3)))
     (or-cases (mem a (r .0) (r .1)) (mem b (r .0) (r .1)) (sym (mem-join a b (r .0) (r .1)) ∙ r .2)))
     (λ e.
-    ⊎-elim (clash-within a (join a b) c (T-true (within a (join a b)) (within-join-l a b))) (clash-within b (join a b) c (T-true (within b (join a b)) (within-join-r a b))) (or-cases (clash a c) (clash b c) e))
+    ⊎-elim (clash-within a (join a b) c (T-true (within a (join a b)) (within-join-l a b)))
+    (clash-within b (join a b) c (T-true (within b (join a b)) (within-join-r a b))) (or-cases (clash a c) (clash b c) e))
 
 pub consistent-clash : (a : Literals) → consistent a ≡ not (clash a a)
 unfolding consistent clash
@@ -286,7 +292,8 @@ clash-single s p a =
 
 pub consistent-single : (s : Bool) (p : ℕ) → consistent (single s p) ≡ true
 consistent-single s p =
-    consistent-clash (single s p) ∙ ap not (clash-single s p (single s p) ∙ mem-single s p (not s) p ∙ ap (λ (t : Bool). t && eqb p p) (other s))
+    consistent-clash (single s p) ∙ ap not
+    (clash-single s p (single s p) ∙ mem-single s p (not s) p ∙ ap (λ (t : Bool). t && eqb p p) (other s))
   where
     other : (s : Bool) → Bool·beq s (not s) ≡ false
     other true = refl
@@ -301,7 +308,8 @@ meet-at a b e =
 
 pub meet-here : (a b : Literals) (s : Bool) (p : ℕ) → mem a s p ≡ true → mem b s p ≡ true → clash (flip a) b ≡ true
 meet-here a b s p e f =
-    clash-here (flip a) b (not s) p (mem-flip a (not s) p ∙ ap (λ (t : Bool). mem a t p) (not-not s) ∙ e) (ap (λ (t : Bool). mem b t p) (not-not s) ∙ f)
+    clash-here (flip a) b (not s) p (mem-flip a (not s) p ∙ ap (λ (t : Bool). mem a t p) (not-not s) ∙ e)
+    (ap (λ (t : Bool). mem b t p) (not-not s) ∙ f)
 
 -- ---- the propositions named
 
@@ -332,7 +340,8 @@ below-within n a b w e = of-below n a (λ s p m. below-of n b e s p (within-of a
 pub below-join : (n : ℕ) (a b : Literals) → below n (join a b) ≡ (below n a && below n b)
 below-join n a b =
     iff-eq _ _
-    (λ e. both _ _ (below-within n a _ (T-true (within a (join a b)) (within-join-l a b)) e) (below-within n b _ (T-true (within b (join a b)) (within-join-r a b)) e))
+    (λ e. both _ _ (below-within n a _ (T-true (within a (join a b)) (within-join-l a b)) e)
+    (below-within n b _ (T-true (within b (join a b)) (within-join-r a b)) e))
     (λ e.
     of-below n _ (λ s p m.
     ⊎-elim (below-of n a (and-eq-true-iff _ _ .0 e .0) s p) (below-of n b (and-eq-true-iff (below n a) _ .0 e .1) s p)

@@ -36,7 +36,8 @@ unfolding trailingZeros
 trailing-bit zero x h z = absurd (z (omega arith))
 trailing-bit (suc k) x h z = go (x % 2) refl (λ (y : x / 2 ≡ 0 → ⊥). trailing-bit k (x / 2) (omega arith) y)
   where
-    go : (d : ℕ) → x % 2 ≡ d → ((x / 2 ≡ 0 → ⊥) → has (x / 2) (trailingZeros k (x / 2)) ≡ true) → has x (under d (trailingZeros k (x / 2))) ≡ true
+    go : (d : ℕ) → x % 2 ≡ d → ((x / 2 ≡ 0 → ⊥) → has (x / 2) (trailingZeros k (x / 2)) ≡ true)
+        → has x (under d (trailingZeros k (x / 2))) ≡ true
     go zero e ih = has-suc x (trailingZeros k (x / 2)) ∙ ih (λ (y : x / 2 ≡ 0). z (omega arith))
     go (suc d) e ih = low-bit x d e
 
@@ -46,7 +47,8 @@ unfolding trailingZeros
 trailing-low zero x i h = absurd (omega arith)
 trailing-low (suc k) x i h = go (x % 2) refl i h (λ j g. trailing-low k (x / 2) j g)
   where
-    go : (d : ℕ) → x % 2 ≡ d → (i : ℕ) → i < under d (trailingZeros k (x / 2)) → ((j : ℕ) → j < trailingZeros k (x / 2) → has (x / 2) j ≡ false) → has x i ≡ false
+    go : (d : ℕ) → x % 2 ≡ d → (i : ℕ) → i < under d (trailingZeros k (x / 2))
+        → ((j : ℕ) → j < trailingZeros k (x / 2) → has (x / 2) j ≡ false) → has x i ≡ false
     go zero e zero g ih = no-bit x e
     go zero e (suc j) g ih = has-suc x j ∙ ih j (omega arith)
     go (suc d) e i g ih = absurd (omega arith)
@@ -57,7 +59,8 @@ next-most a =
     (λ l h e r k. omega (arith, next-step a l h e, r (omega arith)))
 
 -- ---- the next literal is the only one that fits
-pub next-is : (a : Literals) (l m : ℕ) → l ≤ m → m ≤ 64 → (m < 64 → contains a m ≡ true) → ((k : ℕ) → l ≤ k → k < m → contains a k ≡ false) → m ≡ next a l
+pub next-is : (a : Literals) (l m : ℕ) → l ≤ m → m ≤ 64 → (m < 64 → contains a m ≡ true) → ((k : ℕ) → l ≤ k → k < m → contains a k ≡ false)
+    → m ≡ next a l
 next-is a l m le most here none = go (ltb (next a l) m) refl (ltb m (next a l)) refl
   where
     go : (t : Bool) → ltb (next a l) m ≡ t → (u : Bool) → ltb m (next a l) ≡ u → m ≡ next a l
@@ -96,7 +99,8 @@ named a q e f =
     let j : (2 * q + 1) / 2 ≡ q = omega arith in
     let g : has (a .trues) q ≡ false = rw (eq-eqb (2 * q % 2) 0 (omega arith), i) at f in
     rw (ne-eqb ((2 * q + 1) % 2) 0 (λ h. omega arith), j)
-    (⊎-elim (λ t. absurd (true≢false (sym t ∙ g))) (λ t. t) (or-cases (has (a .trues) q) (has (a .falses) q) (sym (has-or (a .trues) (a .falses) q) ∙ e)))
+    (⊎-elim (λ t. absurd (true≢false (sym t ∙ g))) (λ t. t)
+    (or-cases (has (a .trues) q) (has (a .falses) q) (sym (has-or (a .trues) (a .falses) q) ∙ e)))
 
 module _ (a : Literals) (p : ℕ) where
   rest : ℕ

@@ -32,7 +32,8 @@ pub any-passed : {A : Type 0} (f : A → Bool) (P : A → Type 0) (xs : List A) 
 any-passed f P [] h = h
 any-passed f P (x ∷ xs) h = go (f x) refl h (any-passed f P xs)
   where
-    go : (b : Bool) → f x ≡ b → Any (λ y. P y × T (f y)) (x ∷ xs) → (Any (λ y. P y × T (f y)) xs → Any P (keep f xs)) → Any P (addIf b x (keep f xs))
+    go : (b : Bool) → f x ≡ b → Any (λ y. P y × T (f y)) (x ∷ xs) → (Any (λ y. P y × T (f y)) xs → Any P (keep f xs))
+        → Any P (addIf b x (keep f xs))
     go true e (inl p) k = inl (p .0)
     go true e (inr r) k = inr (k r)
     go false e (inl p) k = both (f x) (p .1) (false-T (f x) e)
@@ -41,7 +42,8 @@ any-passed f P (x ∷ xs) h = go (f x) refl h (any-passed f P xs)
 -- ---- within
 pub join-within : (a b c : Literals) → T (within a c) → T (within b c) → T (within (join a b) c)
 join-within a b c h k =
-    true-T (within (join a b) c) (sets.within-join a b c ∙ sets.both (within a c) (within b c) (T-true (within a c) h) (T-true (within b c) k))
+    true-T (within (join a b) c)
+    (sets.within-join a b c ∙ sets.both (within a c) (within b c) (T-true (within a c) h) (T-true (within b c) k))
 
 -- ---- no literal
 pub below-none : (n : ℕ) → below n noLiteral ≡ true
@@ -56,7 +58,8 @@ join-proper n a b ha hb k =
 
 pub replace-proper : (n : ℕ) (a r : Literals) → Proper n a → T (consistent r) → below n r ≡ true → Proper n (replace a r)
 replace-proper n a r ha hr b =
-    proper-of n (replace a r) (consistent-replace a r (proper-consistent n a ha) (T-true (consistent r) hr)) (below-replace n a r (proper-below n a ha) b)
+    proper-of n (replace a r) (consistent-replace a r (proper-consistent n a ha) (T-true (consistent r) hr))
+    (below-replace n a r (proper-below n a ha) b)
 
 -- a literal that d lacks can be made false in it
 pub deny-proper : (n : ℕ) (d : Literals) (s : Bool) (p : ℕ) → Proper n d → p < n → mem d s p ≡ false → Proper n (join d (single (not s) p))
@@ -74,18 +77,26 @@ pub lacking-world : (n : ℕ) (c d : Literals) → Proper n c → Proper n d →
     → (w : ℕ) × (T (within d (state n w)) × ((w < 2 ^ n) × T (not (within c (state n w)))))
 lacking-world n c d hc hd k =
     let r = sets.not-within c d (T-false (within c d) k) in
-    let x = completion-with n d (not (r .0)) (r .1) (proper-consistent n d hd) (proper-below n d hd) (below-of n c (proper-below n c hc) (r .0) (r .1) (r .2))
-    (ap (λ (t : Bool). mem d t (r .1)) (not-not (r .0)) ∙ r .3) in
-    (x .0, (true-T (within d (state n (x .0))) (x .2), (x .1, false-T (within c (state n (x .0))) (fails-here n (x .0) (x .1) c (r .0) (r .1) (r .2) (x .3)))))
+    let x = completion-with n d (not (r .0)) (r .1) (proper-consistent n d hd) (proper-below n d hd)
+    (below-of n c (proper-below n c hc) (r .0) (r .1) (r .2))
+    (ap (λ (t : Bool). mem d t (r .1)) (not-not (r .0)) ∙ r .3) in (
+      x .0,
+      (
+        true-T (within d (state n (x .0))) (x .2),
+        (x .1, false-T (within c (state n (x .0))) (fails-here n (x .0) (x .1) c (r .0) (r .1) (r .2) (x .3))),
+      ),
+    )
 
 -- ---- the literals of a set
 pub members-all : (a : Literals) → All (λ l. contains a l ≡ true) (members a 0)
 members-all a = all-members (λ l. contains a l ≡ true) (members a 0) (λ l m. of-member a l 0 m .2)
 
-pub members-any : (n : ℕ) → n ≤ 32 → (a : Literals) → Proper n a → (P : ℕ → Type 0) (s : Bool) (p : ℕ) → mem a s p ≡ true → P (byte s p) → Any P (members a 0)
+pub members-any : (n : ℕ) → n ≤ 32 → (a : Literals) → Proper n a → (P : ℕ → Type 0) (s : Bool) (p : ℕ) → mem a s p ≡ true → P (byte s p)
+    → Any P (members a 0)
 members-any n h a ha P s p e =
     any-member P (members a 0) (byte s p)
-    (member-of a (byte s p) (omega (arith, byte-lt n s p (below-of n a (proper-below n a ha) s p e))) (contains-byte a s p ∙ e) 0 (omega arith))
+    (member-of a (byte s p) (omega (arith, byte-lt n s p (below-of n a (proper-below n a ha) s p e))) (contains-byte a s p ∙ e) 0
+    (omega arith))
 
 flip-single : (s : Bool) (p : ℕ) → flip (single s p) ≡ single (not s) p
 unfolding flip single

@@ -43,7 +43,8 @@ module _ (n w : ℕ) (h : w < 2 ^ n) where
           e ∙ ap not (sym (of-apart c _ (λ s p m. consistent-of _ state-consistent s p (within-of c _ e s p m))))
       go false e =
           let r = not-within c (state n w) e in
-          e ∙ ap not (sym (clash-here c _ (r .0) (r .1) (r .2) (state-not (r .0) (r .1) (below-of n c b (r .0) (r .1) (r .2)) ∙ ap not (r .3))))
+          e ∙ ap not (sym (clash-here c _ (r .0) (r .1) (r .2)
+          (state-not (r .0) (r .1) (below-of n c b (r .0) (r .1) (r .2)) ∙ ap not (r .3))))
 
   -- a set that fails in the world has a literal that is false there, and the other way round
   pub fails-at : (c : Literals) → below n c ≡ true → within c (state n w) ≡ false
@@ -69,7 +70,8 @@ completion n c e b = of-within c _ (λ s p m. mem-state n (c .trues) (below-true
     holds false p m = rw (lt-ltb p n (below-of n c b false p m), consistent-of c e false p m)
 
 -- two sets that do not clash have a world in common
-pub common-world : (n : ℕ) (a b : Literals) → consistent a ≡ true → consistent b ≡ true → clash a b ≡ false → below n a ≡ true → below n b ≡ true
+pub common-world : (n : ℕ) (a b : Literals) → consistent a ≡ true → consistent b ≡ true → clash a b ≡ false → below n a ≡ true
+    → below n b ≡ true
     → (w : ℕ) × (w < 2 ^ n) × (within a (state n w) ≡ true) × (within b (state n w) ≡ true)
 common-world n a b e f k ba bb =
     ((join a b) .trues, below-trues n _ bj, over a (within-join-l a b), over b (within-join-r a b))
@@ -89,11 +91,13 @@ common-world n a b e f k ba bb =
 pub completion-with : (n : ℕ) (c : Literals) (s : Bool) (p : ℕ) → consistent c ≡ true → below n c ≡ true → p < n → mem c (not s) p ≡ false
     → (w : ℕ) × (w < 2 ^ n) × (within c (state n w) ≡ true) × (mem (state n w) s p ≡ true)
 completion-with n c s p e b l f =
-    let r = common-world n c (single s p) e (consistent-single s p) (clash-sym c (single s p) ∙ clash-single s p c ∙ f) b (below-single n s p l) in
+    let r = common-world n c (single s p) e (consistent-single s p) (clash-sym c (single s p) ∙ clash-single s p c ∙ f) b
+    (below-single n s p l) in
     (r .0, r .1, r .2, sym (within-single s p _) ∙ r .3)
 
 -- a clause c that shares no literal with d is false in a world of d
-pub counter-world : (n : ℕ) (c d : Literals) → consistent c ≡ true → consistent d ≡ true → clash (flip c) d ≡ false → below n c ≡ true → below n d ≡ true
+pub counter-world : (n : ℕ) (c d : Literals) → consistent c ≡ true → consistent d ≡ true → clash (flip c) d ≡ false → below n c ≡ true
+    → below n d ≡ true
     → (w : ℕ) × (w < 2 ^ n) × (within d (state n w) ≡ true) × (clash (flip c) (state n w) ≡ false)
 counter-world n c d e f k bc bd =
     let r = common-world n (flip c) d (consistent-flip c ∙ e) f k (below-flip n c ∙ bc) bd in
@@ -148,13 +152,15 @@ state-full n w h s p l e = state-not n w h s p l ∙ ap not e
 
 pub full-state : (n : ℕ) (a : Literals) → Full n a → consistent a ≡ true → below n a ≡ true → a ≡ state n (a .trues)
 full-state n a f e b =
-    full-within n a (state n (a .trues)) f (state-consistent n _ (below-trues n a b)) (state-below n _ (below-trues n a b)) (completion n a e b)
+    full-within n a (state n (a .trues)) f (state-consistent n _ (below-trues n a b)) (state-below n _ (below-trues n a b))
+    (completion n a e b)
 
 -- a world that lies in another is that one
 pub state-within : (n u v : ℕ) → u < 2 ^ n → v < 2 ^ n → within (state n u) (state n v) ≡ true → u ≡ v
 unfolding state
 state-within n u v hu hv e =
-    ap (λ (a : Literals). a .trues) (full-within n (state n u) (state n v) (state-full n u hu) (state-consistent n v hv) (state-below n v hv) e)
+    ap (λ (a : Literals). a .trues)
+    (full-within n (state n u) (state n v) (state-full n u hu) (state-consistent n v hv) (state-below n v hv) e)
 
 -- ---- results take a world to a world
 
@@ -183,16 +189,19 @@ module _ (n w : ℕ) (h : w < 2 ^ n) (r : Literals) (e : consistent r ≡ true) 
   pub replace-state : replace (state n w) r ≡ state n (overridden w r)
   unfolding overridden replace state
   replace-state =
-      full-state n _ full-after (consistent-replace (state n w) r (state-consistent n w h) e) (below-replace n (state n w) r (state-below n w h) b)
+      full-state n _ full-after (consistent-replace (state n w) r (state-consistent n w h) e)
+      (below-replace n (state n w) r (state-below n w h) b)
 
 -- each world of the replaced set is what some world of d becomes
-pub before-world : (n : ℕ) (d r : Literals) → consistent d ≡ true → below n d ≡ true → (v : ℕ) → v < 2 ^ n → within (replace d r) (state n v) ≡ true
+pub before-world : (n : ℕ) (d r : Literals) → consistent d ≡ true → below n d ≡ true → (v : ℕ) → v < 2 ^ n
+    → within (replace d r) (state n v) ≡ true
     → (w : ℕ) × (w < 2 ^ n) × (within d (state n w) ≡ true) × (replace (state n w) r ≡ state n v)
 before-world n d r e b v h i = (
   w,
   hw,
   subst (λ (a : Literals). within d a ≡ true) is (within-replace (state n v) d),
-  full-within n _ _ (subst (Full n) (sym (replace-state n w hw r er br)) (state-full n _ (after-lt n w hw r er br))) (state-consistent n v h) (state-below n v h)
+  full-within n _ _ (subst (Full n) (sym (replace-state n w hw r er br)) (state-full n _ (after-lt n w hw r er br)))
+      (state-consistent n v h) (state-below n v h)
       (subst (λ (a : Literals). within (replace a r) (state n v) ≡ true) is inside),
 )
   where
@@ -208,7 +217,8 @@ before-world n d r e b v h i = (
     ir : within r (state n v) ≡ true
     ir =
         T-true (within r (state n v))
-        (within-trans r (replace d r) (state n v) (true-T (within r (replace d r)) (within-replace d r)) (true-T (within (replace d r) (state n v)) i))
+        (within-trans r (replace d r) (state n v) (true-T (within r (replace d r)) (within-replace d r))
+        (true-T (within (replace d r) (state n v)) i))
 
     er : consistent r ≡ true
     er = consistent-within r _ ir (state-consistent n v h)

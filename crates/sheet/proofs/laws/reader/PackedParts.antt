@@ -26,7 +26,8 @@ from-later zs i j k e =
 
 -- `parts n zs` are the first n parts of a zs, w numbers to a part, and `part zs i` is the one of number i
 module _ {A : Type 0} (w : ℕ) (part : List ℕ → ℕ → A) (parts : ℕ → List ℕ → List A) (none : (zs : List ℕ) → parts 0 zs ≡ [])
-    (more : (n : ℕ) (zs : List ℕ) → parts (suc n) zs ≡ part zs 0 ∷ parts n (drop w zs)) (later : (zs : List ℕ) (i : ℕ) → part (drop w zs) i ≡ part zs (suc i)) where
+    (more : (n : ℕ) (zs : List ℕ) → parts (suc n) zs ≡ part zs 0 ∷ parts n (drop w zs))
+    (later : (zs : List ℕ) (i : ℕ) → part (drop w zs) i ≡ part zs (suc i)) where
   pub parts-long : (n : ℕ) (zs : List ℕ) → length (parts n zs) ≡ n
   parts-long zero zs = ap length (none zs)
   parts-long (suc n) zs = ap length (more n zs) ∙ ap suc (parts-long n (drop w zs))
@@ -48,16 +49,19 @@ module _ {A : Type 0} (w : ℕ) (part : List ℕ → ℕ → A) (parts : ℕ →
   pub part-at : (n : ℕ) (zs : List ℕ) (i : ℕ) (d : A) → i < n → getD (parts n zs) i d ≡ part zs i
   part-at zero zs i d h = absurd (not-suc-le-zero h)
   part-at (suc n) zs zero d h = ap (λ (x : List A). getD x 0 d) (more n zs)
-  part-at (suc n) zs (suc i) d h = ap (λ (x : List A). getD x (suc i) d) (more n zs) ∙ part-at n (drop w zs) i d (le-of-suc-le-suc h) ∙ later zs i
+  part-at (suc n) zs (suc i) d h = ap (λ (x : List A). getD x (suc i) d) (more n zs) ∙ part-at n (drop w zs) i d (le-of-suc-le-suc h)
+      ∙ later zs i
 
   pub part-of-all : (P : A → Type 0) (n : ℕ) (zs : List ℕ) (i : ℕ) → i < n → All P (parts n zs) → P (part zs i)
   part-of-all P zero zs i h g = absurd (not-suc-le-zero h)
   part-of-all P (suc n) zs zero h g = subst (All P) (more n zs) g .0
-  part-of-all P (suc n) zs (suc i) h g = subst P (later zs i) (part-of-all P n (drop w zs) i (le-of-suc-le-suc h) (subst (All P) (more n zs) g .1))
+  part-of-all P (suc n) zs (suc i) h g = subst P (later zs i)
+      (part-of-all P n (drop w zs) i (le-of-suc-le-suc h) (subst (All P) (more n zs) g .1))
 
   -- the last of them
   pub parts-last : (n : ℕ) (zs : List ℕ) → parts (suc n) zs ≡ parts n zs ++ (part zs n ∷ [])
-  parts-last zero zs = more 0 zs ∙ ap (λ (x : List A). part zs 0 ∷ x) (none (drop w zs)) ∙ ap (λ (x : List A). x ++ (part zs 0 ∷ [])) (sym (none zs))
+  parts-last zero zs = more 0 zs ∙ ap (λ (x : List A). part zs 0 ∷ x) (none (drop w zs))
+      ∙ ap (λ (x : List A). x ++ (part zs 0 ∷ [])) (sym (none zs))
   parts-last (suc n) zs =
       more (suc n) zs
       ∙ ap (λ (x : List A). part zs 0 ∷ x) (parts-last n (drop w zs))
@@ -168,7 +172,8 @@ module _ {A : Type 0} (w : ℕ) (f : List ℕ → A) where
   pub item-of-all : (P : A → Type 0) (k : ℕ) (xs : List ℕ) (i : ℕ) → i < k → All P (itemsAt w f k xs) → P (f (itemAt w xs i))
   item-of-all = part-of-all w (λ zs i. f (itemAt w zs i)) (itemsAt w f) items-none items-more item-later
 
-  pub items-step : (k : ℕ) (xs : List ℕ) (i : ℕ) (a : A) → i < k → a ≡ f (itemAt w xs i) → drop i (itemsAt w f k xs) ≡ a ∷ drop (i + 1) (itemsAt w f k xs)
+  pub items-step : (k : ℕ) (xs : List ℕ) (i : ℕ) (a : A) → i < k → a ≡ f (itemAt w xs i)
+      → drop i (itemsAt w f k xs) ≡ a ∷ drop (i + 1) (itemsAt w f k xs)
   items-step = part-ahead w (λ zs i. f (itemAt w zs i)) (itemsAt w f) items-none items-more item-later
 
   pub items-end : (k : ℕ) (xs : List ℕ) (i : ℕ) → k ≤ i → drop i (itemsAt w f k xs) ≡ []
@@ -197,14 +202,16 @@ module _ {A : Type 0} (w : ℕ) (f : List ℕ → A) where
       ap (λ (k : ℕ). itemsAt w f k (p ++ q)) (add-one i)
       ∙ items-last i (p ++ q)
       ∙ ap₂ (λ (x : List A) (a : A). x ++ (a ∷ []))
-      (items-front i p q (omega arith) ∙ sym (items-front i p (drop (i * w) xs) (omega arith)) ∙ ap (itemsAt w f i) (take-append-drop (i * w) xs))
+      (items-front i p q (omega arith) ∙ sym (items-front i p (drop (i * w) xs) (omega arith))
+      ∙ ap (itemsAt w f i) (take-append-drop (i * w) xs))
       (ap (λ (x : List ℕ). f (take w x)) (drop-at p q (i * w) n) ∙ ap f (take-at zs _ w l))
 
 -- ---- sets, two masks to a set
 set-later : (zs : List ℕ) (i : ℕ) → setFrom (drop 2 zs) (2 * i) ≡ setFrom zs (2 * suc i)
 set-later zs i = from-later zs 2 (2 * i) (2 * suc i) (omega arith)
 
-pub sets-step : (n : ℕ) (zs : List ℕ) (i : ℕ) (a : Literals) → i < n → a ≡ setFrom zs (2 * i) → drop i (setsAt n zs) ≡ a ∷ drop (i + 1) (setsAt n zs)
+pub sets-step : (n : ℕ) (zs : List ℕ) (i : ℕ) (a : Literals) → i < n → a ≡ setFrom zs (2 * i)
+    → drop i (setsAt n zs) ≡ a ∷ drop (i + 1) (setsAt n zs)
 unfolding setsAt
 sets-step = part-ahead 2 (λ zs i. setFrom zs (2 * i)) setsAt (λ zs. refl) (λ n zs. refl) set-later
 
@@ -237,7 +244,8 @@ at-later zs i =
     let b = from-later zs 4 (4 * i + 2) (4 * suc i + 2) (omega arith) in
     (λ k. record { condition = a k; result = b k })
 
-pub effects-step : (n : ℕ) (zs : List ℕ) (i : ℕ) (e : Effect) → i < n → e ≡ effectAt zs i → drop i (effectsAt n zs) ≡ e ∷ drop (i + 1) (effectsAt n zs)
+pub effects-step : (n : ℕ) (zs : List ℕ) (i : ℕ) (e : Effect) → i < n → e ≡ effectAt zs i
+    → drop i (effectsAt n zs) ≡ e ∷ drop (i + 1) (effectsAt n zs)
 unfolding effectsAt
 effects-step = part-ahead 4 effectAt effectsAt (λ zs. refl) (λ n zs. refl) at-later
 
@@ -250,7 +258,8 @@ unfolding effectsAt
 effects-end = parts-end 4 effectAt effectsAt (λ zs. refl) (λ n zs. refl) at-later
 
 pub four-stores : (b : List ℕ) (at : ℕ) (e : Effect) → at + 4 ≤ length b
-    → set (set (set (set b at (e .condition .trues)) (at + 1) (e .condition .falses)) (at + 2) (e .result .trues)) (at + 3) (e .result .falses)
+    → set (set (set (set b at (e .condition .trues)) (at + 1) (e .condition .falses)) (at + 2) (e .result .trues)) (at + 3)
+    (e .result .falses)
     ≡ take at b ++ (masksOf e ++ drop (at + 4) b)
 unfolding masksOf
 four-stores b at e h =
@@ -281,7 +290,8 @@ pub effects-more : (k : ℕ) (zs : List ℕ) (e : Effect) → 4 * k + 4 ≤ leng
 effects-more k zs e h = rw (add-one k) (effects-laid k zs e h)
 
 -- ---- a count, and after it a borrow of its sets or effects
-pub sets-laid : (xs ys : List ℕ) (k : ℕ) → length xs ≡ 17 → let zs = set xs 0 k in setsIn (take 1 zs ++ (ys ++ drop 16 (drop 1 zs))) ≡ setsAt k ys
+pub sets-laid : (xs ys : List ℕ) (k : ℕ) → length xs ≡ 17 → let zs = set xs 0 k in setsIn (take 1 zs ++ (ys ++ drop 16 (drop 1 zs)))
+    ≡ setsAt k ys
 unfolding setsIn
 sets-laid [] ys k h = absurd (omega arith)
 sets-laid (x ∷ xs) ys k h =

@@ -63,11 +63,12 @@ unfolding numberFault
 number-below m b e = leb-false m b (passed (leb m b) 6 e .0)
 
 -- what was read under a rule keeps it
-module _ (s : List ℕ) (rule : ℕ → ℕ) (at : ℕ) {m : Mark} {v next : ℕ} (g : ReadsAs same (read s (judged rule) at) m v) (q : m ≡ At next) where
-  pub read-passed : rule v ≡ 0
-  read-passed =
-      let r = got-item same (read s (judged rule) at) m v g q in
-      ap rule (r .2) ∙ byte-passed s rule at (r .1)
+module _ (s : List ℕ) (rule : ℕ → ℕ) (at : ℕ) {m : Mark} {v next : ℕ} (g : ReadsAs same (read s (judged rule) at) m v) (q : m ≡ At next)
+  where
+    pub read-passed : rule v ≡ 0
+    read-passed =
+        let r = got-item same (read s (judged rule) at) m v g q in
+        ap rule (r .2) ∙ byte-passed s rule at (r .1)
 
 -- ---- the literals of a list
 -- a literal against the floor, which is one more than the literal before
@@ -152,7 +153,8 @@ module _ (s : List ℕ) (n : ℕ) where
   module _ (k first : ℕ) (l : Literals) (floor i next : ℕ) (t : Ahead k first l floor i next) where
     one-more : i < k
         → joined noLiteral (read s (ascending n none k) first)
-        ≡ joined l (thenRead (read s (judged (literalFault n (literalBefore floor))) next) (λ b e. onto (b ∷ []) (read s (ascending n (some b) (k - (i + 1))) e)))
+        ≡ joined l (thenRead (read s (judged (literalFault n (literalBefore floor))) next)
+        (λ b e. onto (b ∷ []) (read s (ascending n (some b) (k - (i + 1))) e)))
     one-more h =
         let e : k - i ≡ suc (k - (i + 1)) = omega arith in
         t .rest ∙ ap (λ (j : ℕ). joined l (read s (ascending n (literalBefore floor) j) next)) e
@@ -186,7 +188,8 @@ module _ (s : List ℕ) (n : ℕ) where
         let e : k - i ≡ 0 = omega arith in
         let r =
         set-read (read s (ascending n none k) first)
-        (t .rest ∙ ap (λ (j : ℕ). joined l (read s (ascending n (literalBefore floor) j) next)) e ∙ ap (joined l) (ascending-none (literalBefore floor) next)
+        (t .rest ∙ ap (λ (j : ℕ). joined l (read s (ascending n (literalBefore floor) j) next)) e
+        ∙ ap (joined l) (ascending-none (literalBefore floor) next)
         ∙ ap (λ (x : Literals). item x next) (join-none l)) in
         gave-item setOf _ {a = r .0} (r .1) refl (r .2)
       where
@@ -197,12 +200,15 @@ module _ (s : List ℕ) (n : ℕ) where
         set-read (fault j e) a = absurd (let z : _≡_ {A = ℕ} 0 1 = cc in omega arith)
 
 -- ---- as many items as the count says
-times-length : {A : Type 0} (s : List ℕ) (one : Form A) (k at : ℕ) {xs : List A} {next : ℕ} → read s (times k one) at ≡ item xs next → length xs ≡ k
+times-length : {A : Type 0} (s : List ℕ) (one : Form A) (k at : ℕ) {xs : List A} {next : ℕ} → read s (times k one) at ≡ item xs next
+    → length xs ≡ k
 unfolding read times
 times-length s one zero at {xs} q = let h : xs ≡ [] = cc in rw h
-times-length {A} s one (suc k) at {xs} {next} q = go (read s one at) (sym (times-more s one k at) ∙ q) (λ e ys f p. times-length s one k e p)
+times-length {A} s one (suc k) at {xs} {next} q = go (read s one at) (sym (times-more s one k at) ∙ q)
+    (λ e ys f p. times-length s one k e p)
   where
-    last : (x : A) (r : Read (List A)) → onto (x ∷ []) r ≡ item xs next → ((ys : List A) (f : ℕ) → r ≡ item ys f → length ys ≡ k) → length xs ≡ suc k
+    last : (x : A) (r : Read (List A)) → onto (x ∷ []) r ≡ item xs next → ((ys : List A) (f : ℕ) → r ≡ item ys f → length ys ≡ k)
+        → length xs ≡ suc k
     last x (item ys f) p ih = let h : xs ≡ x ∷ ys = cc in rw h (ap suc (ih ys f refl))
     last x (fault f p) e ih = absurd (let z : _≡_ {A = ℕ} 0 1 = cc in omega arith)
 
@@ -214,7 +220,8 @@ times-length {A} s one (suc k) at {xs} {next} q = go (read s one at) (sym (times
 pub list-most : {A : Type 0} (s : List ℕ) (low high : ℕ) (one : Form A) (at : ℕ) {xs : List A} {next : ℕ}
     → read s (listOf low high one) at ≡ item xs next → length xs ≤ high
 unfolding listOf
-list-most {A} s low high one at {xs} {next} q = go (read s (count low high) at) refl (sym (read-then s (count low high) (λ k. times k one) at) ∙ q)
+list-most {A} s low high one at {xs} {next} q = go (read s (count low high) at) refl
+    (sym (read-then s (count low high) (λ k. times k one) at) ∙ q)
   where
     go : (r : Read ℕ) → read s (count low high) at ≡ r → thenRead r (λ k e. read s (times k one) e) ≡ item xs next → length xs ≤ high
     go (item k e) p h =

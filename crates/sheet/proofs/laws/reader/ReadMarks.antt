@@ -23,7 +23,8 @@ clash : {A : Type 0} {a : A} {next k p : ℕ} → _≡_ {A = Read A} (item a nex
 clash e = let z : _≡_ {A = ℕ} 0 1 = cc in omega arith
 
 -- a fault, whatever stands in the slots
-pub gave-fault : {A B : Type 0} (shape : A → B) (x : Read A) {m : Mark} {v : B} {k p : ℕ} → x ≡ fault k p → m ≡ Fault k p → ReadsAs shape x m v
+pub gave-fault : {A B : Type 0} (shape : A → B) (x : Read A) {m : Mark} {v : B} {k p : ℕ} → x ≡ fault k p → m ≡ Fault k p
+    → ReadsAs shape x m v
 unfolding markOf
 gave-fault shape x {m} {v} {k} {p} e f =
     record { mark = rw e f; value = λ a next g. absurd (clash (sym g ∙ e)) }
@@ -123,7 +124,8 @@ module _ {A : Type 0} (s : List ℕ) (one : Form A) where
   unfolding read times
   times-more k at = read-then s one _ at ∙ go (read s one at)
     where
-      go : (r : Read A) → thenRead r (λ x e. read s (times k one >>= (λ xs. done (x ∷ xs))) e) ≡ thenRead r (λ x e. onto (x ∷ []) (read s (times k one) e))
+      go : (r : Read A) → thenRead r (λ x e. read s (times k one >>= (λ xs. done (x ∷ xs))) e)
+          ≡ thenRead r (λ x e. onto (x ∷ []) (read s (times k one) e))
       go (item x e) = read-then s (times k one) (λ xs. done (x ∷ xs)) e
       go (fault f p) = refl
 
@@ -145,7 +147,8 @@ module _ {A : Type 0} (s : List ℕ) (one : Form A) where
   turns-none k first = record { count = refl; within = omega arith; rest = rw sub-zero (nothing-yet (read s (times k one) first)) }
 
   module _ (k first : ℕ) (xs : List A) (i next : ℕ) (t : Turns k first xs i next) where
-    one-more : i < k → read s (times k one) first ≡ onto xs (thenRead (read s one next) (λ x e. onto (x ∷ []) (read s (times (k - (i + 1)) one) e)))
+    one-more : i < k → read s (times k one) first ≡ onto xs
+        (thenRead (read s one next) (λ x e. onto (x ∷ []) (read s (times (k - (i + 1)) one) e)))
     one-more h =
         let e : k - i ≡ suc (k - (i + 1)) = omega arith in
         t .rest ∙ ap (λ (j : ℕ). onto xs (read s (times j one) next)) e ∙ ap (onto xs) (times-more (k - (i + 1)) next)
@@ -163,7 +166,8 @@ module _ {A : Type 0} (s : List ℕ) (one : Form A) where
     pub turns-all : k ≤ i → read s (times k one) first ≡ item xs next
     turns-all h =
         let e : k - i ≡ 0 = omega arith in
-        t .rest ∙ ap (λ (j : ℕ). onto xs (read s (times j one) next)) e ∙ ap (onto xs) (times-none next) ∙ ap (λ (l : List A). item l next) (append-nil xs)
+        t .rest ∙ ap (λ (j : ℕ). onto xs (read s (times j one) next)) e ∙ ap (onto xs) (times-none next)
+        ∙ ap (λ (l : List A). item l next) (append-nil xs)
 
     -- a loop that lays items one after the other: one more, a fault, and all of them
     module _ {m : Mark} {v : A} (g : ReadsAs same (read s one next) m v) where
@@ -176,13 +180,15 @@ module _ {A : Type 0} (s : List ℕ) (one : Form A) where
       turns-stop h q = gave-fault same _ (turns-fault h (got-fault same (read s one next) m v g q)) q
 
   -- `parts n` are the first n items
-  pub turns-end : (k first : ℕ) (parts : ℕ → List A) (i next : ℕ) → Turns k first (parts i) i next → k ≤ i → ReadsAs same (read s (times k one) first) (At next) (parts k)
+  pub turns-end : (k first : ℕ) (parts : ℕ → List A) (i next : ℕ) → Turns k first (parts i) i next → k ≤ i
+      → ReadsAs same (read s (times k one) first) (At next) (parts k)
   turns-end k first parts i next t h =
       let e : k ≡ i = omega (arith, t .within) in
       gave-item same _ (turns-all k first (parts i) i next t h) refl (ap parts e)
 
 -- a loop that fills slots
-pub record Taken {A B : Type 0} (s : List ℕ) (one : Form A) (shape : A → B) (size : ℕ) (d : B) (k first : ℕ) (slots : List B) (i next : ℕ) : Type 0 where
+pub record Taken {A B : Type 0} (s : List ℕ) (one : Form A) (shape : A → B) (size : ℕ) (d : B) (k first : ℕ) (slots : List B)
+    (i next : ℕ) : Type 0 where
   pub done : List A
   pub turns : Turns s one k first done i next
   pub held : slots ≡ pad size d (map shape done)
@@ -205,7 +211,8 @@ module _ {A B : Type 0} (s : List ℕ) (one : Form A) (shape : A → B) (size : 
               ∙ ap (pad size d) (sym (map-append shape (t .done) (r .0))));
         }
 
-    pub taken-fault : {C : Type 0} (whole : List A → C) {m : Mark} {v : B} {w : C} {f p : ℕ} → i < k → ReadsAs shape (read s one next) m v → m ≡ Fault f p
+    pub taken-fault : {C : Type 0} (whole : List A → C) {m : Mark} {v : B} {w : C} {f p : ℕ} → i < k → ReadsAs shape (read s one next) m v
+        → m ≡ Fault f p
         → ReadsAs whole (read s (times k one) first) m w
     taken-fault whole {m} {v} {w} h g q =
         gave-fault whole (read s (times k one) first)
@@ -225,7 +232,8 @@ module _ {A B C : Type 0} (s : List ℕ) (x : Form A) (f : A → Form B) (at : �
   pub gave-stop : {D : Type 0} (shape : A → D) {m : Mark} {v : D} {w : C} {k p : ℕ} → ReadsAs shape (read s x at) m v → m ≡ Fault k p
       → ReadsAs whole (read s (x >>= f) at) m w
   gave-stop shape {m} {v} {w} g q =
-      gave-fault whole _ (read-then s x f at ∙ ap (λ (r : Read A). thenRead r (λ a next. read s (f a) next)) (got-fault shape (read s x at) m v g q)) q
+      gave-fault whole _ (read-then s x f at ∙ ap (λ (r : Read A). thenRead r (λ a next. read s (f a) next))
+      (got-fault shape (read s x at) m v g q)) q
 
   -- what the second gives after an item of the first
   pub gave-on : {m : Mark} {w : C} {a : A} {next : ℕ} → read s x at ≡ item a next → ReadsAs whole (read s (f a) next) m w
@@ -238,7 +246,8 @@ module _ {A B C : Type 0} (s : List ℕ) (x : Form A) (f : A → Form B) (at : �
 pub gave-as : {A B C : Type 0} (s : List ℕ) (x : Form A) (make : A → B) (at : ℕ) (shape : A → C) (whole : B → C) {m : Mark} {w : C}
     → ((a : A) → shape a ≡ whole (make a)) → ReadsAs shape (read s x at) m w → ReadsAs whole (read s (x >>= (λ a. done (make a))) at) m w
 unfolding read markOf
-gave-as {A} {B} s x make at shape whole {m} {w} h g = subst (λ (r : Read B). ReadsAs whole r m w) (sym (read-then s x (λ a. done (make a)) at)) (go (read s x at) g)
+gave-as {A} {B} s x make at shape whole {m} {w} h g = subst (λ (r : Read B). ReadsAs whole r m w)
+    (sym (read-then s x (λ a. done (make a)) at)) (go (read s x at) g)
   where
     go : (r : Read A) → ReadsAs shape r m w → ReadsAs whole (thenRead r (λ a next. item (make a) next)) m w
     go (item a e) k = record { mark = k .mark; value = λ b next q. k .value a e refl ∙ h a ∙ ap whole (let z : make a ≡ b = cc in z) }

@@ -48,20 +48,22 @@ module _ (s : List ℕ) {m₁ : Mark} {n : ℕ} (g₁ : ReadsAs same (read s (co
           (on s (count 1 32) _ 0 (got-same _ m₁ n g₁ q₁) ∙ on s (literals n 0 32) _ a (got-same _ m₂ known g₂ q₂)
           ∙ stop s (clauses n) _ b (got-fault same _ m₃ ors g₃ q)) (e ∙ q)
 
-      module _ {c : ℕ} (q₃ : m₃ ≡ At c) {m₄ : Mark} {oneofs : List (List Literals)} (g₄ : ReadsAs same (read s (clauses n) c) m₄ oneofs) where
-        pub facts-oneofs : {m : Mark} {v : Facts} {k p : ℕ} → m₄ ≡ Fault k p → m ≡ m₄ → ReadsAs same (read s facts 0) m v
-        unfolding facts
-        facts-oneofs q e =
-            gave-fault same _
-            (on s (count 1 32) _ 0 (got-same _ m₁ n g₁ q₁) ∙ on s (literals n 0 32) _ a (got-same _ m₂ known g₂ q₂)
-            ∙ on s (clauses n) _ b (got-same _ m₃ ors g₃ q₃) ∙ stop s (clauses n) _ c (got-fault same _ m₄ oneofs g₄ q)) (e ∙ q)
+      module _ {c : ℕ} (q₃ : m₃ ≡ At c) {m₄ : Mark} {oneofs : List (List Literals)} (g₄ : ReadsAs same (read s (clauses n) c) m₄ oneofs)
+        where
+          pub facts-oneofs : {m : Mark} {v : Facts} {k p : ℕ} → m₄ ≡ Fault k p → m ≡ m₄ → ReadsAs same (read s facts 0) m v
+          unfolding facts
+          facts-oneofs q e =
+              gave-fault same _
+              (on s (count 1 32) _ 0 (got-same _ m₁ n g₁ q₁) ∙ on s (literals n 0 32) _ a (got-same _ m₂ known g₂ q₂)
+              ∙ on s (clauses n) _ b (got-same _ m₃ ors g₃ q₃) ∙ stop s (clauses n) _ c (got-fault same _ m₄ oneofs g₄ q)) (e ∙ q)
 
-        pub facts-all : {d : ℕ} → m₄ ≡ At d → ReadsAs same (read s facts 0) (At d) (record { n = n; known = known; ors = ors; oneofs = oneofs })
-        unfolding facts read
-        facts-all {d} q =
-            gave-item same _
-            (on s (count 1 32) _ 0 (got-same _ m₁ n g₁ q₁) ∙ on s (literals n 0 32) _ a (got-same _ m₂ known g₂ q₂)
-            ∙ on s (clauses n) _ b (got-same _ m₃ ors g₃ q₃) ∙ on s (clauses n) _ c (got-same _ m₄ oneofs g₄ q)) refl refl
+          pub facts-all : {d : ℕ} → m₄ ≡ At d → ReadsAs same (read s facts 0) (At d)
+              (record { n = n; known = known; ors = ors; oneofs = oneofs })
+          unfolding facts read
+          facts-all {d} q =
+              gave-item same _
+              (on s (count 1 32) _ 0 (got-same _ m₁ n g₁ q₁) ∙ on s (literals n 0 32) _ a (got-same _ m₂ known g₂ q₂)
+              ∙ on s (clauses n) _ b (got-same _ m₃ ors g₃ q₃) ∙ on s (clauses n) _ c (got-same _ m₄ oneofs g₄ q)) refl refl
 
 -- ---- sections 5 to 7, and the end
 module _ (s : List ℕ) {m₁ : Mark} {f : Facts} (g₁ : ReadsAs same (read s facts 0) m₁ f) where
@@ -74,7 +76,8 @@ module _ (s : List ℕ) {m₁ : Mark} {f : Facts} (g₁ : ReadsAs same (read s f
   sheet-facts q = refused-by (stop s facts _ 0 (got-fault same _ m₁ f g₁ q)) q
 
   module _ {a : ℕ} (q₁ : m₁ ≡ At a) {m₂ : Mark} {ms : List Action} (g₂ : ReadsAs same (read s (actions (f .n)) a) m₂ ms) where
-    to-moves : read s sheet 0 ≡ read s (actions (f .n) >>= λ ms. goal (f .n) >>= λ g. plan (length ms) >>= λ p. done (record { problem = problemOf f ms g; plan = p })) a
+    to-moves : read s sheet 0 ≡ read s
+        (actions (f .n) >>= λ ms. goal (f .n) >>= λ g. plan (length ms) >>= λ p. done (record { problem = problemOf f ms g; plan = p })) a
     unfolding sheet
     to-moves = on s facts _ 0 (got-same _ m₁ f g₁ q₁)
 
@@ -85,15 +88,18 @@ module _ (s : List ℕ) {m₁ : Mark} {f : Facts} (g₁ : ReadsAs same (read s f
     pub sheet-moves : {k p : ℕ} → m₂ ≡ Fault k p → sheetOf s ≡ refusedBy m₂
     sheet-moves q = refused-by (to-moves ∙ stop s (actions (f .n)) _ a (got-fault same _ m₂ ms g₂ q)) q
 
-    module _ {b : ℕ} (q₂ : m₂ ≡ At b) {m₃ : Mark} {gs : List Literals} (g₃ : ReadsAs same (read s (listOf 0 8 (literals (f .n) 1 8)) b) m₃ gs) where
-      to-goal : read s sheet 0 ≡ read s (goal (f .n) >>= λ g. plan (length ms) >>= λ p. done (record { problem = problemOf f ms g; plan = p })) b
+    module _ {b : ℕ} (q₂ : m₂ ≡ At b) {m₃ : Mark} {gs : List Literals}
+        (g₃ : ReadsAs same (read s (listOf 0 8 (literals (f .n) 1 8)) b) m₃ gs) where
+      to-goal : read s sheet 0 ≡ read s
+          (goal (f .n) >>= λ g. plan (length ms) >>= λ p. done (record { problem = problemOf f ms g; plan = p })) b
       to-goal = to-moves ∙ on s (actions (f .n)) _ a (got-same _ m₂ ms g₂ q₂)
 
       pub sheet-goal : {k p : ℕ} → m₃ ≡ Fault k p → sheetOf s ≡ refusedBy m₃
       unfolding goal
       sheet-goal q = refused-by (to-goal ∙ stop s (goal (f .n)) _ b (got-fault same _ m₃ gs g₃ q)) q
 
-      module _ {c k : ℕ} (q₃ : m₃ ≡ At c) (l : length ms ≡ k) {m₄ : Mark} {numbers : Plan} (g : ReadsAs planOf (read s (plan k) c) m₄ numbers) where
+      module _ {c k : ℕ} (q₃ : m₃ ≡ At c) (l : length ms ≡ k) {m₄ : Mark} {numbers : Plan}
+          (g : ReadsAs planOf (read s (plan k) c) m₄ numbers) where
         g₄ : ReadsAs planOf (read s (plan (length ms)) c) m₄ numbers
         g₄ = rw l g
 

@@ -1,4 +1,5 @@
--- What was read of a sheet, in its slots and its packed array, by its answer: an accepted sheet has a proper statement there. Assumes nothing.
+-- What was read of a sheet, in its slots and its packed array, by its answer: an accepted sheet has a proper statement there. Assumes
+-- nothing.
 use mathlib.Core.Path.{_≡_, refl, sym, ap, ap₂, _∙_}
 use mathlib.Core.List.{List, [], _∷_}
 use Prim.Native.Nat.{ℕ, zero, suc, _+_, _≤_, _<_}
@@ -83,7 +84,8 @@ module _ (xs ors oneofs : List ℕ) (long : length xs ≡ 1409) (ors-long : leng
   one-long = ors-kept xs ors long ors-long
 
   pub facts-laid : (f : read.Facts)
-      → record { n = f .n; known = f .known; ors = clausesAt (f .ors) ors; oneofs = clausesAt (f .oneofs) oneofs } ≡ factsIn f (anew (anew xs ors 0 136) oneofs 136 136)
+      → record { n = f .n; known = f .known; ors = clausesAt (f .ors) ors; oneofs = clausesAt (f .oneofs) oneofs }
+      ≡ factsIn f (anew (anew xs ors 0 136) oneofs 136 136)
   unfolding factsIn
   facts-laid f =
       ap₂ (λ (a b : List ℕ). record { n = f .n; known = f .known; ors = clausesAt (f .ors) a; oneofs = clausesAt (f .oneofs) b })
@@ -124,7 +126,14 @@ module _ (xs moves : List ℕ) (long : length xs ≡ 1409) (moves-long : length 
       where
         made : List ℕ → List ℕ → List ℕ → List ℕ → Problem
         made a b c d =
-            record { n = f .n; known = f .known; ors = clausesAt (f .ors) a; oneofs = clausesAt (f .oneofs) b; actions = actionsAt k c; goal = setsIn d }
+            record {
+              n = f .n;
+              known = f .known;
+              ors = clausesAt (f .ors) a;
+              oneofs = clausesAt (f .oneofs) b;
+              actions = actionsAt k c;
+              goal = setsIn d;
+            }
 
 -- ---- what a proper statement keeps within its slots
 -- at most eight clauses, and the alternatives of each within theirs
@@ -132,8 +141,11 @@ abbrev pub Few : ℕ → List ℕ → Type 0
 Few k xs = (k ≤ 8) × All (λ (c : List Literals). length c ≤ 8) (clausesAt k xs)
 
 few : (n k : ℕ) (xs : List ℕ) → Counted 0 8 (ProperClause n) (clausesAt k xs) → Few k xs
-few n k xs h =
-    (rw (items-length 17 setsIn k xs) at (h .most), all-map (ProperClause n) (λ c. length c ≤ 8) (λ c g. g .most) (clausesAt k xs) (h .each))
+few n k xs h = (
+  rw (items-length 17 setsIn k xs) at (h .most),
+  all-map (ProperClause n) (λ c. length c ≤ 8) (λ c g. g .most) (clausesAt k xs)
+      (h .each),
+)
 
 module _ (x : Sheet) (packed : List ℕ) (h : ProperStatement (statementIn x packed)) where
   pub n-few : (1 ≤ x .n) × (x .n ≤ 32)

@@ -35,7 +35,8 @@ narrow n a =
     (λ e.
     eq-eqb _ 0
     (div-eq-of-lt
-    (or-lt n (a .trues) (a .falses) (ltb-true _ _ (and-eq-true-iff _ _ .0 e .0)) (ltb-true _ _ (and-eq-true-iff (ltb (a .trues) (2 ^ n)) _ .0 e .1)))))
+    (or-lt n (a .trues) (a .falses) (ltb-true _ _ (and-eq-true-iff _ _ .0 e .0))
+    (ltb-true _ _ (and-eq-true-iff (ltb (a .trues) (2 ^ n)) _ .0 e .1)))))
 
 returns : tie.Need-returns
 returns c = wide _ _ (omega arith) (omega arith) (c .if1 .taken)

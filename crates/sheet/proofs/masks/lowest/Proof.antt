@@ -20,33 +20,32 @@ past a p h i =
 returns : tie.Need-returns
 returns c = past _ _ (c .before .pre) (c .if1 .taken)
 
-cast-named : tie.Need-cast-named
-cast-named c = search needs
-
-shr-named : tie.Need-shr-named
-shr-named c = search needs
-
 returns-2 : tie.Need-returns-2
 returns-2 c = none-named _ _ (c .before .before .before .pre) (c .if2 .taken)
 
 cast-l : tie.Need-cast-l
-cast-l c = omega (arith, trailing-le 32 (bitOr (c .before .before .before .args .a .trues) (c .before .before .before .args .a .falses) / 2 ^ c .before .before .before .args .p))
+cast-l c =
+    let start = c .before .before .before in
+    omega (arith, trailing-le 32 (bitOr (start .args .a .trues) (start .args .a .falses) / 2 ^ start .args .p))
 
 add-l : tie.Need-add-l
-add-l c = omega (arith, trailing-le 32 (bitOr (c .before .before .before .args .a .trues) (c .before .before .before .args .a .falses) / 2 ^ c .before .before .before .args .p))
+add-l c =
+    let start = c .before .before .before in
+    omega (arith, trailing-le 32 (bitOr (start .args .a .trues) (start .args .a .falses) / 2 ^ start .args .p))
 
 mul-l : tie.Need-mul-l
-mul-l c = omega (arith, trailing-le 32 (bitOr (c .before .before .before .args .a .trues) (c .before .before .before .args .a .falses) / 2 ^ c .before .before .before .args .p))
-
-contains-requires : tie.Need-contains-requires
-contains-requires c κs = search needs
+mul-l c =
+    let start = c .before .before .before in
+    omega (arith, trailing-le 32 (bitOr (start .args .a .trues) (start .args .a .falses) / 2 ^ start .args .p))
 
 returns-3 : tie.Need-returns-3
 returns-3 c =
     first-true _ _ (omega arith) (omega arith) (c .before .before .if2 .left) (sym (c .before .contains .ensures) ∙ c .if3 .taken)
 
 add-result : tie.Need-add-result
-add-result c = omega (arith, trailing-le 32 (bitOr (c .before .before .before .before .before .args .a .trues) (c .before .before .before .before .before .args .a .falses) / 2 ^ c .before .before .before .before .before .args .p))
+add-result c =
+    let start = c .before .before .before .before .before in
+    omega (arith, trailing-le 32 (bitOr (start .args .a .trues) (start .args .a .falses) / 2 ^ start .args .p))
 
 returns-4 : tie.Need-returns-4
 returns-4 c =
@@ -57,13 +56,13 @@ lowest-spec =
     tie.close
     (tie.spec
     returns
-    cast-named
-    shr-named
+    (λ c. search needs)
+    (λ c. search needs)
     returns-2
     cast-l
     add-l
     mul-l
-    contains-requires
+    (λ c κs. search needs)
     returns-3
     add-result
     returns-4)

@@ -18,38 +18,29 @@ odd a l e = let q : 2 * (l / 2 + 1) ≡ l + 1 = omega arith in ap (L.next a) q
 returns : tie.Need-returns
 returns c = sym (next-end _ _ (c .if1 .taken))
 
-lowest-requires : tie.Need-lowest-requires
-lowest-requires c κs = search needs
-
 returns-2 : tie.Need-returns-2
 returns-2 c = c .lowest .ensures ∙ even _ _ (c .before .if2 .taken)
-
-contains-requires : tie.Need-contains-requires
-contains-requires c κs = search needs
 
 returns-3 : tie.Need-returns-3
 returns-3 c = sym (next-here _ _ (c .before .before .before .if1 .left) (sym (c .before .contains .ensures) ∙ c .if3 .taken))
 
-add-lowest : tie.Need-add-lowest
-add-lowest c = search needs
-
-lowest-requires-2 : tie.Need-lowest-requires-2
-lowest-requires-2 c κs = search needs
-
 returns-4 : tie.Need-returns-4
 returns-4 c =
-    c .lowest2 .ensures ∙ odd _ _ (c .before .before .before .if2 .left)
-    ∙ sym (next-step _ _ (c .before .before .before .before .if1 .left) (sym (c .before .before .contains .ensures) ∙ c .before .if3 .left))
+    let after-contains = c .before .before in
+    let after-if2 = after-contains .before in
+    let after-if1 = after-if2 .before in
+    c .lowest2 .ensures ∙ odd _ _ (after-if2 .if2 .left)
+    ∙ sym (next-step _ _ (after-if1 .if1 .left) (sym (after-contains .contains .ensures) ∙ c .before .if3 .left))
 
 pub next-spec : {M : Type 1} → statement M
 next-spec =
     tie.close
     (tie.spec
     returns
-    lowest-requires
+    (λ c κs. search needs)
     returns-2
-    contains-requires
+    (λ c κs. search needs)
     returns-3
-    add-lowest
-    lowest-requires-2
+    (λ c. search needs)
+    (λ c κs. search needs)
     returns-4)

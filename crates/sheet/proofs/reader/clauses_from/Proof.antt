@@ -21,58 +21,30 @@ loop-holds : tie.Need-loop-holds Inv-loop μ-loop
 unfolding itemsAt
 loop-holds c = (c .before .before .pre .2, turns-none _ _ _ _)
 
-mul-at : tie.Need-mul-at Inv-loop μ-loop
-mul-at c = search needs
-
-add-sets-at : tie.Need-add-sets-at Inv-loop μ-loop
-add-sets-at c = search needs
-
-mul-sets-at : tie.Need-mul-sets-at Inv-loop μ-loop
-mul-sets-at c = search needs
-
-sub-sets-at : tie.Need-sub-sets-at Inv-loop μ-loop
-sub-sets-at c = search needs
-
-part-sets-at-start : tie.Need-part-sets-at-start Inv-loop μ-loop
-part-sets-at-start c = search needs
-
-part-sets-at-end : tie.Need-part-sets-at-end Inv-loop μ-loop
-part-sets-at-end c = search needs
-
 sets-at-requires : tie.Need-sets-at-requires Inv-loop μ-loop
 sets-at-requires c κs = (omega arith, simp (length-take, length-drop) (omega (arith, c .before .before .loop .inv .0)))
-
-enum-known-mark : tie.Need-enum-known-mark Inv-loop μ-loop
-enum-known-mark c = search needs
-
-enum-told : tie.Need-enum-told Inv-loop μ-loop
-enum-told c = search needs
-
-same-length : tie.Need-same-length Inv-loop μ-loop
-same-length c = search needs
 
 returns : tie.Need-returns Inv-loop μ-loop
 unfolding clause
 returns c =
-    turns-stop _ _ _ _ _ _ _ (c .before .before .before .before .before .before .before .loop .inv .1) (c .before .before .before .before .sets-at .ensures) (c .before .before .before .before .before .before .loop-test .taken) (c .enum-told .given .1)
-
-add-i : tie.Need-add-i Inv-loop μ-loop
-add-i c = search needs
-
-loop-less : tie.Need-loop-less Inv-loop μ-loop
-loop-less c = search needs
+    let after-sets-at = c .before .before .before .before in
+    let after-loop-test = after-sets-at .before .before in
+    let at-loop = after-loop-test .before in
+    turns-stop _ _ _ _ _ _ _ (at-loop .loop .inv .1) (after-sets-at .sets-at .ensures) (after-loop-test .loop-test .taken)
+    (c .enum-told .given .1)
 
 loop-again : tie.Need-loop-again Inv-loop μ-loop
 unfolding clause
 loop-again c =
-    let v = c .before .before .before .before .before .before .before .before .loop in
-    let l = c .before .before .before .before .before .before .before .loop-test .taken in (
+    let after-sets-at = c .before .before .before .before .before in
+    let after-loop-test = after-sets-at .before .before in
+    let at-loop = after-loop-test .before in
+    let v = at-loop .loop in
+    let l = after-loop-test .loop-test .taken in (
       simp (length-append, length-take, length-drop) (omega (arith, v .inv .0)),
-      turns-laid _ _ _ _ _ _ _ (v .inv .1) (c .before .before .before .before .before .sets-at .ensures) l (c .before .mark .given .1) (items-laid 17 _ (v .i) _ _ (omega (arith, v .inv .0)) (search needs)),
+      turns-laid _ _ _ _ _ _ _ (v .inv .1) (after-sets-at .sets-at .ensures) l (c .before .mark .given .1)
+          (items-laid 17 _ (v .i) _ _ (omega (arith, v .inv .0)) (search needs)),
     )
-
-same-length-2 : tie.Need-same-length-2 Inv-loop μ-loop
-same-length-2 c = search needs
 
 returns-2 : tie.Need-returns-2 Inv-loop μ-loop
 returns-2 c = turns-end _ _ _ _ (λ j. clausesAt j (c .before .loop .section)) _ _ (c .before .loop .inv .1) (c .loop-test .left)
@@ -84,19 +56,19 @@ clauses-from-spec =
     Inv-loop
     μ-loop
     loop-holds
-    mul-at
-    add-sets-at
-    mul-sets-at
-    sub-sets-at
-    part-sets-at-start
-    part-sets-at-end
+    (λ c. search needs)
+    (λ c. search needs)
+    (λ c. search needs)
+    (λ c. search needs)
+    (λ c. search needs)
+    (λ c. search needs)
     sets-at-requires
-    enum-known-mark
-    enum-told
-    same-length
+    (λ c. search needs)
+    (λ c. search needs)
+    (λ c. search needs)
     returns
-    add-i
-    loop-less
+    (λ c. search needs)
+    (λ c. search needs)
     loop-again
-    same-length-2
+    (λ c. search needs)
     returns-2)

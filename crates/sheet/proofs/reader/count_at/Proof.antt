@@ -26,10 +26,12 @@ returns-2 : tie.Need-returns-2
 returns-2 c = gave-fault same _ (byte-wrong _ _ _ (c .before .before .if1 .left) (count-low _ _ _ (c .if2 .taken))) refl
 
 returns-3 : tie.Need-returns-3
-returns-3 c = gave-fault same _ (byte-wrong _ _ _ (c .before .before .before .if1 .left) (count-high _ _ _ (c .before .if2 .left) (c .if3 .taken))) refl
+returns-3 c = gave-fault same _
+    (byte-wrong _ _ _ (c .before .before .before .if1 .left) (count-high _ _ _ (c .before .if2 .left) (c .if3 .taken))) refl
 
 returns-4 : tie.Need-returns-4
-returns-4 c = gave-item same _ (byte-fine _ _ _ (c .before .before .before .if1 .left) (count-fine _ _ _ (c .before .if2 .left) (c .if3 .left))) refl refl
+returns-4 c = gave-item same _
+    (byte-fine _ _ _ (c .before .before .before .if1 .left) (count-fine _ _ _ (c .before .if2 .left) (c .if3 .left))) refl refl
 
 pub count-at-spec : {M : Type 1} → statement M
 count-at-spec =

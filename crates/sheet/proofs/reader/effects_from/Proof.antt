@@ -21,46 +21,27 @@ loop-holds : tie.Need-loop-holds Inv-loop μ-loop
 unfolding effectsAt
 loop-holds c = (omega arith, turns-none _ _ _ _)
 
-effect-at-requires : tie.Need-effect-at-requires Inv-loop μ-loop
-effect-at-requires c κs = omega arith
-
-enum-known-mark : tie.Need-enum-known-mark Inv-loop μ-loop
-enum-known-mark c = search needs
-
-enum-told : tie.Need-enum-told Inv-loop μ-loop
-enum-told c = search needs
-
-same-length : tie.Need-same-length Inv-loop μ-loop
-same-length c = search needs
-
 returns : tie.Need-returns Inv-loop μ-loop
 returns c =
-    turns-stop _ _ _ _ _ _ _ (c .before .before .before .before .loop .inv .1) (c .before .before .effect-at .ensures)
-    (c .before .before .before .loop-test .taken) (c .enum-told .given .1)
-
-mul-write-effect : tie.Need-mul-write-effect Inv-loop μ-loop
-mul-write-effect c = search needs
-
-write-effect-requires : tie.Need-write-effect-requires Inv-loop μ-loop
-write-effect-requires c κs = search needs
-
-add-i : tie.Need-add-i Inv-loop μ-loop
-add-i c = search needs
-
-loop-less : tie.Need-loop-less Inv-loop μ-loop
-loop-less c = search needs
+    let after-effect-at = c .before .before in
+    let after-loop-test = after-effect-at .before in
+    let at-loop = after-loop-test .before in
+    turns-stop _ _ _ _ _ _ _ (at-loop .loop .inv .1) (after-effect-at .effect-at .ensures)
+    (after-loop-test .loop-test .taken) (c .enum-told .given .1)
 
 loop-again : tie.Need-loop-again Inv-loop μ-loop
 loop-again c =
-    let v = c .before .before .before .before .before .before .before .before .before .before .loop in (
+    let after-write-effect = c .before .before in
+    let after-mark = after-write-effect .before .before .before .before in
+    let after-effect-at = after-mark .before .before in
+    let after-loop-test = after-effect-at .before in
+    let at-loop = after-loop-test .before in
+    let v = at-loop .loop in (
       search needs,
-      turns-laid _ _ _ _ _ _ _ (v .inv .1) (c .before .before .before .before .before .before .before .before .effect-at .ensures)
-          (c .before .before .before .before .before .before .before .before .before .loop-test .taken) (c .before .before .before .before .before .before .mark .given .1)
-          (ap (effectsAt _) (c .before .before .write-effect .ensures) ∙ effects-more (v .i) (v .effects) _ (omega arith)),
+      turns-laid _ _ _ _ _ _ _ (v .inv .1) (after-effect-at .effect-at .ensures)
+          (after-loop-test .loop-test .taken) (after-mark .mark .given .1)
+          (ap (effectsAt _) (after-write-effect .write-effect .ensures) ∙ effects-more (v .i) (v .effects) _ (omega arith)),
     )
-
-same-length-2 : tie.Need-same-length-2 Inv-loop μ-loop
-same-length-2 c = search needs
 
 returns-2 : tie.Need-returns-2 Inv-loop μ-loop
 returns-2 c = let v = c .before .loop in turns-end _ _ _ _ (λ j. effectsAt j (v .effects)) _ _ (v .inv .1) (c .loop-test .left)
@@ -72,15 +53,15 @@ effects-from-spec =
     Inv-loop
     μ-loop
     loop-holds
-    effect-at-requires
-    enum-known-mark
-    enum-told
-    same-length
+    (λ c κs. omega arith)
+    (λ c. search needs)
+    (λ c. search needs)
+    (λ c. search needs)
     returns
-    mul-write-effect
-    write-effect-requires
-    add-i
-    loop-less
+    (λ c. search needs)
+    (λ c κs. search needs)
+    (λ c. search needs)
+    (λ c. search needs)
     loop-again
-    same-length-2
+    (λ c. search needs)
     returns-2)

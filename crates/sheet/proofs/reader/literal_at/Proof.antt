@@ -6,39 +6,29 @@ use Rattle.sheet.proofs.laws.reader.ReadMarks.{gave-fault, gave-item, b
 use Rattle.sheet.proofs.reader.literal_at.Statement.{statement}
 use Rattle.sheet.proofs.reader.literal_at.Tie as tie
 
-early-requires : tie.Need-early-requires
-early-requires c κs = search needs
-
 returns : tie.Need-returns
 returns c = gave-fault same _ (byte-early _ _ _ (c .before .if1 .taken)) (c .early .ensures)
-
-add-next : tie.Need-add-next
-add-next c = search needs
-
-shared-slice-read-b : tie.Need-shared-slice-read-b
-shared-slice-read-b c = search needs
 
 cast-b : tie.Need-cast-b
 cast-b c = omega (arith, c .shared-slice-known2 .given (c .before .before .before .args .at))
 
-literal-fault-requires : tie.Need-literal-fault-requires
-literal-fault-requires c κs = search needs
-
 returns-2 : tie.Need-returns-2
-returns-2 c = gave-fault same _ (byte-wrong-by _ _ _ (c .before .before .before .if1 .left) (c .before .literal-fault .ensures) (c .if2 .taken)) refl
+returns-2 c = gave-fault same _
+    (byte-wrong-by _ _ _ (c .before .before .before .if1 .left) (c .before .literal-fault .ensures) (c .if2 .taken)) refl
 
 returns-3 : tie.Need-returns-3
-returns-3 c = gave-item same _ (byte-fine _ _ _ (c .before .before .before .if1 .left) (sym (c .before .literal-fault .ensures) ∙ c .if2 .left)) refl refl
+returns-3 c = gave-item same _
+    (byte-fine _ _ _ (c .before .before .before .if1 .left) (sym (c .before .literal-fault .ensures) ∙ c .if2 .left)) refl refl
 
 pub literal-at-spec : {M : Type 1} → statement M
 literal-at-spec =
     tie.close
     (tie.spec
-    early-requires
+    (λ c κs. search needs)
     returns
-    add-next
-    shared-slice-read-b
+    (λ c. search needs)
+    (λ c. search needs)
     cast-b
-    literal-fault-requires
+    (λ c κs. search needs)
     returns-2
     returns-3)

@@ -15,11 +15,16 @@ returns-2 c = fault-order _ (c .before .before .args .floor) _ (c .before .if1 .
 
 returns-3 : tie.Need-returns-3
 returns-3 c =
-    fault-complement _ (c .before .before .before .before .args .floor) _ (c .before .before .before .if1 .left) (c .before .if3 .taken) (c .if4 .taken)
+    let after-if1 = c .before .before .before in
+    let start = after-if1 .before in
+    fault-complement _ (start .args .floor) _ (after-if1 .if1 .left) (c .before .if3 .taken) (c .if4 .taken)
 
 returns-4 : tie.Need-returns-4
 returns-4 c =
-    fault-none _ (c .before .before .before .before .args .floor) _ (c .before .before .before .if1 .left) (c .before .before .if2 .left) (λ e. c .if4 .left)
+    let after-if2 = c .before .before in
+    let after-if1 = after-if2 .before in
+    let start = after-if1 .before in
+    fault-none _ (start .args .floor) _ (after-if1 .if1 .left) (after-if2 .if2 .left) (λ e. c .if4 .left)
 
 returns-5 : tie.Need-returns-5
 returns-5 c =

@@ -26,7 +26,9 @@ literals-from-requires c κs = search needs
 returns-2 : tie.Need-returns-2
 unfolding literals
 returns-2 c =
-    gave-on _ _ _ _ same (got-same _ _ _ (c .before .before .before .before .count-at .ensures) (c .before .before .mark .given .1))
+    let after-mark = c .before .before in
+    let after-count-at = after-mark .before .before in
+    gave-on _ _ _ _ same (got-same _ _ _ (after-count-at .count-at .ensures) (after-mark .mark .given .1))
     (gave-as _ _ setOf _ setOf same (λ a. refl) (c .literals-from .ensures))
 
 pub literals-at-spec : {M : Type 1} → statement M

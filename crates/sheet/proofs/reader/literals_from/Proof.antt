@@ -16,43 +16,34 @@ loop-holds : tie.Need-loop-holds Inv-loop μ-loop
 unfolding noLiteral
 loop-holds c = ahead-none _ _ _ _
 
-literal-at-requires : tie.Need-literal-at-requires Inv-loop μ-loop
-literal-at-requires c κs = search needs
-
-enum-known-mark : tie.Need-enum-known-mark Inv-loop μ-loop
-enum-known-mark c = search needs
-
-enum-told : tie.Need-enum-told Inv-loop μ-loop
-enum-told c = search needs
-
 returns : tie.Need-returns Inv-loop μ-loop
 returns c =
-    ahead-fault _ _ _ _ _ _ _ _ (c .before .before .before .before .loop .inv) (c .before .before .before .loop-test .taken)
-    (c .before .before .literal-at .ensures) (c .enum-told .given .1)
+    let after-literal-at = c .before .before in
+    let after-loop-test = after-literal-at .before in
+    let at-loop = after-loop-test .before in
+    ahead-fault _ _ _ _ _ _ _ _ (at-loop .loop .inv) (after-loop-test .loop-test .taken)
+    (after-literal-at .literal-at .ensures) (c .enum-told .given .1)
 
 literal-requires : tie.Need-literal-requires Inv-loop μ-loop
 literal-requires c κs =
     let h = literal-below _ _ _ (read-passed _ _ _ (c .before .before .before .literal-at .ensures) (c .before .mark .given .1)) in
     omega arith
 
-join-requires : tie.Need-join-requires Inv-loop μ-loop
-join-requires c κs = search needs
-
 add-floor : tie.Need-add-floor Inv-loop μ-loop
 add-floor c =
-    let h = literal-below _ _ _ (read-passed _ _ _ (c .before .before .before .before .before .literal-at .ensures) (c .before .before .before .mark .given .1)) in
+    let after-mark = c .before .before .before in
+    let after-literal-at = after-mark .before .before in
+    let h = literal-below _ _ _ (read-passed _ _ _ (after-literal-at .literal-at .ensures) (after-mark .mark .given .1)) in
     omega arith
-
-add-i : tie.Need-add-i Inv-loop μ-loop
-add-i c = omega arith
-
-loop-less : tie.Need-loop-less Inv-loop μ-loop
-loop-less c = omega arith
 
 loop-again : tie.Need-loop-again Inv-loop μ-loop
 loop-again c =
-    ahead-more _ _ _ _ _ _ _ _ (c .before .before .before .before .before .before .before .loop .inv) (c .before .before .before .before .before .before .loop-test .taken)
-    (c .before .before .before .before .before .literal-at .ensures) (c .before .before .before .mark .given .1) (c .before .literal .ensures) (c .join .ensures)
+    let after-mark = c .before .before .before in
+    let after-literal-at = after-mark .before .before in
+    let after-loop-test = after-literal-at .before in
+    let at-loop = after-loop-test .before in
+    ahead-more _ _ _ _ _ _ _ _ (at-loop .loop .inv) (after-loop-test .loop-test .taken)
+    (after-literal-at .literal-at .ensures) (after-mark .mark .given .1) (c .before .literal .ensures) (c .join .ensures)
 
 returns-2 : tie.Need-returns-2 Inv-loop μ-loop
 returns-2 c = ahead-all _ _ _ _ _ _ _ _ (c .before .loop .inv) (c .loop-test .left)
@@ -64,14 +55,14 @@ literals-from-spec =
     Inv-loop
     μ-loop
     loop-holds
-    literal-at-requires
-    enum-known-mark
-    enum-told
+    (λ c κs. search needs)
+    (λ c. search needs)
+    (λ c. search needs)
     returns
     literal-requires
-    join-requires
+    (λ c κs. search needs)
     add-floor
-    add-i
-    loop-less
+    (λ c. omega arith)
+    (λ c. omega arith)
     loop-again
     returns-2)

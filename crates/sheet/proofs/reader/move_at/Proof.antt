@@ -13,61 +13,41 @@ use Rattle.sheet.proofs.laws.reader.PackedParts.{action-laid}
 use Rattle.sheet.proofs.reader.move_at.Statement.{statement}
 use Rattle.sheet.proofs.reader.move_at.Tie as tie
 
-literals-at-requires : tie.Need-literals-at-requires
-literals-at-requires c κs = search needs
-
-enum-known-mark : tie.Need-enum-known-mark
-enum-known-mark c = search needs
-
-enum-told : tie.Need-enum-told
-enum-told c = search needs
-
 returns : tie.Need-returns
 unfolding action
 returns c = gave-stop _ _ _ _ same same (c .before .before .literals-at .ensures) (c .enum-told .given .1)
 
-count-at-requires : tie.Need-count-at-requires
-count-at-requires c κs = search needs
-
-enum-known-end : tie.Need-enum-known-end
-enum-known-end c = search needs
-
-enum-told-2 : tie.Need-enum-told-2
-enum-told-2 c = search needs
-
 returns-2 : tie.Need-returns-2
 unfolding action listOf
 returns-2 c =
-    gave-on _ _ _ _ same (got-same _ _ _ (c .before .before .before .before .before .before .literals-at .ensures) (c .before .before .before .before .mark .given .1))
-    (gave-stop _ _ _ _ same same {v = []} (gave-stop _ (count 0 8) (λ k. times k (effect _)) _ same same (c .before .before .count-at .ensures) (c .enum-told2 .given .1)) (c .enum-told2 .given .1))
-
-slice-write-item : tie.Need-slice-write-item
-slice-write-item c = search needs
-
-slice-write-item-2 : tie.Need-slice-write-item-2
-slice-write-item-2 c = search needs
+    let after-count-at = c .before .before in
+    let after-mark = after-count-at .before .before in
+    let after-literals-at = after-mark .before .before in
+    gave-on _ _ _ _ same (got-same _ _ _ (after-literals-at .literals-at .ensures) (after-mark .mark .given .1))
+    (gave-stop _ _ _ _ same same {v = []}
+    (gave-stop _ (count 0 8) (λ k. times k (effect _)) _ same same (after-count-at .count-at .ensures) (c .enum-told2 .given .1))
+    (c .enum-told2 .given .1))
 
 cast-item : tie.Need-cast-item
-cast-item c = let h = count-most _ _ _ (read-passed _ _ _ (c .before .before .before .before .count-at .ensures) (c .before .before .end .given .1)) in omega arith
+cast-item c =
+    let after-end = c .before .before in
+    let after-count-at = after-end .before .before in
+    let h = count-most _ _ _ (read-passed _ _ _ (after-count-at .count-at .ensures) (after-end .end .given .1)) in omega arith
 
 slice-write-item-3 : tie.Need-slice-write-item-3
 slice-write-item-3 c = simp length-set (omega arith)
-
-sub-effects-from : tie.Need-sub-effects-from
-sub-effects-from c = search needs
-
-part-effects-from-start : tie.Need-part-effects-from-start
-part-effects-from-start c = search needs
 
 part-effects-from-end : tie.Need-part-effects-from-end
 part-effects-from-end c = simp length-set (omega arith)
 
 effects-from-requires : tie.Need-effects-from-requires
-effects-from-requires c κs = (
-  omega arith,
-  count-most _ _ _ (read-passed _ _ _ (c .before .before .before .before .before .count-at .ensures) (c .before .before .before .end .given .1)),
-  simp (length-take, length-drop, length-set) (omega arith),
-)
+effects-from-requires c κs =
+    let after-end = c .before .before .before in
+    let after-count-at = after-end .before .before in (
+      omega arith,
+      count-most _ _ _ (read-passed _ _ _ (after-count-at .count-at .ensures) (after-end .end .given .1)),
+      simp (length-take, length-drop, length-set) (omega arith),
+    )
 
 same-length : tie.Need-same-length
 same-length c = c .before .item .given .1 ∙ simp length-set
@@ -79,29 +59,32 @@ returns-3 c =
     let p = c .before .before .before .before .before .before .before .before .before .before .before .before .literals-at in
     let r = c .before .before .before .before .before .before .before .before .count-at in
     subst (ReadsAs same _ _) (sym (action-laid (z .args .item .now) _ (p .result .value) (r .result .value) (z .pre .1) (search needs)))
-    (gave-on _ _ _ _ same (got-same _ _ _ (p .ensures) (c .before .before .before .before .before .before .before .before .before .before .mark .given .1))
+    (gave-on _ _ _ _ same (got-same _ _ _ (p .ensures)
+    (c .before .before .before .before .before .before .before .before .before .before .mark .given .1))
     (gave-as _ (listOf 0 8 (effect _)) _ _ _ same (λ a. refl)
     (gave-made (λ es. record { precondition = p .result .value; effects = es })
-    (gave-on _ (count 0 8) (λ k. times k (effect _)) _ same (got-same _ _ _ (r .ensures) (c .before .before .before .before .before .before .end .given .1)) (c .before .before .effects-from .ensures)))))
+    (gave-on _ (count 0 8) (λ k. times k (effect _)) _ same
+    (got-same _ _ _ (r .ensures) (c .before .before .before .before .before .before .end .given .1))
+    (c .before .before .effects-from .ensures)))))
 
 pub move-at-spec : {M : Type 1} → statement M
 move-at-spec =
     tie.close
     (tie.spec
-    literals-at-requires
-    enum-known-mark
-    enum-told
+    (λ c κs. search needs)
+    (λ c. search needs)
+    (λ c. search needs)
     returns
-    count-at-requires
-    enum-known-end
-    enum-told-2
+    (λ c κs. search needs)
+    (λ c. search needs)
+    (λ c. search needs)
     returns-2
-    slice-write-item
-    slice-write-item-2
+    (λ c. search needs)
+    (λ c. search needs)
     cast-item
     slice-write-item-3
-    sub-effects-from
-    part-effects-from-start
+    (λ c. search needs)
+    (λ c. search needs)
     part-effects-from-end
     effects-from-requires
     same-length

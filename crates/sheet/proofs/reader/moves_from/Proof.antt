@@ -21,56 +21,28 @@ loop-holds : tie.Need-loop-holds Inv-loop μ-loop
 unfolding itemsAt
 loop-holds c = (c .before .before .pre .2, turns-none _ _ _ _)
 
-mul-at : tie.Need-mul-at Inv-loop μ-loop
-mul-at c = search needs
-
-add-move-at : tie.Need-add-move-at Inv-loop μ-loop
-add-move-at c = search needs
-
-mul-move-at : tie.Need-mul-move-at Inv-loop μ-loop
-mul-move-at c = search needs
-
-sub-move-at : tie.Need-sub-move-at Inv-loop μ-loop
-sub-move-at c = search needs
-
-part-move-at-start : tie.Need-part-move-at-start Inv-loop μ-loop
-part-move-at-start c = search needs
-
-part-move-at-end : tie.Need-part-move-at-end Inv-loop μ-loop
-part-move-at-end c = search needs
-
 move-at-requires : tie.Need-move-at-requires Inv-loop μ-loop
 move-at-requires c κs = (omega arith, simp (length-take, length-drop) (omega (arith, c .before .before .loop .inv .0)))
 
-enum-known-mark : tie.Need-enum-known-mark Inv-loop μ-loop
-enum-known-mark c = search needs
-
-enum-told : tie.Need-enum-told Inv-loop μ-loop
-enum-told c = search needs
-
-same-length : tie.Need-same-length Inv-loop μ-loop
-same-length c = search needs
-
 returns : tie.Need-returns Inv-loop μ-loop
 returns c =
-    turns-stop _ _ _ _ _ _ _ (c .before .before .before .before .before .before .before .loop .inv .1) (c .before .before .before .before .move-at .ensures) (c .before .before .before .before .before .before .loop-test .taken) (c .enum-told .given .1)
-
-add-i : tie.Need-add-i Inv-loop μ-loop
-add-i c = search needs
-
-loop-less : tie.Need-loop-less Inv-loop μ-loop
-loop-less c = search needs
+    let after-move-at = c .before .before .before .before in
+    let after-loop-test = after-move-at .before .before in
+    let at-loop = after-loop-test .before in
+    turns-stop _ _ _ _ _ _ _ (at-loop .loop .inv .1) (after-move-at .move-at .ensures) (after-loop-test .loop-test .taken)
+    (c .enum-told .given .1)
 
 loop-again : tie.Need-loop-again Inv-loop μ-loop
 loop-again c =
-    let v = c .before .before .before .before .before .before .before .before .loop in
-    let l = c .before .before .before .before .before .before .before .loop-test .taken in (
+    let after-move-at = c .before .before .before .before .before in
+    let after-loop-test = after-move-at .before .before in
+    let at-loop = after-loop-test .before in
+    let v = at-loop .loop in
+    let l = after-loop-test .loop-test .taken in (
       simp (length-append, length-take, length-drop) (omega (arith, v .inv .0)),
-      turns-laid _ _ _ _ _ _ _ (v .inv .1) (c .before .before .before .before .before .move-at .ensures) l (c .before .mark .given .1) (items-laid 35 _ (v .i) _ _ (omega (arith, v .inv .0)) (search needs)),
+      turns-laid _ _ _ _ _ _ _ (v .inv .1) (after-move-at .move-at .ensures) l (c .before .mark .given .1)
+          (items-laid 35 _ (v .i) _ _ (omega (arith, v .inv .0)) (search needs)),
     )
-
-same-length-2 : tie.Need-same-length-2 Inv-loop μ-loop
-same-length-2 c = search needs
 
 returns-2 : tie.Need-returns-2 Inv-loop μ-loop
 returns-2 c = turns-end _ _ _ _ (λ j. actionsAt j (c .before .loop .section)) _ _ (c .before .loop .inv .1) (c .loop-test .left)
@@ -82,19 +54,19 @@ moves-from-spec =
     Inv-loop
     μ-loop
     loop-holds
-    mul-at
-    add-move-at
-    mul-move-at
-    sub-move-at
-    part-move-at-start
-    part-move-at-end
+    (λ c. search needs)
+    (λ c. search needs)
+    (λ c. search needs)
+    (λ c. search needs)
+    (λ c. search needs)
+    (λ c. search needs)
     move-at-requires
-    enum-known-mark
-    enum-told
-    same-length
+    (λ c. search needs)
+    (λ c. search needs)
+    (λ c. search needs)
     returns
-    add-i
-    loop-less
+    (λ c. search needs)
+    (λ c. search needs)
     loop-again
-    same-length-2
+    (λ c. search needs)
     returns-2)

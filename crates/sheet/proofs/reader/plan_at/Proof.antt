@@ -25,11 +25,17 @@ unfolding plan listOf
 returns c = gave-stop _ _ _ _ planOf same (c .before .before .before .count-at .ensures) (c .before .enum-told .given .1)
 
 plan-from-requires : tie.Need-plan-from-requires
-plan-from-requires c κs = (c .before .before .before .before .before .pre, count-most _ _ _ (read-passed _ _ _ (c .before .before .before .count-at .ensures) (c .before .mark .given .1)))
+plan-from-requires c κs =
+    let after-count-at = c .before .before .before in
+    let start = after-count-at .before .before in
+    (start .pre, count-most _ _ _ (read-passed _ _ _ (after-count-at .count-at .ensures) (c .before .mark .given .1)))
 
 returns-2 : tie.Need-returns-2
 unfolding plan listOf
-returns-2 c = gave-on _ _ _ _ planOf (got-same _ _ _ (c .before .before .before .before .count-at .ensures) (c .before .before .mark .given .1)) (c .plan-from .ensures)
+returns-2 c =
+    let after-mark = c .before .before in
+    let after-count-at = after-mark .before .before in
+    gave-on _ _ _ _ planOf (got-same _ _ _ (after-count-at .count-at .ensures) (after-mark .mark .given .1)) (c .plan-from .ensures)
 
 pub plan-at-spec : {M : Type 1} → statement M
 plan-at-spec =

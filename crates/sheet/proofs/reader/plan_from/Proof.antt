@@ -22,38 +22,29 @@ loop-holds : tie.Need-loop-holds Inv-loop μ-loop
 unfolding pad
 loop-holds c = taken-none _ _ _ _ _ _ _ _ refl
 
-number-at-requires : tie.Need-number-at-requires Inv-loop μ-loop
-number-at-requires c κs = search needs
-
-enum-known-mark : tie.Need-enum-known-mark Inv-loop μ-loop
-enum-known-mark c = search needs
-
-enum-told : tie.Need-enum-told Inv-loop μ-loop
-enum-told c = search needs
-
 returns : tie.Need-returns Inv-loop μ-loop
 returns c =
-    taken-fault _ _ _ _ _ _ _ _ _ _ (c .before .before .before .before .loop .inv) planOf (c .before .before .before .loop-test .taken)
-    (c .before .before .number-at .ensures) (c .enum-told .given .1)
+    let after-number-at = c .before .before in
+    let after-loop-test = after-number-at .before in
+    let at-loop = after-loop-test .before in
+    taken-fault _ _ _ _ _ _ _ _ _ _ (at-loop .loop .inv) planOf (after-loop-test .loop-test .taken)
+    (after-number-at .number-at .ensures) (c .enum-told .given .1)
 
 cast-numbers : tie.Need-cast-numbers Inv-loop μ-loop
 cast-numbers c =
-    let h = number-below _ _ (read-passed _ _ _ (c .before .before .before .before .number-at .ensures) (c .before .before .mark .given .1)) in
+    let after-mark = c .before .before in
+    let after-number-at = after-mark .before .before in
+    let h = number-below _ _ (read-passed _ _ _ (after-number-at .number-at .ensures) (after-mark .mark .given .1)) in
     omega arith
-
-array-write-numbers : tie.Need-array-write-numbers Inv-loop μ-loop
-array-write-numbers c = omega arith
-
-add-i : tie.Need-add-i Inv-loop μ-loop
-add-i c = omega arith
-
-loop-less : tie.Need-loop-less Inv-loop μ-loop
-loop-less c = omega arith
 
 loop-again : tie.Need-loop-again Inv-loop μ-loop
 loop-again c =
-    taken-more _ _ _ _ _ _ _ _ _ _ (c .before .before .before .before .before .before .loop .inv) (c .before .before .before .before .before .loop-test .taken) (omega arith)
-    (c .before .before .before .before .number-at .ensures) (c .before .before .mark .given .1)
+    let after-mark = c .before .before in
+    let after-number-at = after-mark .before .before in
+    let after-loop-test = after-number-at .before in
+    let at-loop = after-loop-test .before in
+    taken-more _ _ _ _ _ _ _ _ _ _ (at-loop .loop .inv) (after-loop-test .loop-test .taken) (omega arith)
+    (after-number-at .number-at .ensures) (after-mark .mark .given .1)
 
 returns-2 : tie.Need-returns-2 Inv-loop μ-loop
 unfolding planOf
@@ -68,13 +59,13 @@ plan-from-spec =
     Inv-loop
     μ-loop
     loop-holds
-    number-at-requires
-    enum-known-mark
-    enum-told
+    (λ c κs. search needs)
+    (λ c. search needs)
+    (λ c. search needs)
     returns
     cast-numbers
-    array-write-numbers
-    add-i
-    loop-less
+    (λ c. omega arith)
+    (λ c. omega arith)
+    (λ c. omega arith)
     loop-again
     returns-2)

@@ -22,60 +22,29 @@ loop-holds : tie.Need-loop-holds Inv-loop μ-loop
 unfolding setsAt
 loop-holds c = (omega arith, turns-none _ _ _ _)
 
-literals-at-requires : tie.Need-literals-at-requires Inv-loop μ-loop
-literals-at-requires c κs = omega arith
-
-enum-known-mark : tie.Need-enum-known-mark Inv-loop μ-loop
-enum-known-mark c = search needs
-
-enum-told : tie.Need-enum-told Inv-loop μ-loop
-enum-told c = search needs
-
-same-length : tie.Need-same-length Inv-loop μ-loop
-same-length c = search needs
-
 returns : tie.Need-returns Inv-loop μ-loop
 returns c =
-    turns-stop _ _ _ _ _ _ _ (c .before .before .before .before .loop .inv .1) (c .before .before .literals-at .ensures)
-    (c .before .before .before .loop-test .taken) (c .enum-told .given .1)
-
-mul-sets : tie.Need-mul-sets Inv-loop μ-loop
-mul-sets c = search needs
-
-mul-sets-2 : tie.Need-mul-sets-2 Inv-loop μ-loop
-mul-sets-2 c = search needs
-
-slice-write-sets : tie.Need-slice-write-sets Inv-loop μ-loop
-slice-write-sets c = search needs
-
-mul-sets-3 : tie.Need-mul-sets-3 Inv-loop μ-loop
-mul-sets-3 c = search needs
-
-add-sets : tie.Need-add-sets Inv-loop μ-loop
-add-sets c = search needs
-
-mul-sets-4 : tie.Need-mul-sets-4 Inv-loop μ-loop
-mul-sets-4 c = search needs
+    let after-literals-at = c .before .before in
+    let after-loop-test = after-literals-at .before in
+    let at-loop = after-loop-test .before in
+    turns-stop _ _ _ _ _ _ _ (at-loop .loop .inv .1) (after-literals-at .literals-at .ensures)
+    (after-loop-test .loop-test .taken) (c .enum-told .given .1)
 
 slice-write-sets-2 : tie.Need-slice-write-sets-2 Inv-loop μ-loop
 slice-write-sets-2 c = simp length-set (omega arith)
 
-add-i : tie.Need-add-i Inv-loop μ-loop
-add-i c = search needs
-
-loop-less : tie.Need-loop-less Inv-loop μ-loop
-loop-less c = search needs
-
 loop-again : tie.Need-loop-again Inv-loop μ-loop
 loop-again c =
-    let v = c .before .before .before .before .before .before .loop in (
+    let after-mark = c .before .before in
+    let after-literals-at = after-mark .before .before in
+    let after-loop-test = after-literals-at .before in
+    let at-loop = after-loop-test .before in
+    let v = at-loop .loop in (
       simp length-set (v .inv .0),
-      turns-laid _ _ _ _ _ _ _ (v .inv .1) (c .before .before .before .before .literals-at .ensures)
-          (c .before .before .before .before .before .loop-test .taken) (c .before .before .mark .given .1) (rw (add-one (v .i)) (sets-more (v .i) (v .sets) _ (omega arith))),
+      turns-laid _ _ _ _ _ _ _ (v .inv .1) (after-literals-at .literals-at .ensures)
+          (after-loop-test .loop-test .taken) (after-mark .mark .given .1)
+          (rw (add-one (v .i)) (sets-more (v .i) (v .sets) _ (omega arith))),
     )
-
-same-length-2 : tie.Need-same-length-2 Inv-loop μ-loop
-same-length-2 c = search needs
 
 returns-2 : tie.Need-returns-2 Inv-loop μ-loop
 returns-2 c = let v = c .before .loop in turns-end _ _ _ _ (λ j. setsAt j (v .sets)) _ _ (v .inv .1) (c .loop-test .left)
@@ -87,20 +56,20 @@ sets-from-spec =
     Inv-loop
     μ-loop
     loop-holds
-    literals-at-requires
-    enum-known-mark
-    enum-told
-    same-length
+    (λ c κs. omega arith)
+    (λ c. search needs)
+    (λ c. search needs)
+    (λ c. search needs)
     returns
-    mul-sets
-    mul-sets-2
-    slice-write-sets
-    mul-sets-3
-    add-sets
-    mul-sets-4
+    (λ c. search needs)
+    (λ c. search needs)
+    (λ c. search needs)
+    (λ c. search needs)
+    (λ c. search needs)
+    (λ c. search needs)
     slice-write-sets-2
-    add-i
-    loop-less
+    (λ c. search needs)
+    (λ c. search needs)
     loop-again
-    same-length-2
+    (λ c. search needs)
     returns-2)

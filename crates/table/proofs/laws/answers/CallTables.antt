@@ -53,7 +53,8 @@ module _ (s : List ℕ) (x : Statement) (says : Says s x) where
   unfolding startOf
   start-call = rw says
 
-  pub started : startOf (sheetOf s) .answer ≡ Accepted → (t : List Literals) × (startTable 128 (x .problem) ≡ Outcome.table t) × (startOf (sheetOf s) .table ≡ tableOf t)
+  pub started : startOf (sheetOf s) .answer ≡ Accepted → (t : List Literals) × (startTable 128 (x .problem) ≡ Outcome.table t)
+      × (startOf (sheetOf s) .table ≡ tableOf t)
   started e =
       let k = tables.start-accepted s x says .0 e in
       (k .0, k .1, unfold orGiven in ap (λ (r : TableAnswer). r .table) (start-call ∙ ap (orGiven (tableOf [])) (k .1)))
@@ -61,7 +62,8 @@ module _ (s : List ℕ) (x : Statement) (says : Says s x) where
   start-described : (t : List Literals) → startTable 128 (x .problem) ≡ Outcome.table t → Described 128 (p .n) t
   start-described t e = tables.start-table p hp 128 t e .0 (omega arith)
 
-  pub start-fits : startOf (sheetOf s) .answer ≡ Accepted → AsDescribed x (startOf (sheetOf s) .table) × ZeroAfter (startOf (sheetOf s) .table)
+  pub start-fits : startOf (sheetOf s) .answer ≡ Accepted → AsDescribed x (startOf (sheetOf s) .table)
+      × ZeroAfter (startOf (sheetOf s) .table)
   start-fits e = rw (started e .2) (rw (entries-table (started e .0) (d .most)) d, zero-after (started e .0) (d .most))
     where
       d : Described 128 (p .n) (started e .0)
@@ -77,7 +79,8 @@ module _ (s : List ℕ) (x : Statement) (says : Says s x) where
   pub start-some : (t : List Literals) → startTable 128 (x .problem) ≡ Outcome.table t → (w : ℕ) × Starts (x .problem) w
   start-some t e = go t (start-described t e .least) (start-described t e .proper) (tables.start-table p hp 128 t e .1)
     where
-      go : (u : List Literals) → 1 ≤ length u → All (Proper (p .n)) u → ((w : ℕ) → w < 2 ^ p .n → In (p .n) u w ↔ Starting p w) → (w : ℕ) × Starts p w
+      go : (u : List Literals) → 1 ≤ length u → All (Proper (p .n)) u → ((w : ℕ) → w < 2 ^ p .n → In (p .n) u w ↔ Starting p w) → (w : ℕ)
+          × Starts p w
       go [] l h f = absurd (omega arith)
       go (d ∷ u) l h f = let k = some-world (p .n) d (h .0) in (k .0, (k .1 .0, f (k .0) (k .1 .0) .0 (inl (k .1 .1))))
 
@@ -86,11 +89,20 @@ module _ (s : List ℕ) (x : Statement) (says : Says s x) where
     abbrev a : Action
     a = actionAt (x .problem) m
 
-    pub stepped-to : stepOf (sheetOf s) t m .answer ≡ Accepted → (u : List Literals) × (stepTable 128 a (entries t) ≡ Outcome.table u) × (stepOf (sheetOf s) t m .table ≡ tableOf u)
+    pub stepped-to : stepOf (sheetOf s) t m .answer ≡ Accepted → (u : List Literals) × (stepTable 128 a (entries t) ≡ Outcome.table u)
+        × (stepOf (sheetOf s) t m .table ≡ tableOf u)
     unfolding stepOf orGiven
     stepped-to e =
-        let k = tables.step-accepted s x says t m .0 e in
-        (k .2 .0, k .2 .1, rw (says, lt-ltb m (length (x .problem .actions)) (k .0), tables.described-iff 128 (x .problem .n) (entries t) .1 (k .1), k .2 .1))
+        let k = tables.step-accepted s x says t m .0 e in (
+          k .2 .0,
+          k .2 .1,
+          rw (
+            says,
+            lt-ltb m (length (x .problem .actions)) (k .0),
+            tables.described-iff 128 (x .problem .n) (entries t) .1 (k .1),
+            k .2 .1,
+          ),
+        )
 
     module _ (e : stepOf (sheetOf s) t m .answer ≡ Accepted) where
       abbrev on-sheet : m < length (x .problem .actions)
@@ -100,20 +112,24 @@ module _ (s : List ℕ) (x : Statement) (says : Says s x) where
       was = tables.step-accepted s x says t m .0 e .1
 
       law : Described 128 (p .n) (stepped-to e .0)
-          × ((v : ℕ) → v < 2 ^ p .n → In (p .n) (stepped-to e .0) v ↔ ((w : ℕ) × (In (p .n) (entries t) w × ((w < 2 ^ p .n) × (stepWorld (p .n) a w ≡ some v)))))
+          × ((v : ℕ) → v < 2 ^ p .n → In (p .n) (stepped-to e .0) v
+          ↔ ((w : ℕ) × (In (p .n) (entries t) w × ((w < 2 ^ p .n) × (stepWorld (p .n) a w ≡ some v)))))
       law = tables.step-table (p .n) (hp .n-most) a (at-proper p hp m on-sheet) (entries t) was 128 (stepped-to e .0) (stepped-to e .1)
 
       pub step-fits : AsDescribed x (stepOf (sheetOf s) t m .table) × ZeroAfter (stepOf (sheetOf s) t m .table)
-      step-fits = rw (stepped-to e .2) (rw (entries-table (stepped-to e .0) (law .0 .most)) (law .0), zero-after (stepped-to e .0) (law .0 .most))
+      step-fits = rw (stepped-to e .2)
+          (rw (entries-table (stepped-to e .0) (law .0 .most)) (law .0), zero-after (stepped-to e .0) (law .0 .most))
 
       pub step-worlds : (v : ℕ) → WorldOf x (stepOf (sheetOf s) t m .table) v ↔ ((w : ℕ) × WorldOf x t w × (stepWorld (p .n) a w ≡ some v))
       step-worlds v = rw (stepped-to e .2, entries-table (stepped-to e .0) (law .0 .most)) (
         λ h. (let k = law .1 v (h .0) .0 (h .1) in (k .0, (k .1 .1 .0, k .1 .0), k .1 .1 .1)),
-        λ h. (let l = step-below (p .n) a (at-proper p hp m on-sheet) (h .0) v (h .1 .0) (h .2) in (l, law .1 v l .1 (h .0, (h .1 .1, (h .1 .0, h .2))))),
+        λ h. (let l = step-below (p .n) a (at-proper p hp m on-sheet) (h .0) v (h .1 .0) (h .2) in
+            (l, law .1 v l .1 (h .0, (h .1 .1, (h .1 .0, h .2))))),
       )
 
       -- its entries are the least images of the pieces
       pub step-least : (d : Literals) → List·Memᴰ d (entries (stepOf (sheetOf s) t m .table)) ↔ Least (images x t m) d
       step-least d = rw (stepped-to e .2, entries-table (stepped-to e .0) (law .0 .most))
           (put-least 128 (images x t m) (stepped-to e .0)
-          (put-images (p .n) (hp .n-most) a (at-proper p hp m on-sheet) (entries t) (was .proper) 128 (stepped-to e .0) (stepped-to e .1) .1 .1) d)
+          (put-images (p .n) (hp .n-most) a (at-proper p hp m on-sheet) (entries t) (was .proper) 128 (stepped-to e .0)
+          (stepped-to e .1) .1 .1) d)

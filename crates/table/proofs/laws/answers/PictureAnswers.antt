@@ -33,13 +33,16 @@ module _ (s : List ℕ) (x : Statement) (says : sheetOf s ≡ accepted x) (t : T
   data Case : Type 0 where
     other : described 128 (x .problem .n) (entries t) ≡ false → Case
     full : described 128 (x .problem .n) (entries t) ≡ true → picture (entries t) ≡ none → Case
-    short : described 128 (x .problem .n) (entries t) ≡ true → (c : List Literals) → picture (entries t) ≡ some c → tooLong c (length buffer) ≡ true → Case
-    fine : described 128 (x .problem .n) (entries t) ≡ true → (c : List Literals) → picture (entries t) ≡ some c → tooLong c (length buffer) ≡ false → Case
+    short : described 128 (x .problem .n) (entries t) ≡ true → (c : List Literals) → picture (entries t) ≡ some c
+        → tooLong c (length buffer) ≡ true → Case
+    fine : described 128 (x .problem .n) (entries t) ≡ true → (c : List Literals) → picture (entries t) ≡ some c
+        → tooLong c (length buffer) ≡ false → Case
 
   which : Case
   which = go (described 128 (x .problem .n) (entries t)) refl (picture (entries t)) refl
     where
-      fits : described 128 (x .problem .n) (entries t) ≡ true → (c : List Literals) → picture (entries t) ≡ some c → (b : Bool) → tooLong c (length buffer) ≡ b → Case
+      fits : described 128 (x .problem .n) (entries t) ≡ true → (c : List Literals) → picture (entries t) ≡ some c → (b : Bool)
+          → tooLong c (length buffer) ≡ b → Case
       fits d c e true f = short d c e f
       fits d c e false f = fine d c e f
 
@@ -48,7 +51,8 @@ module _ (s : List ℕ) (x : Statement) (says : sheetOf s ≡ accepted x) (t : T
       go true d none e = full d e
       go true d (some c) e = fits d c e (tooLong c (length buffer)) refl
 
-  by-other : described 128 (x .problem .n) (entries t) ≡ false → (pictureOf (sheetOf s) t (length buffer) ≡ refusal 22 0) × (bufferOf (sheetOf s) t buffer ≡ buffer)
+  by-other : described 128 (x .problem .n) (entries t) ≡ false → (pictureOf (sheetOf s) t (length buffer) ≡ refusal 22 0)
+      × (bufferOf (sheetOf s) t buffer ≡ buffer)
   unfolding pictureOf bufferOf
   by-other d = (rw (says, d), rw (says, d))
 
@@ -57,12 +61,14 @@ module _ (s : List ℕ) (x : Statement) (says : sheetOf s ≡ accepted x) (t : T
   unfolding pictureOf bufferOf given written
   by-full d e = (rw (says, d, e), rw (says, d, e))
 
-  by-short : described 128 (x .problem .n) (entries t) ≡ true → (c : List Literals) → picture (entries t) ≡ some c → tooLong c (length buffer) ≡ true
+  by-short : described 128 (x .problem .n) (entries t) ≡ true → (c : List Literals) → picture (entries t) ≡ some c
+      → tooLong c (length buffer) ≡ true
       → (pictureOf (sheetOf s) t (length buffer) ≡ refusal 23 0) × (bufferOf (sheetOf s) t buffer ≡ buffer)
   unfolding pictureOf bufferOf given written
   by-short d c e f = (rw (says, d, e, f), rw (says, d, e, f))
 
-  by-fine : described 128 (x .problem .n) (entries t) ≡ true → (c : List Literals) → picture (entries t) ≡ some c → tooLong c (length buffer) ≡ false
+  by-fine : described 128 (x .problem .n) (entries t) ≡ true → (c : List Literals) → picture (entries t) ≡ some c
+      → tooLong c (length buffer) ≡ false
       → (pictureOf (sheetOf s) t (length buffer) ≡ record { answer = Accepted; clauses = length c })
       × (bufferOf (sheetOf s) t buffer ≡ pictureBytes c ++ drop (2 + 8 * length c) buffer)
   unfolding pictureOf bufferOf given written
@@ -114,7 +120,8 @@ module _ (s : List ℕ) (x : Statement) (says : sheetOf s ≡ accepted x) (t : T
       back h (fine d c o f) = absurd (h (is-described d))
 
   -- 21: the clauses do not fit on the way
-  pub picture-21 : (pictureOf (sheetOf s) t (length buffer) .answer ≡ Refused 21 0) ↔ (Described 128 (x .problem .n) (entries t) × (picture (entries t) ≡ none))
+  pub picture-21 : (pictureOf (sheetOf s) t (length buffer) .answer ≡ Refused 21 0)
+      ↔ (Described 128 (x .problem .n) (entries t) × (picture (entries t) ≡ none))
   unfolding number refusal
   picture-21 = (λ e. go which (told which 21 e), λ h. back h which)
     where
@@ -124,7 +131,8 @@ module _ (s : List ℕ) (x : Statement) (says : sheetOf s ≡ accepted x) (t : T
       go (short d c o f) n = absurd (omega arith)
       go (fine d c o f) n = absurd (omega arith)
 
-      back : Described 128 (x .problem .n) (entries t) × (picture (entries t) ≡ none) → Case → pictureOf (sheetOf s) t (length buffer) .answer ≡ Refused 21 0
+      back : Described 128 (x .problem .n) (entries t) × (picture (entries t) ≡ none) → Case
+          → pictureOf (sheetOf s) t (length buffer) .answer ≡ Refused 21 0
       back h (other d) = absurd (not-described d (h .0))
       back h (full d o) = ap (λ (r : PictureAnswer). r .answer) (by-full d o .0)
       back h (short d c o f) = absurd (let z : _≡_ {A = ℕ} 0 1 = cc (h .1) in omega arith)
@@ -132,17 +140,20 @@ module _ (s : List ℕ) (x : Statement) (says : sheetOf s ≡ accepted x) (t : T
 
   -- 23: the buffer is too short for the picture's bytes
   pub picture-23 : (pictureOf (sheetOf s) t (length buffer) .answer ≡ Refused 23 0)
-      ↔ (Described 128 (x .problem .n) (entries t) × ((c : List Literals) × (picture (entries t) ≡ some c) × (length buffer < 2 + 8 * length c)))
+      ↔ (Described 128 (x .problem .n) (entries t)
+      × ((c : List Literals) × (picture (entries t) ≡ some c) × (length buffer < 2 + 8 * length c)))
   unfolding number refusal
   picture-23 = (λ e. go which (told which 23 e), λ h. back h which)
     where
-      go : (w : Case) → number w ≡ 23 → Described 128 (x .problem .n) (entries t) × ((c : List Literals) × (picture (entries t) ≡ some c) × (length buffer < 2 + 8 * length c))
+      go : (w : Case) → number w ≡ 23 → Described 128 (x .problem .n) (entries t)
+          × ((c : List Literals) × (picture (entries t) ≡ some c) × (length buffer < 2 + 8 * length c))
       go (other d) n = absurd (omega arith)
       go (full d o) n = absurd (omega arith)
       go (short d c o f) n = (is-described d, (c, o, lacks c .0 f))
       go (fine d c o f) n = absurd (omega arith)
 
-      back : Described 128 (x .problem .n) (entries t) × ((c : List Literals) × (picture (entries t) ≡ some c) × (length buffer < 2 + 8 * length c))
+      back : Described 128 (x .problem .n) (entries t)
+          × ((c : List Literals) × (picture (entries t) ≡ some c) × (length buffer < 2 + 8 * length c))
           → Case → pictureOf (sheetOf s) t (length buffer) .answer ≡ Refused 23 0
       back h (other d) = absurd (not-described d (h .0))
       back h (full d o) = absurd (let z : _≡_ {A = ℕ} 0 1 = cc (h .1 .1) in omega arith)
@@ -155,14 +166,16 @@ module _ (s : List ℕ) (x : Statement) (says : sheetOf s ≡ accepted x) (t : T
   pub picture-accepted : (pictureOf (sheetOf s) t (length buffer) .answer ≡ Accepted)
       ↔ (Described 128 (x .problem .n) (entries t)
       × ((c : List Literals) × (picture (entries t) ≡ some c) × (2 + 8 * length c ≤ length buffer)
-      × (pictureOf (sheetOf s) t (length buffer) .clauses ≡ length c) × (bufferOf (sheetOf s) t buffer ≡ pictureBytes c ++ drop (2 + 8 * length c) buffer)))
+      × (pictureOf (sheetOf s) t (length buffer) .clauses ≡ length c)
+      × (bufferOf (sheetOf s) t buffer ≡ pictureBytes c ++ drop (2 + 8 * length c) buffer)))
   unfolding refusal
   picture-accepted = (λ e. go which e, λ h. back h which)
     where
       go : Case → pictureOf (sheetOf s) t (length buffer) .answer ≡ Accepted
           → Described 128 (x .problem .n) (entries t)
           × ((c : List Literals) × (picture (entries t) ≡ some c) × (2 + 8 * length c ≤ length buffer)
-          × (pictureOf (sheetOf s) t (length buffer) .clauses ≡ length c) × (bufferOf (sheetOf s) t buffer ≡ pictureBytes c ++ drop (2 + 8 * length c) buffer))
+          × (pictureOf (sheetOf s) t (length buffer) .clauses ≡ length c)
+          × (bufferOf (sheetOf s) t buffer ≡ pictureBytes c ++ drop (2 + 8 * length c) buffer))
       go (other d) e = absurd (not-both (sym (ap (λ (r : PictureAnswer). r .answer) (sym (by-other d .0)) ∙ e)))
       go (full d o) e = absurd (not-both (sym (ap (λ (r : PictureAnswer). r .answer) (sym (by-full d o .0)) ∙ e)))
       go (short d c o f) e = absurd (not-both (sym (ap (λ (r : PictureAnswer). r .answer) (sym (by-short d c o f .0)) ∙ e)))
@@ -171,7 +184,8 @@ module _ (s : List ℕ) (x : Statement) (says : sheetOf s ≡ accepted x) (t : T
 
       back : Described 128 (x .problem .n) (entries t)
           × ((c : List Literals) × (picture (entries t) ≡ some c) × (2 + 8 * length c ≤ length buffer)
-          × (pictureOf (sheetOf s) t (length buffer) .clauses ≡ length c) × (bufferOf (sheetOf s) t buffer ≡ pictureBytes c ++ drop (2 + 8 * length c) buffer))
+          × (pictureOf (sheetOf s) t (length buffer) .clauses ≡ length c)
+          × (bufferOf (sheetOf s) t buffer ≡ pictureBytes c ++ drop (2 + 8 * length c) buffer))
           → Case → pictureOf (sheetOf s) t (length buffer) .answer ≡ Accepted
       back h (other d) = absurd (not-described d (h .0))
       back h (full d o) = absurd (let z : _≡_ {A = ℕ} 0 1 = cc (h .1 .1) in omega arith)

@@ -38,12 +38,19 @@ same-number e = cc
 module _ (t : Table) where
   given-refused : (o : Outcome) (k q : ℕ) → (orGiven t o .answer ≡ Refused k q) ↔ ((q ≡ 0) × (o ≡ Outcome.refused k))
   unfolding orGiven
-  given-refused (Outcome.refused j) k q = (λ e. (let z : q ≡ 0 = cc in z, let i : j ≡ k = cc in ap Outcome.refused i), λ h. let i : j ≡ k = cc (h .1) in let z : q ≡ 0 = h .0 in cc)
+  given-refused (Outcome.refused j) k
+      q = (
+        λ e. (let z : q ≡ 0 = cc in z, let i : j ≡ k = cc in ap Outcome.refused i),
+        λ h. let i : j ≡ k = cc (h .1) in let z : q ≡ 0 = h .0 in cc,
+      )
   given-refused (Outcome.table u) k q = (λ e. absurd (not-both e), λ h. let i : _≡_ {A = Answer} Accepted (Refused k q) = cc (h .1) in i)
 
   given-accepted : (o : Outcome) → (orGiven t o .answer ≡ Accepted) ↔ ((u : List Literals) × (o ≡ Outcome.table u))
   unfolding orGiven
-  given-accepted (Outcome.refused j) = (λ e. absurd (not-both (sym e)), λ h. let i : _≡_ {A = Answer} (Refused j 0) Accepted = cc (h .1) in i)
+  given-accepted (Outcome.refused j) = (
+    λ e. absurd (not-both (sym e)),
+    λ h. let i : _≡_ {A = Answer} (Refused j 0) Accepted = cc (h .1) in i,
+  )
   given-accepted (Outcome.table u) = (λ e. (u, refl), λ h. refl)
 
   given-back : (o : Outcome) {k q : ℕ} → orGiven t o .answer ≡ Refused k q → orGiven t o .table ≡ t
@@ -53,7 +60,8 @@ module _ (t : Table) where
 
 -- ---- start
 -- a fault of the sheet comes first
-pub start-fault : (s : List ℕ) (k p : ℕ) → sheetOf s ≡ refused k p → startOf (sheetOf s) ≡ record { answer = Refused k p; table = tableOf [] }
+pub start-fault : (s : List ℕ) (k p : ℕ) → sheetOf s ≡ refused k p
+    → startOf (sheetOf s) ≡ record { answer = Refused k p; table = tableOf [] }
 unfolding startOf
 start-fault s k p e = rw e
 
@@ -79,7 +87,8 @@ start-back s k q = go (sheetOf s)
     go (accepted x) e = given-back (tableOf []) (startTable 128 (x .problem)) e
 
 -- ---- step
-pub step-fault : (s : List ℕ) (t : Table) (m k p : ℕ) → sheetOf s ≡ refused k p → stepOf (sheetOf s) t m ≡ record { answer = Refused k p; table = t }
+pub step-fault : (s : List ℕ) (t : Table) (m k p : ℕ) → sheetOf s ≡ refused k p
+    → stepOf (sheetOf s) t m ≡ record { answer = Refused k p; table = t }
 unfolding stepOf
 step-fault s t m k p e = rw e
 
@@ -105,7 +114,8 @@ module _ (s : List ℕ) (x : Statement) (says : sheetOf s ≡ accepted x) (t : T
   unfolding stepOf
   by-off h = rw (says, le-ltb m (length (x .problem .actions)) h)
 
-  by-other : m < length (x .problem .actions) → described 128 (x .problem .n) (entries t) ≡ false → stepOf (sheetOf s) t m ≡ record { answer = Refused 22 0; table = t }
+  by-other : m < length (x .problem .actions) → described 128 (x .problem .n) (entries t) ≡ false
+      → stepOf (sheetOf s) t m ≡ record { answer = Refused 22 0; table = t }
   unfolding stepOf
   by-other h d = rw (says, lt-ltb m (length (x .problem .actions)) h, d)
 
@@ -121,12 +131,14 @@ module _ (s : List ℕ) (x : Statement) (says : sheetOf s ≡ accepted x) (t : T
   among : {k : ℕ} → m < length (x .problem .actions) → described 128 (x .problem .n) (entries t) ≡ true
       → stepTable 128 (actionAt (x .problem) m) (entries t) ≡ Outcome.refused k → (k ≡ 24) ⊎ ((k ≡ 25) ⊎ (k ≡ 21))
   among {k} h d e =
-      pick (stepping.step-kind (x .problem .n) (hp .n-most) (actionAt (x .problem) m) (at-proper (x .problem) hp m h) (entries t) (is-described d .proper) 128)
+      pick (stepping.step-kind (x .problem .n) (hp .n-most) (actionAt (x .problem) m) (at-proper (x .problem) hp m h) (entries t)
+      (is-described d .proper) 128)
     where
       pick : (stepTable 128 (actionAt (x .problem) m) (entries t) ≡ Outcome.refused 24)
           ⊎ ((stepTable 128 (actionAt (x .problem) m) (entries t) ≡ Outcome.refused 25)
           ⊎ ((stepTable 128 (actionAt (x .problem) m) (entries t) ≡ Outcome.refused 21)
-          ⊎ ((u : List Literals) × (stepTable 128 (actionAt (x .problem) m) (entries t) ≡ Outcome.table u)))) → (k ≡ 24) ⊎ ((k ≡ 25) ⊎ (k ≡ 21))
+          ⊎ ((u : List Literals) × (stepTable 128 (actionAt (x .problem) m) (entries t) ≡ Outcome.table u)))) → (k ≡ 24)
+          ⊎ ((k ≡ 25) ⊎ (k ≡ 21))
       pick (inl f) = inl (let i : k ≡ 24 = cc in i)
       pick (inr (inl f)) = inr (inl (let i : k ≡ 25 = cc in i))
       pick (inr (inr (inl f))) = inr (inr (let i : k ≡ 21 = cc in i))
@@ -140,10 +152,12 @@ module _ (s : List ℕ) (x : Statement) (says : sheetOf s ≡ accepted x) (t : T
   told-off : {a : Answer} → stepOf (sheetOf s) t m .answer ≡ a → length (x .problem .actions) ≤ m → Refused 7 0 ≡ a
   told-off e h = ap (λ (r : TableAnswer). r .answer) (sym (by-off h)) ∙ e
 
-  told-other : {a : Answer} → stepOf (sheetOf s) t m .answer ≡ a → m < length (x .problem .actions) → described 128 (x .problem .n) (entries t) ≡ false → Refused 22 0 ≡ a
+  told-other : {a : Answer} → stepOf (sheetOf s) t m .answer ≡ a → m < length (x .problem .actions)
+      → described 128 (x .problem .n) (entries t) ≡ false → Refused 22 0 ≡ a
   told-other e h d = ap (λ (r : TableAnswer). r .answer) (sym (by-other h d)) ∙ e
 
-  told-known : {a : Answer} → stepOf (sheetOf s) t m .answer ≡ a → m < length (x .problem .actions) → described 128 (x .problem .n) (entries t) ≡ true
+  told-known : {a : Answer} → stepOf (sheetOf s) t m .answer ≡ a → m < length (x .problem .actions)
+      → described 128 (x .problem .n) (entries t) ≡ true
       → orGiven t (stepTable 128 (actionAt (x .problem) m) (entries t)) .answer ≡ a
   told-known e h d = ap (λ (r : TableAnswer). r .answer) (sym (by-known h d)) ∙ e
 
@@ -157,15 +171,18 @@ module _ (s : List ℕ) (x : Statement) (says : sheetOf s ≡ accepted x) (t : T
       go e (known h d) = absurd (not-7 (among h d (given-refused t _ 7 0 .0 (told-known e h d) .1)) .0 refl)
 
   -- 22: a table that is not as described
-  pub step-22 : (stepOf (sheetOf s) t m .answer ≡ Refused 22 0) ↔ ((m < length (x .problem .actions)) × (Described 128 (x .problem .n) (entries t) → ⊥))
+  pub step-22 : (stepOf (sheetOf s) t m .answer ≡ Refused 22 0)
+      ↔ ((m < length (x .problem .actions)) × (Described 128 (x .problem .n) (entries t) → ⊥))
   step-22 = (λ e. go e which, λ h. back h which)
     where
-      go : stepOf (sheetOf s) t m .answer ≡ Refused 22 0 → Case → (m < length (x .problem .actions)) × (Described 128 (x .problem .n) (entries t) → ⊥)
+      go : stepOf (sheetOf s) t m .answer ≡ Refused 22 0 → Case → (m < length (x .problem .actions))
+          × (Described 128 (x .problem .n) (entries t) → ⊥)
       go e (off h) = absurd (omega (arith, same-number (told-off e h)))
       go e (other h d) = (h, λ y. true≢false (sym (described-iff 128 (x .problem .n) (entries t) .1 y) ∙ d))
       go e (known h d) = absurd (not-7 (among h d (given-refused t _ 22 0 .0 (told-known e h d) .1)) .1 refl)
 
-      back : (m < length (x .problem .actions)) × (Described 128 (x .problem .n) (entries t) → ⊥) → Case → stepOf (sheetOf s) t m .answer ≡ Refused 22 0
+      back : (m < length (x .problem .actions)) × (Described 128 (x .problem .n) (entries t) → ⊥) → Case
+          → stepOf (sheetOf s) t m .answer ≡ Refused 22 0
       back h (off y) = absurd (omega (arith, h .0))
       back h (other y d) = ap (λ (r : TableAnswer). r .answer) (by-other y d)
       back h (known y d) = absurd (h .1 (is-described d))
@@ -173,16 +190,19 @@ module _ (s : List ℕ) (x : Statement) (says : sheetOf s ≡ accepted x) (t : T
   -- 24, 25 and 21: by the step itself (TH3)
   pub step-number : (k : ℕ) → (k ≡ 24) ⊎ ((k ≡ 25) ⊎ (k ≡ 21))
       → (stepOf (sheetOf s) t m .answer ≡ Refused k 0)
-      ↔ ((m < length (x .problem .actions)) × Described 128 (x .problem .n) (entries t) × (stepTable 128 (actionAt (x .problem) m) (entries t) ≡ Outcome.refused k))
+      ↔ ((m < length (x .problem .actions)) × Described 128 (x .problem .n) (entries t)
+      × (stepTable 128 (actionAt (x .problem) m) (entries t) ≡ Outcome.refused k))
   step-number k n = (λ e. go e which, λ h. back h which)
     where
       go : stepOf (sheetOf s) t m .answer ≡ Refused k 0 → Case
-          → (m < length (x .problem .actions)) × Described 128 (x .problem .n) (entries t) × (stepTable 128 (actionAt (x .problem) m) (entries t) ≡ Outcome.refused k)
+          → (m < length (x .problem .actions)) × Described 128 (x .problem .n) (entries t)
+          × (stepTable 128 (actionAt (x .problem) m) (entries t) ≡ Outcome.refused k)
       go e (off h) = absurd (not-7 n .0 (sym (same-number (told-off e h))))
       go e (other h d) = absurd (not-7 n .1 (sym (same-number (told-other e h d))))
       go e (known h d) = (h, is-described d, given-refused t _ k 0 .0 (told-known e h d) .1)
 
-      back : (m < length (x .problem .actions)) × Described 128 (x .problem .n) (entries t) × (stepTable 128 (actionAt (x .problem) m) (entries t) ≡ Outcome.refused k)
+      back : (m < length (x .problem .actions)) × Described 128 (x .problem .n) (entries t)
+          × (stepTable 128 (actionAt (x .problem) m) (entries t) ≡ Outcome.refused k)
           → Case → stepOf (sheetOf s) t m .answer ≡ Refused k 0
       back h (off y) = absurd (omega (arith, h .0))
       back h (other y d) = absurd (true≢false (sym (described-iff 128 (x .problem .n) (entries t) .1 (h .1)) ∙ d))
@@ -202,7 +222,8 @@ module _ (s : List ℕ) (x : Statement) (says : sheetOf s ≡ accepted x) (t : T
       go e (known h d) = (h, is-described d, given-accepted t _ .0 (told-known e h d))
 
       back : (m < length (x .problem .actions)) × Described 128 (x .problem .n) (entries t)
-          × ((u : List Literals) × (stepTable 128 (actionAt (x .problem) m) (entries t) ≡ Outcome.table u)) → Case → stepOf (sheetOf s) t m .answer ≡ Accepted
+          × ((u : List Literals) × (stepTable 128 (actionAt (x .problem) m) (entries t) ≡ Outcome.table u)) → Case
+          → stepOf (sheetOf s) t m .answer ≡ Accepted
       back h (off y) = absurd (omega (arith, h .0))
       back h (other y d) = absurd (true≢false (sym (described-iff 128 (x .problem .n) (entries t) .1 (h .1)) ∙ d))
       back h (known y d) = ap (λ (r : TableAnswer). r .answer) (by-known y d) ∙ given-accepted t _ .1 (h .2)

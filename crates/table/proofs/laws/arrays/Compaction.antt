@@ -20,7 +20,8 @@ use Rattle.sheet.proofs.laws.base.Padding.{length-pad, pad-suc, pad-over, pad-f
 -- ---- one array
 
 -- slot i is made zero
-zeroed : (xs old : List ℕ) (i : ℕ) → length xs ≤ i → i < length old → set (pad i 0 xs ++ drop i old) i 0 ≡ pad (i + 1) 0 xs ++ drop (i + 1) old
+zeroed : (xs old : List ℕ) (i : ℕ) → length xs ≤ i → i < length old → set (pad i 0 xs ++ drop i old) i 0 ≡ pad (i + 1) 0 xs
+    ++ drop (i + 1) old
 zeroed xs old i h lt =
     rw (add-one, drop-cons old i 0 lt, set-at (pad i 0 xs) (getD old i 0) (drop (suc i) old) 0 i (length-pad i 0 xs), ← pad-suc i 0 xs h)
     (sym (append-assoc (pad i 0 xs) (0 ∷ []) (drop (suc i) old)))
@@ -31,7 +32,8 @@ written : (f : Literals → ℕ) (es : List Literals) (e : Literals) (rest : Lis
 written f es e rest i k q lt =
     let p : k < length (pad i 0 (map f es)) = omega (arith, length-pad i 0 (map f es)) in
     set-append-left (pad i 0 (map f es)) rest k (f e) p
-    ∙ ap (λ (r : List ℕ). r ++ rest) (pad-set i 0 (map f es) (f e) k (length-map es f ∙ sym q) lt ∙ ap (pad i 0) (sym (map-append f es (e ∷ []))))
+    ∙ ap (λ (r : List ℕ). r ++ rest)
+    (pad-set i 0 (map f es) (f e) k (length-map es f ∙ sym q) lt ∙ ap (pad i 0) (sym (map-append f es (e ∷ []))))
 
 -- what stands in slot i is as it was
 unread : (xs old : List ℕ) (i : ℕ) → i < length old → getD (pad i 0 xs ++ drop i old) i 0 ≡ getD old i 0
@@ -60,7 +62,8 @@ pub keep-all : (f : Literals → Bool) (s : List Literals) → length s ≤ leng
 keep-all f [] h = refl
 keep-all f (x ∷ s) h = at (f x) h (λ k. keep-all f s k)
   where
-    at : (b : Bool) → suc (length s) ≤ length (addIf b x (keep f s)) → (length s ≤ length (keep f s) → keep f s ≡ s) → addIf b x (keep f s) ≡ x ∷ s
+    at : (b : Bool) → suc (length s) ≤ length (addIf b x (keep f s)) → (length s ≤ length (keep f s) → keep f s ≡ s)
+        → addIf b x (keep f s) ≡ x ∷ s
     at true k rec = ap (λ (z : List Literals). x ∷ z) (rec (le-of-suc-le-suc k))
     at false k rec = absurd (omega (arith, keep-length f s))
 
@@ -82,7 +85,8 @@ pub none-goes : (f : Literals → Bool) (s : List Literals) → anyOf f s ≡ fa
 none-goes f [] h = refl
 none-goes f (x ∷ s) h = at (f x) h (λ k. none-goes f s k)
   where
-    at : (b : Bool) → (b || anyOf f s) ≡ false → (anyOf f s ≡ false → keep (λ e. not (f e)) s ≡ s) → addIf (not b) x (keep (λ e. not (f e)) s) ≡ x ∷ s
+    at : (b : Bool) → (b || anyOf f s) ≡ false → (anyOf f s ≡ false → keep (λ e. not (f e)) s ≡ s)
+        → addIf (not b) x (keep (λ e. not (f e)) s) ≡ x ∷ s
     at true k rec = absurd (true≢false k)
     at false k rec = ap (λ (z : List Literals). x ∷ z) (rec k)
 
@@ -116,10 +120,12 @@ module _ (f : Literals → Bool) (n : ℕ) (ts₀ fs₀ : List ℕ) (held : Held
       kept : keep f (take i (entriesOf n ts₀ fs₀)) ≡ entriesOf i ts₀ fs₀
       kept = ap (keep f) (take-entriesOf i n ts₀ fs₀ le) ∙ all
 
-      stand : (g : Literals → ℕ) {xs : List ℕ} → xs ≡ pad (length ts₀) 0 (map g (entriesOf n ts₀ fs₀)) → xs ≡ pad i 0 (map g (keep f (take i (entriesOf n ts₀ fs₀)))) ++ drop i xs
+      stand : (g : Literals → ℕ) {xs : List ℕ} → xs ≡ pad (length ts₀) 0 (map g (entriesOf n ts₀ fs₀))
+          → xs ≡ pad i 0 (map g (keep f (take i (entriesOf n ts₀ fs₀)))) ++ drop i xs
       stand g h =
           h
-          ∙ pad-front g i (length ts₀) 0 (entriesOf n ts₀ fs₀) (omega (arith, length-entriesOf n ts₀ fs₀)) (omega (arith, length-entriesOf n ts₀ fs₀, held .room))
+          ∙ pad-front g i (length ts₀) 0 (entriesOf n ts₀ fs₀) (omega (arith, length-entriesOf n ts₀ fs₀))
+          (omega (arith, length-entriesOf n ts₀ fs₀, held .room))
           ∙ ap₂ (λ (x : List Literals) (r : List ℕ). pad i 0 (map g x) ++ drop i r) (take-entriesOf i n ts₀ fs₀ le ∙ sym kept) (sym h)
 
   module _ (ts fs : List ℕ) (k i : ℕ) (m : Moved f n ts₀ fs₀ ts fs k i) where
@@ -142,14 +148,17 @@ module _ (f : Literals → Bool) (n : ℕ) (ts₀ fs₀ : List ℕ) (held : Held
     zero-trues : i < n → set ts i 0 ≡ pad (i + 1) 0 (trues-of kept) ++ drop (i + 1) ts₀
     zero-trues lt =
         ap (λ (l : List ℕ). set l i 0) (m .trues-are)
-        ∙ zeroed (trues-of kept) ts₀ i (omega (arith, m .count-is, m .behind, length-map kept (λ (e : Literals). e .trues))) (omega (arith, held .room))
+        ∙ zeroed (trues-of kept) ts₀ i (omega (arith, m .count-is, m .behind, length-map kept (λ (e : Literals). e .trues)))
+        (omega (arith, held .room))
 
     zero-falses : i < n → set fs i 0 ≡ pad (i + 1) 0 (falses-of kept) ++ drop (i + 1) fs₀
     zero-falses lt =
         ap (λ (l : List ℕ). set l i 0) (m .falses-are)
-        ∙ zeroed (falses-of kept) fs₀ i (omega (arith, m .count-is, m .behind, length-map kept (λ (e : Literals). e .falses))) (omega (arith, held .room, falses-long₀))
+        ∙ zeroed (falses-of kept) fs₀ i (omega (arith, m .count-is, m .behind, length-map kept (λ (e : Literals). e .falses)))
+        (omega (arith, held .room, falses-long₀))
 
-    pub moved-gone : i < n → f (record { trues = getD ts i 0; falses = getD fs i 0 }) ≡ false → Moved f n ts₀ fs₀ (set ts i 0) (set fs i 0) k (i + 1)
+    pub moved-gone : i < n → f (record { trues = getD ts i 0; falses = getD fs i 0 }) ≡ false
+        → Moved f n ts₀ fs₀ (set ts i 0) (set fs i 0) k (i + 1)
     moved-gone lt t =
         let s : keep f (take (i + 1) (entriesOf n ts₀ fs₀)) ≡ kept = keep-less f (entriesOf n ts₀ fs₀) i _ (inside lt) (moved-read lt) t in
         record {
@@ -166,7 +175,8 @@ module _ (f : Literals → Bool) (n : ℕ) (ts₀ fs₀ : List ℕ) (held : Held
         → Moved f n ts₀ fs₀ (set (set ts i 0) k (getD ts i 0)) (set (set fs i 0) k (getD fs i 0)) (k + 1) (i + 1)
     moved-kept lt t =
         let e : Literals = record { trues = getD ts i 0; falses = getD fs i 0 } in
-        let s : keep f (take (i + 1) (entriesOf n ts₀ fs₀)) ≡ kept ++ e ∷ [] = keep-more f (entriesOf n ts₀ fs₀) i e (inside lt) (moved-read lt) t in
+        let s : keep f (take (i + 1) (entriesOf n ts₀ fs₀)) ≡ kept
+        ++ e ∷ [] = keep-more f (entriesOf n ts₀ fs₀) i e (inside lt) (moved-read lt) t in
         let b : k < i + 1 = omega (arith, m .behind) in
         record {
           upto = omega arith;
@@ -188,7 +198,8 @@ module _ (f : Literals → Bool) (n : ℕ) (ts₀ fs₀ : List ℕ) (held : Held
     moved-end le =
         let j : i ≡ n = omega (arith, m .upto) in
         let es : List Literals = entriesOf n ts₀ fs₀ in
-        let w : take i (entriesOf n ts₀ fs₀) ≡ entriesOf n ts₀ fs₀ = take-all i (entriesOf n ts₀ fs₀) (omega (arith, length-entriesOf n ts₀ fs₀)) in
+        let w : take i (entriesOf n ts₀ fs₀) ≡ entriesOf n ts₀ fs₀ = take-all i (entriesOf n ts₀ fs₀)
+        (omega (arith, length-entriesOf n ts₀ fs₀)) in
         let c : k ≡ length (keep f (entriesOf n ts₀ fs₀)) = m .count-is ∙ ap (λ (x : List Literals). length (keep f x)) w in
         record {
           count-is = c;
@@ -208,7 +219,8 @@ module _ (f : Literals → Bool) (n : ℕ) (ts₀ fs₀ : List ℕ) (held : Held
         }
       where
         over : (g : Literals → ℕ) → k ≡ length (keep f (entriesOf n ts₀ fs₀))
-            → pad n 0 (map g (keep f (entriesOf n ts₀ fs₀))) ++ drop n (pad (length ts₀) 0 (map g (entriesOf n ts₀ fs₀))) ≡ pad (length ts₀) 0 (map g (keep f (entriesOf n ts₀ fs₀)))
+            → pad n 0 (map g (keep f (entriesOf n ts₀ fs₀)))
+            ++ drop n (pad (length ts₀) 0 (map g (entriesOf n ts₀ fs₀))) ≡ pad (length ts₀) 0 (map g (keep f (entriesOf n ts₀ fs₀)))
         over g c =
             pad-over n (length ts₀) 0 (map g (keep f (entriesOf n ts₀ fs₀))) (map g (entriesOf n ts₀ fs₀))
             (omega (arith, m .behind, m .upto, length-map (keep f (entriesOf n ts₀ fs₀)) g))
@@ -216,5 +228,6 @@ module _ (f : Literals → Bool) (n : ℕ) (ts₀ fs₀ : List ℕ) (held : Held
             (held .room)
 
 -- the same at equal values
-pub moved-is : (f : Literals → Bool) (n : ℕ) (ts₀ fs₀ ts fs ts′ fs′ : List ℕ) (k k′ i : ℕ) → ts′ ≡ ts → fs′ ≡ fs → k′ ≡ k → Moved f n ts₀ fs₀ ts fs k i → Moved f n ts₀ fs₀ ts′ fs′ k′ i
+pub moved-is : (f : Literals → Bool) (n : ℕ) (ts₀ fs₀ ts fs ts′ fs′ : List ℕ) (k k′ i : ℕ) → ts′ ≡ ts → fs′ ≡ fs → k′ ≡ k
+    → Moved f n ts₀ fs₀ ts fs k i → Moved f n ts₀ fs₀ ts′ fs′ k′ i
 moved-is f n ts₀ fs₀ ts fs ts′ fs′ k k′ i p q r m = rw (p, q, r) m

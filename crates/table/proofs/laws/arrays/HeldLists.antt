@@ -123,7 +123,12 @@ module _ (es : List Literals) (n : ℕ) (ts fs : List ℕ) where
   unfolding tableOf
   table-holds few e =
       let count : n ≡ length es = ap (λ (t : Table). t .count) e in
-      record { count-is = count; room = omega arith; trues-are = ap (λ (t : Table). t .trues) e; falses-are = ap (λ (t : Table). t .falses) e }
+      record {
+        count-is = count;
+        room = omega arith;
+        trues-are = ap (λ (t : Table). t .trues) e;
+        falses-are = ap (λ (t : Table). t .falses) e;
+      }
 
 -- ---- fresh slots
 

@@ -50,7 +50,8 @@ pub record Bench : Type 0 where
   pub M1 : startTable 128 (paper .problem) ≡ table (set 1 6 ∷ set 2 5 ∷ set 4 3 ∷ [])
   pub M2 : stepTable 128 (actionAt (paper .problem) 0) (set 1 6 ∷ set 2 5 ∷ set 4 3 ∷ []) ≡ table (set 1 6 ∷ set 2 5 ∷ [])
   pub M3 : stepTable 128 (actionAt (paper .problem) 0) (set 1 6 ∷ set 2 5 ∷ []) ≡ table (set 1 6 ∷ [])
-  pub M6 : stepTable 128 (always (when (set 1 0) (set 4 0) ∷ when (set 0 1) (set 2 0) ∷ [])) (set 1 4 ∷ set 2 0 ∷ []) ≡ table (set 5 0 ∷ set 2 1 ∷ [])
+  pub M6 : stepTable 128 (always (when (set 1 0) (set 4 0) ∷ when (set 0 1) (set 2 0) ∷ [])) (set 1 4 ∷ set 2 0 ∷ [])
+      ≡ table (set 5 0 ∷ set 2 1 ∷ [])
   pub M7 : split (set 3 0) (set 0 0) ≡ set 3 0 ∷ set 0 1 ∷ set 0 2 ∷ []
   pub M8 : stepTable 128 (always (when (set 0 0) (set 1 0) ∷ [])) (set 0 0 ∷ []) ≡ table (set 1 0 ∷ [])
   pub M9 : put 128 (set 3 0 ∷ set 4 0 ∷ []) (set 1 0) ≡ some (set 4 0 ∷ set 1 0 ∷ [])
@@ -58,19 +59,31 @@ pub record Bench : Type 0 where
   pub M12 : stepTable 128 (always (when (set 0 0) (set 1 0) ∷ when (set 0 0) (set 0 1) ∷ [])) (set 0 0 ∷ []) ≡ refused 25
 
 says : sheetOf printed ≡ accepted paper
-unfolding sheetOf atEnd read byteAt sheet facts plan goal actions clauses action effect clause literals setOf ascending listOf numberFault literalFault countFault times judged _>>=_ problemOf noLiteral join literal single sign
+unfolding sheetOf atEnd read byteAt sheet facts plan goal actions clauses action effect clause literals setOf ascending listOf numberFault
+    literalFault countFault times judged _>>=_ problemOf noLiteral join literal single sign
 says = refl
 
 pub bench : Bench
-unfolding startTable startClauses grow stepTable actionAt split missing image put within join clash consistent flip literal single sign replace noLiteral members membersFrom contains mem has
+unfolding startTable startClauses grow stepTable actionAt split missing image put within join clash consistent flip literal single sign
+    replace noLiteral members membersFrom contains mem has
 bench = record { says = says; M1 = refl; M2 = refl; M3 = refl; M6 = refl; M7 = refl; M8 = refl; M9 = refl; M10 = refl; M12 = refl }
 
 -- ---- what the theorems of the start and the step ask for is met by this sheet, its move and its start table
 pub paper-proper : ProperStatement paper
 paper-proper = encoded-iff printed paper .0 (accepted-iff printed paper .0 says) .0
 
-pub paper-asks : ProperProblem (paper .problem) × ((3 ≤ 32) × (ProperAction 3 (actionAt (paper .problem) 0) × Described 128 3 (set 1 6 ∷ set 2 5 ∷ set 4 3 ∷ [])))
+pub paper-asks : ProperProblem (paper .problem)
+    × ((3 ≤ 32) × (ProperAction 3 (actionAt (paper .problem) 0) × Described 128 3 (set 1 6 ∷ set 2 5 ∷ set 4 3 ∷ [])))
 unfolding actionAt
 paper-asks =
-    let h = paper-proper .problem in
-    (h, (h .n-most, (h .actions .each .0, start-described (paper .problem) h 128 (set 1 6 ∷ set 2 5 ∷ set 4 3 ∷ []) (omega arith) (bench .M1))))
+    let h = paper-proper .problem in (
+      h,
+      (
+        h .n-most,
+        (
+          h .actions .each .0,
+          start-described (paper .problem) h 128 (set 1 6 ∷ set 2 5 ∷ set 4 3 ∷ []) (omega arith)
+              (bench .M1),
+        ),
+      ),
+    )

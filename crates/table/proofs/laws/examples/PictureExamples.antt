@@ -25,7 +25,8 @@ pub record PictureMarks : Type 0 where
   pub m13 : picture (masks 1 0 ∷ masks 2 1 ∷ []) ≡ some (masks 3 0 ∷ [])
 
 pub picture-marks : PictureMarks
-unfolding has mem within consistent join single sign literal contains membersFrom members put units unions fold primes precedes insert sortOnto sort picture
+unfolding has mem within consistent join single sign literal contains membersFrom members put units unions fold primes precedes insert
+    sortOnto sort picture
 picture-marks = record { m4 = refl; m5 = refl; m11 = refl; m13 = refl }
 
 -- the lists of m4 and m5 are those of m1 and m2: the start and the first step

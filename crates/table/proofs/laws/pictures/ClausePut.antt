@@ -77,7 +77,8 @@ unions-member s u x m =
     let l = Memᴰ·of-map (join (c .0)) u (c .2) in
     (c .0, l .0, c .1, l .1, l .2, k .1)
 
-pub member-unions : (s u : List Literals) (c l : Literals) → List·Memᴰ c s → List·Memᴰ l u → T (consistent (join c l)) → List·Memᴰ (join c l) (unions s u)
+pub member-unions : (s u : List Literals) (c l : Literals) → List·Memᴰ c s → List·Memᴰ l u → T (consistent (join c l))
+    → List·Memᴰ (join c l) (unions s u)
 unfolding unions
 member-unions s u c l m k t =
     member-keep consistent (collect (λ c. map (join c) u) s) (join c l)
@@ -110,14 +111,16 @@ then-some (some q) f r e = (q, refl, e)
 -- nothing else comes in
 pub put-from : (cap : ℕ) (cs r : List Literals) → putAll cap cs [] ≡ some r → (x : Literals) → List·Memᴰ x r → List·Memᴰ x cs
 put-from cap cs r e =
-    each-member (λ x. List·Memᴰ x cs) r (put-all-all (λ x. List·Memᴰ x cs) cap cs [] r e tt (all-members (λ x. List·Memᴰ x cs) cs (λ x m. m)))
+    each-member (λ x. List·Memᴰ x cs) r
+    (put-all-all (λ x. List·Memᴰ x cs) cap cs [] r e tt (all-members (λ x. List·Memᴰ x cs) cs (λ x m. m)))
 
 -- a set that has a member or a candidate within it goes on having one
 module _ (x : Literals) where
   abbrev Inside : Literals → Type 0
   Inside e = T (within e x)
 
-  put-inside : (cap : ℕ) (t : List Literals) (c : Literals) (u : List Literals) → put cap t c ≡ some u → Any Inside t ⊎ Inside c → Any Inside u
+  put-inside : (cap : ℕ) (t : List Literals) (c : Literals) (u : List Literals) → put cap t c ≡ some u → Any Inside t ⊎ Inside c
+      → Any Inside u
   put-inside cap t c u h = go (put-cases cap t c u h)
     where
       stay : Any (λ e. Inside e × T (not (not (within c e)))) t ⊎ Any Inside (others c t) → Any Inside (others c t ++ (c ∷ []))
@@ -129,7 +132,8 @@ module _ (x : Literals) where
       go : Placed cap t c u → Any Inside t ⊎ Inside c → Any Inside u
       go (inl l) (inl i) = subst (Any Inside) (l .1) i
       go (inl l) (inr i) =
-          subst (Any Inside) (l .1) (any-map (λ e. T (within e c)) Inside (λ e k. within-trans e c x k i) t (any-test (λ e. within e c) t (l .0)))
+          subst (Any Inside) (l .1)
+          (any-map (λ e. T (within e c)) Inside (λ e k. within-trans e c x k i) t (any-test (λ e. within e c) t (l .0)))
       go (inr r) (inl i) = subst (Any Inside) (r .1 .0) (stay (any-kept (λ e. not (within c e)) Inside t i))
       go (inr r) (inr i) = subst (Any Inside) (r .1 .0) (any-append-r Inside (others c t) (c ∷ []) (inl i))
 
@@ -145,7 +149,8 @@ module _ (x : Literals) where
       go k (inr (inr i)) rec = rec (k .0) (k .2) (inr i)
 
 -- so a member of the new list lies in each candidate
-pub put-covers : (cap : ℕ) (cs r : List Literals) → putAll cap cs [] ≡ some r → (x : Literals) → List·Memᴰ x cs → (y : Literals) × List·Memᴰ y r × T (within y x)
+pub put-covers : (cap : ℕ) (cs r : List Literals) → putAll cap cs [] ≡ some r → (x : Literals) → List·Memᴰ x cs → (y : Literals)
+    × List·Memᴰ y r × T (within y x)
 put-covers cap cs r e x m =
     some-member (λ y. T (within y x)) r (put-all-inside x cap cs [] r e (inr (any-member (λ y. T (within y x)) cs x m (within-refl x))))
 

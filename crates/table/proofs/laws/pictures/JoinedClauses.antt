@@ -15,7 +15,8 @@ use Rattle.table.proofs.laws.arrays.EntryLoops.{entries-next, entries-d
 module _ (n : ℕ) (ts fs : List ℕ) (i : ℕ) where
   -- the clause c joined with the clause at i, and with those after it
   pub put-joined-step : (c x : Literals) → i < n → x ≡ join c (record { trues = getD ts i 0; falses = getD fs i 0 })
-      → keep consistent (map (join c) (drop i (entriesOf n ts fs))) ≡ keep consistent (x ∷ []) ++ keep consistent (map (join c) (drop (i + 1) (entriesOf n ts fs)))
+      → keep consistent (map (join c) (drop i (entriesOf n ts fs))) ≡ keep consistent (x ∷ [])
+      ++ keep consistent (map (join c) (drop (i + 1) (entriesOf n ts fs)))
   unfolding slot
   put-joined-step c x lt is = or-step c _ x _ _ (entries-next n ts fs i (record { trues = getD ts i 0; falses = getD fs i 0 }) lt refl) is
 
@@ -24,9 +25,11 @@ module _ (n : ℕ) (ts fs : List ℕ) (i : ℕ) where
 
   -- the clause at i joined with the clauses u, and those after it
   pub unions-step : (u : List Literals) → i < n
-      → unions (drop i (entriesOf n ts fs)) u ≡ keep consistent (map (join (record { trues = getD ts i 0; falses = getD fs i 0 })) u) ++ unions (drop (i + 1) (entriesOf n ts fs)) u
+      → unions (drop i (entriesOf n ts fs)) u ≡ keep consistent (map (join (record { trues = getD ts i 0; falses = getD fs i 0 })) u)
+      ++ unions (drop (i + 1) (entriesOf n ts fs)) u
   unfolding unions slot
-  unions-step u lt = collect-step (λ c. map (join c) u) _ _ _ (entries-next n ts fs i (record { trues = getD ts i 0; falses = getD fs i 0 }) lt refl)
+  unions-step u lt = collect-step (λ c. map (join c) u) _ _ _
+      (entries-next n ts fs i (record { trues = getD ts i 0; falses = getD fs i 0 }) lt refl)
 
   pub unions-end : (u : List Literals) → n ≤ i → unions (drop i (entriesOf n ts fs)) u ≡ []
   unfolding unions

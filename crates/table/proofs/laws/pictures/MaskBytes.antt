@@ -46,11 +46,14 @@ masked p q at m e =
     ap₂ (λ (x y : List ℕ). x ++ maskBytes m y) (take-at p q at e) (ap (λ (k : ℕ). drop (k + 4) (p ++ q)) (sym e) ∙ drop-append-add p q 4)
 
 -- two masks after the bytes p
-two-masked : (p b buf one two : List ℕ) (at x y : ℕ) → length p ≡ at → buf ≡ p ++ drop at b → one ≡ take at buf ++ maskBytes x (drop (at + 4) buf)
+two-masked : (p b buf one two : List ℕ) (at x y : ℕ) → length p ≡ at → buf ≡ p ++ drop at b → one ≡ take at buf
+    ++ maskBytes x (drop (at + 4) buf)
     → two ≡ take (at + 4) one ++ maskBytes y (drop ((at + 4) + 4) one) → two ≡ p ++ maskBytes x (maskBytes y (drop (at + 8) b))
 two-masked p b buf one two at x y e is first second =
-    let a : one ≡ p ++ maskBytes x (drop 4 (drop at b)) = first ∙ ap (λ (z : List ℕ). take at z ++ maskBytes x (drop (at + 4) z)) is ∙ masked p (drop at b) at x e in
-    let c : one ≡ (p ++ maskBytes x []) ++ drop 4 (drop at b) = a ∙ ap (λ (z : List ℕ). p ++ z) (mask-apart x (drop 4 (drop at b))) ∙ sym (append-assoc p (maskBytes x []) (drop 4 (drop at b))) in
+    let a : one ≡ p ++ maskBytes x (drop 4 (drop at b)) = first ∙ ap (λ (z : List ℕ). take at z ++ maskBytes x (drop (at + 4) z)) is
+    ∙ masked p (drop at b) at x e in
+    let c : one ≡ (p ++ maskBytes x []) ++ drop 4 (drop at b) = a ∙ ap (λ (z : List ℕ). p ++ z) (mask-apart x (drop 4 (drop at b)))
+    ∙ sym (append-assoc p (maskBytes x []) (drop 4 (drop at b))) in
     let l : length (p ++ maskBytes x []) ≡ at + 4 = omega (arith, length-append p (maskBytes x []), mask-length x []) in
     let k : at + (4 + 4) ≡ at + 8 = refl in
     second
@@ -83,7 +86,8 @@ module _ (es : List Literals) (b : List ℕ) (fits : 2 + 8 * length es ≤ lengt
   wrote i buf h e = record {
     upto = h;
     fits = fits;
-    long = ap length e ∙ omega (arith, length-append (take 2 b ++ clauseBytes (take i es)) (drop (2 + 8 * i) b), head-long i h, length-drop (2 + 8 * i) b);
+    long = ap length e ∙ omega
+        (arith, length-append (take 2 b ++ clauseBytes (take i es)) (drop (2 + 8 * i) b), head-long i h, length-drop (2 + 8 * i) b);
     is = e;
   }
 
@@ -91,7 +95,8 @@ module _ (es : List Literals) (b : List ℕ) (fits : 2 + 8 * length es ≤ lengt
   unfolding clauseBytes
   wrote-start = wrote 0 b (omega arith) (sym (ap (λ (x : List ℕ). x ++ drop 2 b) (append-nil (take 2 b)) ∙ take-append-drop 2 b))
 
-pub wrote-step : (es : List Literals) (b : List ℕ) (i : ℕ) (buf one two : List ℕ) (c : Literals) → Wrote es b i buf → i < length es → c ≡ getD es i noLiteral
+pub wrote-step : (es : List Literals) (b : List ℕ) (i : ℕ) (buf one two : List ℕ) (c : Literals) → Wrote es b i buf → i < length es
+    → c ≡ getD es i noLiteral
     → one ≡ take (2 + 8 * i) buf ++ maskBytes (c .trues) (drop ((2 + 8 * i) + 4) buf)
     → two ≡ take ((2 + 8 * i) + 4) one ++ maskBytes (c .falses) (drop (((2 + 8 * i) + 4) + 4) one)
     → Wrote es b (i + 1) two
@@ -103,14 +108,18 @@ wrote-step es b i buf one two c g lt q first second =
     ∙ ap (λ (x : Literals). clauseBytes (take i es) ++ maskBytes (x .trues) (maskBytes (x .falses) [])) (sym q) in
     let at : (2 + 8 * i) + 8 ≡ 2 + 8 * (i + 1) = omega arith in
     wrote es b (g .fits) (i + 1) two (omega arith)
-    (two-masked (take 2 b ++ clauseBytes (take i es)) b buf one two (2 + 8 * i) (c .trues) (c .falses) (head-long es b (g .fits) i (g .upto)) (g .is) first second
+    (two-masked (take 2 b ++ clauseBytes (take i es)) b buf one two (2 + 8 * i) (c .trues) (c .falses)
+    (head-long es b (g .fits) i (g .upto)) (g .is) first second
     ∙ ap (λ (k : ℕ). (take 2 b ++ clauseBytes (take i es)) ++ maskBytes (c .trues) (maskBytes (c .falses) (drop k b))) at
     ∙ ap (λ (x : List ℕ). (take 2 b ++ clauseBytes (take i es)) ++ x) (both (c .trues) (c .falses) (drop (2 + 8 * (i + 1)) b))
     ∙ sym (append-assoc (take 2 b ++ clauseBytes (take i es)) (maskBytes (c .trues) (maskBytes (c .falses) [])) (drop (2 + 8 * (i + 1)) b))
-    ∙ ap (λ (x : List ℕ). x ++ drop (2 + 8 * (i + 1)) b) (append-assoc (take 2 b) (clauseBytes (take i es)) (maskBytes (c .trues) (maskBytes (c .falses) [])) ∙ ap (λ (x : List ℕ). take 2 b ++ x) (sym more)))
+    ∙ ap (λ (x : List ℕ). x ++ drop (2 + 8 * (i + 1)) b)
+    (append-assoc (take 2 b) (clauseBytes (take i es)) (maskBytes (c .trues) (maskBytes (c .falses) []))
+    ∙ ap (λ (x : List ℕ). take 2 b ++ x) (sym more)))
   where
     both : (x y : ℕ) (r : List ℕ) → maskBytes x (maskBytes y r) ≡ maskBytes x (maskBytes y []) ++ r
-    both x y r = mask-apart x (maskBytes y r) ∙ ap (λ (z : List ℕ). maskBytes x [] ++ z) (mask-apart y r) ∙ sym (append-assoc (maskBytes x []) (maskBytes y []) r)
+    both x y r = mask-apart x (maskBytes y r) ∙ ap (λ (z : List ℕ). maskBytes x [] ++ z) (mask-apart y r)
+        ∙ sym (append-assoc (maskBytes x []) (maskBytes y []) r)
         ∙ ap (λ (z : List ℕ). z ++ r) (sym (mask-apart x (maskBytes y [])))
 
 -- the whole, where b is the buffer with the count in its first two bytes
@@ -123,12 +132,14 @@ wrote-end es n i buf given q fits h g =
     let h1 = n % 256 in
     g .is
     ∙ ap (λ (k : ℕ). (take 2 (set (set given 0 h0) 1 h1) ++ clauseBytes (take k es)) ++ drop (2 + 8 * k) (set (set given 0 h0) 1 h1)) same
-    ∙ ap₂ (λ (x : List Literals) (y : List ℕ). (take 2 (set (set given 0 h0) 1 h1) ++ clauseBytes x) ++ y) (take-all n es (omega arith)) kept
+    ∙ ap₂ (λ (x : List Literals) (y : List ℕ). (take 2 (set (set given 0 h0) 1 h1) ++ clauseBytes x) ++ y) (take-all n es (omega arith))
+    kept
     ∙ ap (λ (x : List ℕ). (x ++ clauseBytes es) ++ drop (2 + 8 * n) given) (head given (omega arith))
     ∙ ap (λ (k : ℕ). (k / 256 % 256 ∷ k % 256 ∷ clauseBytes es) ++ drop (2 + 8 * n) given) q
   where
     kept : drop (2 + 8 * n) (set (set given 0 (n / 256 % 256)) 1 (n % 256)) ≡ drop (2 + 8 * n) given
-    kept = drop-set-lt (2 + 8 * n) (set given 0 (n / 256 % 256)) 1 (n % 256) (omega arith) ∙ drop-set-lt (2 + 8 * n) given 0 (n / 256 % 256) (omega arith)
+    kept = drop-set-lt (2 + 8 * n) (set given 0 (n / 256 % 256)) 1 (n % 256) (omega arith)
+        ∙ drop-set-lt (2 + 8 * n) given 0 (n / 256 % 256) (omega arith)
 
     head : (b : List ℕ) → 2 ≤ length b → take 2 (set (set b 0 (n / 256 % 256)) 1 (n % 256)) ≡ n / 256 % 256 ∷ n % 256 ∷ []
     head [] h = absurd (omega arith)

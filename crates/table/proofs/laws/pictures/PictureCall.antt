@@ -45,9 +45,11 @@ module _ (n : ℕ) (es : List Literals) (buffer : List ℕ) where
       (q ∙ cond-false (given (picture es) (length buffer)) (refusal 22 0) e, cond-false (written (picture es) buffer) buffer e)
 
   module _ (well : described 128 n es ≡ true) where
-    by-picture : (o : Option (List Literals)) → picture es ≡ o → (r : PictureAnswer) (after : List ℕ) → r ≡ given o (length buffer) → after ≡ written o buffer → Drawn r after
+    by-picture : (o : Option (List Literals)) → picture es ≡ o → (r : PictureAnswer) (after : List ℕ) → r ≡ given o (length buffer)
+        → after ≡ written o buffer → Drawn r after
     by-picture o e r after p q = (
-      p ∙ ap (λ (x : Option (List Literals)). given x (length buffer)) (sym e) ∙ cond-true (given (picture es) (length buffer)) (refusal 22 0) well,
+      p ∙ ap (λ (x : Option (List Literals)). given x (length buffer)) (sym e)
+          ∙ cond-true (given (picture es) (length buffer)) (refusal 22 0) well,
       q ∙ ap (λ (x : Option (List Literals)). written x buffer) (sym e) ∙ cond-true (written (picture es) buffer) buffer well,
     )
 
@@ -64,8 +66,10 @@ module _ (n : ℕ) (es : List Literals) (buffer : List ℕ) where
         unfolding given written tooLong
         too-short lt r q =
             let s = clauses-are .0 in
-            let l : ltb (length buffer) (2 + 8 * length s) ≡ true = lt-ltb (length buffer) (2 + 8 * length s) (omega (arith, clauses-are .2 .count-is)) in
-            by-picture (some s) (clauses-are .1) r buffer (q ∙ cond-true (refusal 23 0) (record { answer = Accepted; clauses = length s }) l)
+            let l : ltb (length buffer) (2 + 8 * length s) ≡ true = lt-ltb (length buffer) (2 + 8 * length s)
+            (omega (arith, clauses-are .2 .count-is)) in
+            by-picture (some s) (clauses-are .1) r buffer
+            (q ∙ cond-true (refusal 23 0) (record { answer = Accepted; clauses = length s }) l)
             (cond-true buffer (pictureBytes s ++ drop (2 + 8 * length s) buffer) l)
 
         pub all-written : (after : List ℕ) → 2 + 8 * c .count ≤ length buffer
@@ -77,7 +81,8 @@ module _ (n : ℕ) (es : List Literals) (buffer : List ℕ) where
             let k : c .count ≡ length s = clauses-are .2 .count-is in
             let l : ltb (length buffer) (2 + 8 * length s) ≡ false = le-ltb (length buffer) (2 + 8 * length s) (omega arith) in
             by-picture (some s) (clauses-are .1) _ after
-            (ap (λ (x : ℕ). record { answer = Accepted; clauses = x }) k ∙ cond-false (refusal 23 0) (record { answer = Accepted; clauses = length s }) l)
+            (ap (λ (x : ℕ). record { answer = Accepted; clauses = x }) k
+            ∙ cond-false (refusal 23 0) (record { answer = Accepted; clauses = length s }) l)
             (w
             ∙ ap₂ (λ (x : List Literals) (y : ℕ). pictureBytes x ++ drop (2 + 8 * y) buffer) (holds-entries _ _ _ _ _ (clauses-are .2)) k
             ∙ cond-false buffer (pictureBytes s ++ drop (2 + 8 * length s) buffer) l)
@@ -87,12 +92,14 @@ module _ (n : ℕ) (es : List Literals) (buffer : List ℕ) where
 abbrev Called : Judgement → Table → List ℕ → PictureAnswer → List ℕ → Type 0
 Called j t buffer r after = (r ≡ pictureOf j t (length buffer)) × (after ≡ bufferOf j t buffer)
 
-pub sheet-refused : (s : List ℕ) (t : Table) (buffer : List ℕ) (k p : ℕ) → sheetOf s ≡ refused k p → (r : PictureAnswer) → r ≡ refusal k p → Called (sheetOf s) t buffer r buffer
+pub sheet-refused : (s : List ℕ) (t : Table) (buffer : List ℕ) (k p : ℕ) → sheetOf s ≡ refused k p → (r : PictureAnswer) → r ≡ refusal k p
+    → Called (sheetOf s) t buffer r buffer
 unfolding pictureOf bufferOf
 sheet-refused s t buffer k p e r q =
     subst (λ (j : Judgement). Called j t buffer r buffer) (sym e) (q, refl)
 
 pub sheet-accepted : (s : List ℕ) (t : Table) (buffer : List ℕ) (x : Statement) → sheetOf s ≡ accepted x
-    → (r : PictureAnswer) (after : List ℕ) → Drawn (x .problem .n) (entriesOf (t .count) (t .trues) (t .falses)) buffer r after → Called (sheetOf s) t buffer r after
+    → (r : PictureAnswer) (after : List ℕ) → Drawn (x .problem .n) (entriesOf (t .count) (t .trues) (t .falses)) buffer r after
+    → Called (sheetOf s) t buffer r after
 unfolding pictureOf bufferOf entries
 sheet-accepted s t buffer x e r after w = subst (λ (j : Judgement). Called j t buffer r after) (sym e) w

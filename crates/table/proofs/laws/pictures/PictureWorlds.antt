@@ -31,7 +31,8 @@ union-primes cap n A B s u r a f b g e =
     (p .apart, list-exactly n (λ w. A w ⊎ B w) r p)
 
 -- one set of worlds has one strictly ascending list of its prime implicates
-pub prime-unique : (n : ℕ) (worlds : ℕ → Type 0) (s r : List Literals) → Ascending s → Ascending r → Exactly n worlds s → Exactly n worlds r → s ≡ r
+pub prime-unique : (n : ℕ) (worlds : ℕ → Type 0) (s r : List Literals) → Ascending s → Ascending r → Exactly n worlds s
+    → Exactly n worlds r → s ≡ r
 prime-unique n worlds s r a b f g = ascending-unique s r a b (λ c. (λ m. g c .1 (f c .0 m), λ m. f c .1 (g c .0 m)))
 
 -- ---- one picture
@@ -83,7 +84,8 @@ module _ {cap n : ℕ} {t s : List Literals} (h : n ≤ 32) (d : Described cap n
 -- ---- two pictures
 
 -- the same bytes exactly where the same worlds
-pub bytes-worlds : {cap n : ℕ} {t u s r : List Literals} → n ≤ 32 → Described cap n t → Described cap n u → picture t ≡ some s → picture u ≡ some r
+pub bytes-worlds : {cap n : ℕ} {t u s r : List Literals} → n ≤ 32 → Described cap n t → Described cap n u → picture t ≡ some s
+    → picture u ≡ some r
     → (pictureBytes s ≡ pictureBytes r) ↔ ((w : ℕ) → w < 2 ^ n → In n t w ↔ In n u w)
 bytes-worlds {cap} {n} {t} {u} {s} {r} h dt du et eu = (there, back)
   where

@@ -108,7 +108,8 @@ units-antichain e = down P (λ l h. subst Q (sym (members-end e l h)) tt) (λ l 
     pick l h r true c =
         subst Q (sym (members-here e l h c)) (
           all-imaged literal (Besides (literal l)) (members e (l + 1))
-              (all-members (λ k. Besides (literal l) (literal k)) (members e (l + 1)) (λ k m. other l k (omega (arith, of-member e k (l + 1) m .0)))),
+              (all-members (λ k. Besides (literal l) (literal k)) (members e (l + 1))
+              (λ k m. other l k (omega (arith, of-member e k (l + 1) m .0)))),
           r,
         )
     pick l h r false c = subst Q (sym (members-step e l h c)) r
@@ -145,10 +146,12 @@ smaller a b t f = pick (test (ltb (a .trues + a .falses) (b .trues + b .falses))
     le x y e = omega (arith, and-le-r x y, eqb→eq (bitAnd x y) x e)
 
     trues-le : a .trues ≤ b .trues
-    trues-le = le (a .trues) (b .trues) (and-l (eqb (bitAnd (a .trues) (b .trues)) (a .trues)) (eqb (bitAnd (a .falses) (b .falses)) (a .falses)) t)
+    trues-le = le (a .trues) (b .trues)
+        (and-l (eqb (bitAnd (a .trues) (b .trues)) (a .trues)) (eqb (bitAnd (a .falses) (b .falses)) (a .falses)) t)
 
     falses-le : a .falses ≤ b .falses
-    falses-le = le (a .falses) (b .falses) (and-r (eqb (bitAnd (a .trues) (b .trues)) (a .trues)) (eqb (bitAnd (a .falses) (b .falses)) (a .falses)) t)
+    falses-le = le (a .falses) (b .falses)
+        (and-r (eqb (bitAnd (a .trues) (b .trues)) (a .trues)) (eqb (bitAnd (a .falses) (b .falses)) (a .falses)) t)
 
     pick : T (ltb (a .trues + a .falses) (b .trues + b .falses)) ⊎ T (not (ltb (a .trues + a .falses) (b .trues + b .falses)))
         → a .trues + a .falses < b .trues + b .falses
@@ -174,7 +177,8 @@ exactly-list n worlds s a f = record {
     never zero d h i u = omega arith
     never (suc k) d h i u = both (within d d) (within-refl d) (each-member (λ c. T (not (within c d))) s u d (f d .1 (prime (never k))))
       where
-        prime : ((x : Literals) → x .trues + x .falses < k → Implicate n worlds x → All (λ c. T (not (within c x))) s → ⊥) → Prime n worlds d
+        prime : ((x : Literals) → x .trues + x .falses < k → Implicate n worlds x → All (λ c. T (not (within c x))) s → ⊥)
+            → Prime n worlds d
         prime rec = record {
           implicate = i;
           least = λ x j t. elim (test (within d x)) [
@@ -206,15 +210,18 @@ units-primeList n b e v = record {
       (let r = units-member e x m in
       subst (Implicate n (λ w. T (within e (state n w)))) (r .2) (one (r .0) (r .1)));
   complete = λ d i. found d (meet-at d e
-      (implied-clause n d e (proper-consistent n d (i .proper)) (proper-consistent n e v) (proper-below n d (i .proper)) (proper-below n e v)
+      (implied-clause n d e (proper-consistent n d (i .proper)) (proper-consistent n e v) (proper-below n d (i .proper))
+      (proper-below n e v)
       (λ w h t. T-true _ (i .sure w h (true-T _ t)))));
   apart = units-antichain e;
 }
   where
     one : (l : ℕ) → contains e l ≡ true → Implicate n (λ w. T (within e (state n w))) (literal l)
     one l c = record {
-      proper = proper-of n (literal l) (consistent-single (sign l) (l / 2)) (below-within n (literal l) e (within-literal l e ∙ c) (proper-below n e v));
-      sure = λ w h t. true-T _ (meet-here (literal l) (state n w) (sign l) (l / 2) (mem-self (sign l) (l / 2)) (within-of e _ (T-true _ t) (sign l) (l / 2) c));
+      proper = proper-of n (literal l) (consistent-single (sign l) (l / 2))
+          (below-within n (literal l) e (within-literal l e ∙ c) (proper-below n e v));
+      sure = λ w h t. true-T _ (meet-here (literal l) (state n w) (sign l) (l / 2) (mem-self (sign l) (l / 2))
+          (within-of e _ (T-true _ t) (sign l) (l / 2) c));
     }
 
     found : (d : Literals) → (s : Bool) × (p : ℕ) × (mem d s p ≡ true) × (mem e s p ≡ true)
@@ -329,7 +336,8 @@ clauses-world n worlds s p w h (inr g) f =
       proper = opposite-proper n w h;
       sure = λ v k u. opposite-holds n w h v k (λ e. g (subst worlds (sym e) u));
     }) in
-    absurd (opposite-fails n w h (meets-more (r .0) (flip (state n w)) (state n w) (r .2) (each-member (λ c. T (meets c (state n w))) s f (r .0) (r .1))))
+    absurd (opposite-fails n w h
+    (meets-more (r .0) (flip (state n w)) (state n w) (r .2) (each-member (λ c. T (meets c (state n w))) s f (r .0) (r .1))))
 
 pub in-or-not : (n : ℕ) (t : List Literals) (w : ℕ) → In n t w ⊎ (In n t w → ⊥)
 in-or-not n t w = elim (test (anyOf (λ e. within e (state n w)) t)) [

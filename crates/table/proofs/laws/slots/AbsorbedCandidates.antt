@@ -52,7 +52,8 @@ module _ (cap : ℕ) (c : Literals) where
       go (inl l) = subst Covered (l .1) (l .0)
       go (inr r) =
           subst Covered (r .1 .0)
-          (any-tested (λ e. within e c) (λ e. T (within e c)) (λ e i. i) (others c t ++ (c ∷ [])) (any-append-r (λ e. T (within e c)) (others c t) (c ∷ []) (inl (within-refl c))))
+          (any-tested (λ e. within e c) (λ e. T (within e c)) (λ e i. i) (others c t ++ (c ∷ []))
+          (any-append-r (λ e. T (within e c)) (others c t) (c ∷ []) (inl (within-refl c))))
 
   -- what d removes, c removes
   others-twice : (d : Literals) → T (within c d) → (t : List Literals) → others c (others d t) ≡ others c t
@@ -60,7 +61,8 @@ module _ (cap : ℕ) (c : Literals) where
   others-twice d k (e ∷ t) = go (within d e) refl (others-twice d k t)
     where
       go : (b : Bool) → within d e ≡ b → others c (others d t) ≡ others c t → others c (addIf (not b) e (others d t)) ≡ others c (e ∷ t)
-      go true q rec = rec ∙ sym (ap (λ (b : Bool). addIf (not b) e (others c t)) (T-true (within c e) (within-trans c d e k (true-T (within d e) q))))
+      go true q rec = rec ∙ sym
+          (ap (λ (b : Bool). addIf (not b) e (others c t)) (T-true (within c e) (within-trans c d e k (true-T (within d e) q))))
       go false q rec = ap (addIf (not (within c e)) e) rec
 
   -- and d itself
@@ -86,12 +88,15 @@ module _ (cap : ℕ) (c : Literals) where
               put-dropped cap v c (T-true (anyOf (λ e. within e c) v) (covers t v e)) ∙ sym e
           at (inr q) =
               let apart : All (λ e. T (not (within e c))) t =
-              all-map (λ e. T (not (within e d))) (λ e. T (not (within e c))) (λ e i. not-in (within e c) (λ j. both (within e d) (within-trans e c d j k) i)) t (any-none (λ e. within e d) t (r .0)) in
+              all-map (λ e. T (not (within e d))) (λ e. T (not (within e c)))
+              (λ e i. not-in (within e c) (λ j. both (within e d) (within-trans e c d j k) i)) t
+              (any-none (λ e. within e d) t (r .0)) in
               let old : anyOf (λ e. within e c) t ≡ false = none-any (λ e. within e c) t apart in
               let new : anyOf (λ e. within e c) (others d t ++ (d ∷ [])) ≡ false =
               none-any (λ e. within e c) (others d t ++ (d ∷ []))
               (all-append (λ e. T (not (within e c))) (others d t) (d ∷ [])
-              (all-map (λ e. T (not (within e c)) × T (not (within d e))) (λ e. T (not (within e c))) (λ e i. i .0) (others d t) (all-keep (λ e. not (within d e)) (λ e. T (not (within e c))) t apart))
+              (all-map (λ e. T (not (within e c)) × T (not (within d e))) (λ e. T (not (within e c))) (λ e i. i .0) (others d t)
+              (all-keep (λ e. not (within d e)) (λ e. T (not (within e c))) t apart))
               (q, tt)) in
               ap (λ (x : List Literals). put cap x c) (sym (r .1 .0))
               ∙ ap (λ (b : Bool). putNew b cap (others d t ++ (d ∷ [])) c) new
@@ -117,7 +122,8 @@ module _ (cap : ℕ) (c : Literals) where
       go (inr r) = omega (arith, ap length (r .1 .0), length-append (others d t) (d ∷ []), keep-length (λ x. not (within d x)) t)
 
   -- candidates that contain c, and c among them
-  pub absorbed : (ds t : List Literals) → All (λ d. T (within c d)) ds → Any (λ d. d ≡ c) ds → length t + length ds ≤ cap → putAll cap ds t ≡ put cap t c
+  pub absorbed : (ds t : List Literals) → All (λ d. T (within c d)) ds → Any (λ d. d ≡ c) ds → length t + length ds ≤ cap
+      → putAll cap ds t ≡ put cap t c
   absorbed [] t h a l = absurd a
   absorbed (d ∷ ds) t h (inl e) l = ap (λ (x : Literals). andThen (put cap t x) (λ u. putAll cap ds u)) e ∙ last (put cap t c) refl
     where
@@ -126,7 +132,8 @@ module _ (cap : ℕ) (c : Literals) where
       last (some u) q = all-dropped ds u (h .1) (covers t u q)
   absorbed (d ∷ ds) t h (inr a) l = go (put cap t d) refl (λ v k. absorbed ds v (h .1) a k)
     where
-      go : (o : Option (List Literals)) → put cap t d ≡ o → ((v : List Literals) → length v + length ds ≤ cap → putAll cap ds v ≡ put cap v c)
+      go : (o : Option (List Literals)) → put cap t d ≡ o
+          → ((v : List Literals) → length v + length ds ≤ cap → putAll cap ds v ≡ put cap v c)
           → andThen o (λ u. putAll cap ds u) ≡ put cap t c
       go none q rec = absurd (room-for t d (omega (arith, l)) q)
       go (some v) q rec = rec v (omega (arith, l, one-longer t d v q)) ∙ put-over t d v (h .0) q
@@ -177,5 +184,9 @@ module _ (c : Literals) (us : List Literals) (h : Any (λ u. T (within u c)) us)
   pub puts-alone : (cap m k : ℕ) (ts fs : List ℕ) (r : Grown) (ts′ fs′ : List ℕ) → Held cap k ts fs → m ≡ length us → m ≤ length ts - k
       → Puts (keep consistent (c ∷ [])) k ts fs r ts′ fs′ → Puts joined k ts fs r ts′ fs′
   puts-alone cap m k ts fs r ts′ fs′ g e l w =
-      let room : length (entriesOf k ts fs) + length us ≤ length ts = omega (arith, e, l, length-entriesOf k ts fs, g .room, holds-trues-long _ _ _ _ _ g) in
-      record { grew = subst (λ (o : Option (List Literals)). Grew (length ts) o r ts′ fs′) (alone (length ts) (entriesOf k ts fs) room) (w .grew) }
+      let room : length (entriesOf k ts fs) + length us ≤ length
+      ts = omega (arith, e, l, length-entriesOf k ts fs, g .room, holds-trues-long _ _ _ _ _ g) in
+      record {
+        grew = subst (λ (o : Option (List Literals)). Grew (length ts) o r ts′ fs′) (alone (length ts) (entriesOf k ts fs) room)
+            (w .grew);
+      }

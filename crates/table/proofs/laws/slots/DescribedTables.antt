@@ -16,7 +16,8 @@ use Rattle.table.specs.Minimal.{Antichain, Described, proper, apart, ant
 
 proper-at : (n : ℕ) (e : Literals) → T (proper n e) → Proper n e
 unfolding proper
-proper-at n e t = proper-of n e (T-true (consistent e) (and-l (consistent e) (below n e) t)) (T-true (below n e) (and-r (consistent e) (below n e) t))
+proper-at n e t = proper-of n e (T-true (consistent e) (and-l (consistent e) (below n e) t))
+    (T-true (below n e) (and-r (consistent e) (below n e) t))
 
 proper-by : (n : ℕ) (e : Literals) → Proper n e → T (proper n e)
 unfolding proper
@@ -39,7 +40,8 @@ antichain-by (e ∷ t) k =
     and-in (allOf (λ f. not (within e f || within f e)) t) (antichain t)
     (all-tested (λ f. not (within e f || within f e)) t
     (all-map (λ f. T (not (within e f)) × T (not (within f e))) (λ f. T (not (within e f || within f e)))
-    (λ f x. not-in (within e f || within f e) (λ y. ⊎-elim (λ z. both (within e f) z (x .0)) (λ z. both (within f e) z (x .1)) (or-out (within e f) (within f e) y))) t (k .0)))
+    (λ f x. not-in (within e f || within f e)
+    (λ y. ⊎-elim (λ z. both (within e f) z (x .0)) (λ z. both (within f e) z (x .1)) (or-out (within e f) (within f e) y))) t (k .0)))
     (antichain-by t (k .1))
 
 pub described-iff : (cap n : ℕ) (t : List Literals) → (described cap n t ≡ true) ↔ Described cap n t
@@ -53,7 +55,8 @@ described-iff cap n t = (λ e. go (true-T (described cap n t) e), λ d. T-true (
         record {
           least = leb→le 1 (length t) (and-l (leb 1 (length t)) (leb (length t) cap && (allOf (proper n) t && antichain t)) k);
           most = leb→le (length t) cap (and-l (leb (length t) cap) (allOf (proper n) t && antichain t) r);
-          proper = all-map (λ e. T (proper n e)) (Proper n) (proper-at n) t (all-test (proper n) t (and-l (allOf (proper n) t) (antichain t) s));
+          proper = all-map (λ e. T (proper n e)) (Proper n) (proper-at n) t
+              (all-test (proper n) t (and-l (allOf (proper n) t) (antichain t) s));
           apart = antichain-at t (and-r (allOf (proper n) t) (antichain t) s);
         }
 
@@ -61,4 +64,5 @@ described-iff cap n t = (λ e. go (true-T (described cap n t) e), λ d. T-true (
     back d =
         and-in (leb 1 (length t)) (leb (length t) cap && (allOf (proper n) t && antichain t)) (le→leb 1 (length t) (d .least))
         (and-in (leb (length t) cap) (allOf (proper n) t && antichain t) (le→leb (length t) cap (d .most))
-        (and-in (allOf (proper n) t) (antichain t) (all-tested (proper n) t (all-map (Proper n) (λ e. T (proper n e)) (proper-by n) t (d .proper))) (antichain-by t (d .apart))))
+        (and-in (allOf (proper n) t) (antichain t)
+        (all-tested (proper n) t (all-map (Proper n) (λ e. T (proper n e)) (proper-by n) t (d .proper))) (antichain-by t (d .apart))))

@@ -109,7 +109,8 @@ module _ (ts fs : List ℕ) (i : ℕ) (l : Literals) where
   last-1 c b t = on 3 c ∙ on 2 b ∙ at 1 t
 
   pub last-0 : test 3 ≡ false → test 2 ≡ false → test 1 ≡ false → fourWithin ts fs i l ≡ true → last 4 ≡ At i
-  last-0 c b a t = on 3 c ∙ on 2 b ∙ on 1 a ∙ hit (λ e. within e l) ts fs (i + 1) i (omega arith) (first (within (slot ts fs i) l) _ _ _ a b c t)
+  last-0 c b a t = on 3 c ∙ on 2 b ∙ on 1 a ∙ hit (λ e. within e l) ts fs (i + 1) i (omega arith)
+      (first (within (slot ts fs i) l) _ _ _ a b c t)
     where
       first : (x p q r : Bool) → p ≡ false → q ≡ false → r ≡ false → (x || p || q || r) ≡ true → x ≡ true
       first true p q r u v w e = refl
@@ -142,7 +143,8 @@ none-found f xs e = any-none f xs (false-T (anyOf f xs) (found-none f xs Nothing
 found-nothing : (f : Literals → Bool) (xs : List Literals) → All (λ x. T (not (f x))) xs → lastOf f xs ≡ Nothing
 unfolding lastOf shifted
 found-nothing f [] h = refl
-found-nothing f (x ∷ xs) h = ap (shifted (f x)) (found-nothing f xs (h .1)) ∙ ap (λ (b : Bool). cond b (At 0) Nothing) (T-false (f x) (h .0))
+found-nothing f (x ∷ xs) h = ap (shifted (f x)) (found-nothing f xs (h .1))
+    ∙ ap (λ (b : Bool). cond b (At 0) Nothing) (T-false (f x) (h .0))
 
 pub last-none : (f : Literals → Bool) (xs : List Literals) → (lastOf f xs ≡ Nothing) ↔ All (λ x. T (not (f x))) xs
 last-none f xs = (none-found f xs, found-nothing f xs)

@@ -54,14 +54,16 @@ put-all-keeps Q cap f (c ∷ cs) t u h q = go (put cap t c) refl h (λ v k. put-
     go (some v) e h k = k v h (f c cs t v e q)
 
 -- ---- a fact of the entries and of the candidates is a fact of the new entries
-pub put-all : (P : Literals → Type 0) (cap : ℕ) (t : List Literals) (c : Literals) (u : List Literals) → put cap t c ≡ some u → All P t → P c → All P u
+pub put-all : (P : Literals → Type 0) (cap : ℕ) (t : List Literals) (c : Literals) (u : List Literals) → put cap t c ≡ some u → All P t
+    → P c → All P u
 put-all P cap t c u h a pc = go (put-cases cap t c u h)
   where
     go : Placed cap t c u → All P u
     go (inl l) = subst (All P) (l .1) a
     go (inr r) =
         subst (All P) (r .1 .0)
-        (all-append P (others c t) (c ∷ []) (all-map (λ e. P e × T (not (within c e))) P (λ e q. q .0) (others c t) (all-keep (λ e. not (within c e)) P t a)) (pc, tt))
+        (all-append P (others c t) (c ∷ [])
+        (all-map (λ e. P e × T (not (within c e))) P (λ e q. q .0) (others c t) (all-keep (λ e. not (within c e)) P t a)) (pc, tt))
 
 pub put-all-all : (P : Literals → Type 0) (cap : ℕ) (cs t u : List Literals) → putAll cap cs t ≡ some u → All P t → All P cs → All P u
 put-all-all P cap cs t u h a b =
@@ -79,7 +81,8 @@ keep-antichain f (e ∷ t) a = go (f e) (keep-antichain f t (a .1))
     go true k = (all-map (λ g. Apart g × T (f g)) Apart (λ g q. q .0) (keep f t) (all-keep f Apart t (a .0)), k)
     go false k = k
 
-last-antichain : (c : Literals) (t : List Literals) → Antichain t → All (λ e. T (not (within e c)) × T (not (within c e))) t → Antichain (t ++ (c ∷ []))
+last-antichain : (c : Literals) (t : List Literals) → Antichain t → All (λ e. T (not (within e c)) × T (not (within c e))) t
+    → Antichain (t ++ (c ∷ []))
 last-antichain c [] a b = (tt, tt)
 last-antichain c (e ∷ t) a b =
     (all-append (λ f. T (not (within e f)) × T (not (within f e))) t (c ∷ []) (a .0) (b .0, tt), last-antichain c t (a .1) (b .1))
@@ -113,7 +116,12 @@ put-size cap t c u h b = go (put-cases cap t c u h)
     go (inl l) = subst (λ (x : List Literals). length x ≤ cap) (l .1) b
     go (inr r) =
         subst (λ (x : List Literals). length x ≤ cap) (r .1 .0)
-        (omega (arith, keep-length (λ e. not (within c e)) t, length-append (others c t) (c ∷ []), eqb-false (length (others c t)) cap (r .1 .1)))
+        (omega (
+          arith,
+          keep-length (λ e. not (within c e)) t,
+          length-append (others c t) (c ∷ []),
+          eqb-false (length (others c t)) cap (r .1 .1),
+        ))
 
 pub put-all-size : (cap : ℕ) (cs t u : List Literals) → putAll cap cs t ≡ some u → length t ≤ cap → length u ≤ cap
 put-all-size cap cs t u h b = put-all-keeps (λ cs t. length t ≤ cap) cap (λ c cs t u e q. put-size cap t c u e q) cs t u h b
@@ -173,7 +181,8 @@ module _ (n w : ℕ) where
       first (inl j) = absurd j
       first (inr j) = j
 
-      next : (c : Literals) (cs t u : List Literals) → put cap t c ≡ some u → (In n t w ⊎ In n (c ∷ cs) w → In n all w) → In n u w ⊎ In n cs w → In n all w
+      next : (c : Literals) (cs t u : List Literals) → put cap t c ≡ some u → (In n t w ⊎ In n (c ∷ cs) w → In n all w) → In n u w
+          ⊎ In n cs w → In n all w
       next c cs t u e k (inr j) = k (inr (inr j))
       next c cs t u e k (inl j) = from (put-out cap t c u e j)
         where

@@ -26,10 +26,12 @@ putAll-append cap (c ∷ cs) ds s = at (put cap s c) (λ r. putAll-append cap cs
 pub nothing-put : (cs : List Literals) (n : ℕ) (ts fs : List ℕ) → cs ≡ [] → Held (length ts) n ts fs → Puts cs n ts fs (grown.To n) ts fs
 nothing-put cs n ts fs e h = record { grew = (ap (λ (x : List Literals). putAll (length ts) x (entriesOf n ts fs)) e, h) }
 
-pub puts-is : (cs ds : List Literals) (k : ℕ) (ts fs : List ℕ) (r : Grown) (us gs : List ℕ) → cs ≡ ds → Puts cs k ts fs r us gs → Puts ds k ts fs r us gs
+pub puts-is : (cs ds : List Literals) (k : ℕ) (ts fs : List ℕ) (r : Grown) (us gs : List ℕ) → cs ≡ ds → Puts cs k ts fs r us gs
+    → Puts ds k ts fs r us gs
 puts-is cs ds k ts fs r us gs e w = subst (λ (x : List Literals). Puts x k ts fs r us gs) e w
 
--- ---- a loop over candidates: those still to come, ds, after the k entries of ts and fs, give what all give after the k₀ entries of ts₀ and fs₀
+-- ---- a loop over candidates: those still to come, ds, after the k entries of ts and fs, give what all give after the k₀ entries of ts₀
+-- and fs₀
 
 pub record Going (all : List Literals) (k₀ : ℕ) (ts₀ fs₀ : List ℕ) (ds : List Literals) (k : ℕ) (ts fs : List ℕ) : Type 0 where
   pub held : Held (length ts₀) k ts fs
@@ -39,7 +41,8 @@ pub going-start : (all ds : List Literals) (k : ℕ) (ts fs : List ℕ) → all 
 going-start all ds k ts fs e h = record { held = h; onwards = ap (λ (x : List Literals). putAll (length ts) x (entriesOf k ts fs)) (sym e) }
 
 module _ (all : List Literals) (k₀ : ℕ) (ts₀ fs₀ : List ℕ) where
-  module _ (bs cs ds : List Literals) (k : ℕ) (ts fs : List ℕ) (r : Grown) (ts′ fs′ : List ℕ) (g : Going all k₀ ts₀ fs₀ bs k ts fs) (is : bs ≡ cs ++ ds)
+  module _ (bs cs ds : List Literals) (k : ℕ) (ts fs : List ℕ) (r : Grown) (ts′ fs′ : List ℕ) (g : Going all k₀ ts₀ fs₀ bs k ts fs)
+      (is : bs ≡ cs ++ ds)
       (w : Puts cs k ts fs r ts′ fs′) where
     abbrev cap : ℕ
     cap = length ts₀
@@ -54,7 +57,8 @@ module _ (all : List Literals) (k₀ : ℕ) (ts₀ fs₀ : List ℕ) where
 
     split-up : rest-of (putAll cap cs (entriesOf k ts fs)) ≡ putAll cap all (entriesOf k₀ ts₀ fs₀)
     split-up =
-        sym (putAll-append cap cs ds (entriesOf k ts fs)) ∙ sym (ap (λ (x : List Literals). putAll cap x (entriesOf k ts fs)) is) ∙ g .onwards
+        sym (putAll-append cap cs ds (entriesOf k ts fs)) ∙ sym (ap (λ (x : List Literals). putAll cap x (entriesOf k ts fs)) is)
+        ∙ g .onwards
 
     -- some candidates cs were put
     pub going-on : (j : ℕ) → r ≡ grown.To j → Going all k₀ ts₀ fs₀ ds j ts′ fs′
@@ -65,6 +69,7 @@ module _ (all : List Literals) (k₀ : ℕ) (ts₀ fs₀ : List ℕ) where
     pub going-full : r ≡ grown.Full → Puts all k₀ ts₀ fs₀ grown.Full ts′ fs′
     going-full e = record { grew = sym split-up ∙ ap rest-of (at-cap grown.Full e) }
 
-  pub going-end : (ds : List Literals) (k : ℕ) (ts fs : List ℕ) → Going all k₀ ts₀ fs₀ ds k ts fs → ds ≡ [] → Puts all k₀ ts₀ fs₀ (grown.To k) ts fs
+  pub going-end : (ds : List Literals) (k : ℕ) (ts fs : List ℕ) → Going all k₀ ts₀ fs₀ ds k ts fs → ds ≡ []
+      → Puts all k₀ ts₀ fs₀ (grown.To k) ts fs
   going-end ds k ts fs g e =
       record { grew = (sym (g .onwards) ∙ ap (λ (x : List Literals). putAll (length ts₀) x (entriesOf k ts fs)) e, g .held) }

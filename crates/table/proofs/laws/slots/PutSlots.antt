@@ -105,9 +105,11 @@ module _ (cap n : ℕ) (ts fs : List ℕ) (l : Literals) (held : Held cap n ts f
     full e =
         let c : k ≡ length (left (entriesOf n ts fs) l) = removed .count-is in
         let q : eqb (length (left (entriesOf n ts fs) l)) cap ≡ true = eq-eqb _ _ (sym c ∙ e) in
-        let all : left (entriesOf n ts fs) l ≡ entriesOf n ts fs = keep-all _ (entriesOf n ts fs) (omega (arith, removed .count-is, held .room, length-entriesOf n ts fs)) in (
+        let all : left (entriesOf n ts fs) l ≡ entriesOf n ts fs = keep-all _ (entriesOf n ts fs)
+        (omega (arith, removed .count-is, held .room, length-entriesOf n ts fs)) in (
           sym (fate-full cap (entriesOf n ts fs) l s q),
-          at-length _ _ _ _ _ _ removed (after-is cap (entriesOf n ts fs) l (entriesOf n ts fs) _ (put-full cap (entriesOf n ts fs) l s q) refl ∙ sym all),
+          at-length _ _ _ _ _ _ removed
+              (after-is cap (entriesOf n ts fs) l (entriesOf n ts fs) _ (put-full cap (entriesOf n ts fs) l s q) refl ∙ sym all),
         )
 
     pub placed : (k ≡ cap → ⊥) → Put cap (entriesOf n ts fs) l (Added (n - k) (k + 1)) (set ts′ k (l .trues)) (set fs′ k (l .falses))
@@ -140,7 +142,8 @@ grownAfter n Dropped = grown.To n
 grownAfter n (Added removed count) = grown.To count
 grownAfter n Full = grown.Full
 
-grew-of : (cap : ℕ) (es xs : List Literals) (n k : ℕ) (ts fs : List ℕ) → Holds cap es n ts fs → es ≡ xs → n ≡ k → Grew cap (some xs) (grown.To k) ts fs
+grew-of : (cap : ℕ) (es xs : List Literals) (n k : ℕ) (ts fs : List ℕ) → Holds cap es n ts fs → es ≡ xs → n ≡ k
+    → Grew cap (some xs) (grown.To k) ts fs
 grew-of cap es xs n k ts fs h e q =
     let m : Holds cap xs k ts fs = subst (λ (y : List Literals). Holds cap y k ts fs) e (subst (λ (j : ℕ). Holds cap es j ts fs) q h) in
     (ap some (sym (holds-entries _ _ _ _ _ m)), held-of _ _ _ _ _ m)
@@ -149,7 +152,8 @@ module _ (cap n : ℕ) (ts fs : List ℕ) (c : Literals) where
   abbrev before : List Literals
   before = entriesOf n ts fs
 
-  grew-put : (ts′ fs′ : List ℕ) → Holds cap (listAfter cap before c) (length (listAfter cap before c)) ts′ fs′ → Grew cap (put cap before c) (grownAfter n (fateOf cap before c)) ts′ fs′
+  grew-put : (ts′ fs′ : List ℕ) → Holds cap (listAfter cap before c) (length (listAfter cap before c)) ts′ fs′
+      → Grew cap (put cap before c) (grownAfter n (fateOf cap before c)) ts′ fs′
   unfolding orElse
   grew-put ts′ fs′ h = at (anyOf (λ e. within e c) before) (eqb (length (left before c)) cap) refl refl
     where
@@ -159,21 +163,26 @@ module _ (cap n : ℕ) (ts fs : List ℕ) (c : Literals) where
           subst (λ (x : Option (List Literals)). Grew cap x (grownAfter n (fateOf cap before c)) ts′ fs′) (sym p)
           (subst (λ (x : Fate). Grew cap o (grownAfter n x) ts′ fs′) (sym q) r)
 
-      at : (a b : Bool) → anyOf (λ e. within e c) before ≡ a → eqb (length (left before c)) cap ≡ b → Grew cap (put cap before c) (grownAfter n (fateOf cap before c)) ts′ fs′
+      at : (a b : Bool) → anyOf (λ e. within e c) before ≡ a → eqb (length (left before c)) cap ≡ b
+          → Grew cap (put cap before c) (grownAfter n (fateOf cap before c)) ts′ fs′
       at true b p q =
           let e : listAfter cap before c ≡ before = after-is cap before c before _ (put-dropped cap before c p) refl in
           known (some before) Dropped (put-dropped cap before c p) (fate-dropped cap before c p)
           (grew-of cap _ before _ n ts′ fs′ h e (ap length e ∙ length-entriesOf n ts fs))
       at false true p q = known none Full (put-full cap before c p q) (fate-full cap before c p q) refl
       at false false p q =
-          let e : listAfter cap before c ≡ left before c ++ c ∷ [] = after-is cap before c (left before c ++ c ∷ []) _ (put-added cap before c p q) refl in
+          let e : listAfter cap before c ≡ left before c ++ c ∷ [] = after-is cap before c (left before c ++ c ∷ []) _
+          (put-added cap before c p q) refl in
           known (some (left before c ++ c ∷ [])) (added cap before c) (put-added cap before c p q) (fate-added cap before c p q)
-          (grew-of cap _ (left before c ++ c ∷ []) _ (length (left before c) + 1) ts′ fs′ h e (ap length e ∙ length-append (left before c) (c ∷ [])))
+          (grew-of cap _ (left before c ++ c ∷ []) _ (length (left before c) + 1) ts′ fs′ h e
+          (ap length e ∙ length-append (left before c) (c ∷ [])))
 
 pub offered : (n : ℕ) (ts fs : List ℕ) (c : Literals) (ts′ fs′ : List ℕ) (f g : Fate) → f ≡ fateOf (length ts) (entriesOf n ts fs) c → f ≡ g
-    → Holds (length ts) (listAfter (length ts) (entriesOf n ts fs) c) (length (listAfter (length ts) (entriesOf n ts fs) c)) ts′ fs′ → Puts (c ∷ []) n ts fs (grownAfter n g) ts′ fs′
+    → Holds (length ts) (listAfter (length ts) (entriesOf n ts fs) c) (length (listAfter (length ts) (entriesOf n ts fs) c)) ts′ fs′
+    → Puts (c ∷ []) n ts fs (grownAfter n g) ts′ fs′
 offered n ts fs c ts′ fs′ f g p q h = record {
   grew =
       subst (λ (x : Option (List Literals)). Grew (length ts) x (grownAfter n g) ts′ fs′) (putAll-one (length ts) (entriesOf n ts fs) c)
-      (subst (λ (x : Fate). Grew (length ts) (put (length ts) (entriesOf n ts fs) c) (grownAfter n x) ts′ fs′) (sym p ∙ q) (grew-put (length ts) n ts fs c ts′ fs′ h));
+      (subst (λ (x : Fate). Grew (length ts) (put (length ts) (entriesOf n ts fs) c) (grownAfter n x) ts′ fs′) (sym p ∙ q)
+      (grew-put (length ts) n ts fs c ts′ fs′ h));
 }

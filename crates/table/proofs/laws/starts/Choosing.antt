@@ -35,11 +35,13 @@ pub left-out : (c : Literals) → consistent c ≡ false → keep consistent (c 
 left-out c e = ap (λ (b : Bool). addIf b c []) e
 
 -- no alternative is left
-pub chosen-all : (n : ℕ) (laid : List ℕ) (i : ℕ) (d : Literals) → n ≤ i → consistent d ≡ true → d ∷ [] ≡ keep consistent (falsify (drop i (setsAt n laid)) d)
+pub chosen-all : (n : ℕ) (laid : List ℕ) (i : ℕ) (d : Literals) → n ≤ i → consistent d ≡ true
+    → d ∷ [] ≡ keep consistent (falsify (drop i (setsAt n laid)) d)
 chosen-all n laid i d h e = sym (ap (λ (x : List Literals). keep consistent (falsify x d)) (sets-end n laid i h) ∙ kept-one d e)
 
 -- what was put, by the names that the slots and the result have later
-pub puts-later : (cs : List Literals) (k : ℕ) (ts fs : List ℕ) (r : Grown) (us gs : List ℕ) (r′ : Grown) (us′ gs′ : List ℕ) → us′ ≡ us → gs′ ≡ gs → r′ ≡ r
+pub puts-later : (cs : List Literals) (k : ℕ) (ts fs : List ℕ) (r : Grown) (us gs : List ℕ) (r′ : Grown) (us′ gs′ : List ℕ) → us′ ≡ us
+    → gs′ ≡ gs → r′ ≡ r
     → Puts cs k ts fs r us gs → Puts cs k ts fs r′ us′ gs′
 puts-later cs k ts fs r us gs r′ us′ gs′ p q e w = rw (p, q, e) w
 
@@ -48,7 +50,8 @@ puts-later cs k ts fs r us gs r′ us′ gs′ p q e w = rw (p, q, e) w
 pub stays-inconsistent : (d e : Literals) → consistent d ≡ false → consistent (join d e) ≡ false
 stays-inconsistent d e h = consistent-join d e ∙ rw h
 
-keep-none : {A : Type 0} (f : Literals → Bool) (g : A → List Literals) → ((x : A) → keep f (g x) ≡ []) → (xs : List A) → keep f (collect g xs) ≡ []
+keep-none : {A : Type 0} (f : Literals → Bool) (g : A → List Literals) → ((x : A) → keep f (g x) ≡ []) → (xs : List A)
+    → keep f (collect g xs) ≡ []
 keep-none f g h [] = refl
 keep-none f g h (x ∷ xs) = keep-append f (g x) (collect g xs) ∙ ap₂ (λ (a b : List Literals). a ++ b) (h x) (keep-none f g h xs)
 
@@ -56,7 +59,8 @@ keep-none f g h (x ∷ xs) = keep-append f (g x) (collect g xs) ∙ ap₂ (λ (a
 pub cut : (os : List Literals) (d : Literals) → consistent d ≡ false → keep consistent (falsify os d) ≡ []
 cut [] d h = left-out d h
 cut (o ∷ os) d h =
-    keep-none consistent (λ l. falsify os (join d (flip (literal l)))) (λ l. cut os (join d (flip (literal l))) (stays-inconsistent d (flip (literal l)) h)) (members o 0)
+    keep-none consistent (λ l. falsify os (join d (flip (literal l))))
+    (λ l. cut os (join d (flip (literal l))) (stays-inconsistent d (flip (literal l)) h)) (members o 0)
 
 -- what is split is kept part by part
 keep-split : (bs cs ds : List Literals) → bs ≡ cs ++ ds → keep consistent bs ≡ keep consistent cs ++ keep consistent ds
@@ -126,11 +130,13 @@ Free rest d = (j : ℕ) → contains rest j ≡ true → contains d j ≡ false
 
 pub free-start : (a d rest : Literals) → rest ≡ minus a d → Free rest d
 free-start a d rest q j e =
-    not-true (contains d j) (and-eq-true-iff (contains a j) (not (contains d j)) .0 (sym (contains-lacks a d j) ∙ ap (λ (x : Literals). contains x j) (sym q) ∙ e) .1)
+    not-true (contains d j) (and-eq-true-iff (contains a j) (not (contains d j)) .0
+    (sym (contains-lacks a d j) ∙ ap (λ (x : Literals). contains x j) (sym q) ∙ e) .1)
 
 pub free-on : (rest one d less : Literals) → Free rest d → less ≡ minus rest one → Free less d
 free-on rest one d less h q j e =
-    h j (and-eq-true-iff (contains rest j) (not (contains one j)) .0 (sym (contains-lacks rest one j) ∙ ap (λ (x : Literals). contains x j) (sym q) ∙ e) .0)
+    h j (and-eq-true-iff (contains rest j) (not (contains one j)) .0
+    (sym (contains-lacks rest one j) ∙ ap (λ (x : Literals). contains x j) (sym q) ∙ e) .0)
 
 -- d with the complement of a literal: inconsistent if it has the literal, consistent if it has not
 denied : (d : Literals) (l : ℕ) → consistent d ≡ true → consistent (join d (flip (literal l))) ≡ not (contains d l)
@@ -138,10 +144,17 @@ unfolding contains
 denied d l h =
     ap (λ (x : Literals). consistent (join d x)) (flip-literal l)
     ∙ consistent-join d (single (not (sign l)) (l / 2))
-    ∙ rw (h, consistent-single (not (sign l)) (l / 2), clash-sym d (single (not (sign l)) (l / 2)), clash-single (not (sign l)) (l / 2) d, not-not (sign l)) refl
+    ∙ rw (
+      h,
+      consistent-single (not (sign l)) (l / 2),
+      clash-sym d (single (not (sign l)) (l / 2)),
+      clash-single (not (sign l)) (l / 2) d,
+      not-not (sign l),
+    ) refl
 
 -- so the choice of a literal that is left is consistent
-pub chosen-steady : (d rest one f w : Literals) (l : ℕ) → consistent d ≡ true → Free rest d → l ≡ next rest 0 → l < 64 → one ≡ literal l → f ≡ flip one → w ≡ join d f
+pub chosen-steady : (d rest one f w : Literals) (l : ℕ) → consistent d ≡ true → Free rest d → l ≡ next rest 0 → l < 64 → one ≡ literal l
+    → f ≡ flip one → w ≡ join d f
     → consistent w ≡ true
 chosen-steady d rest one f w l h g e k p q r =
     let found : contains rest l ≡ true = ap (contains rest) e ∙ next-found rest 0 (omega (arith, e, k)) in
@@ -151,7 +164,8 @@ chosen-steady d rest one f w l h g e k p q r =
 keep-less : (f : Literals → Bool) (g : ℕ → List Literals) (b : ℕ → Bool) → ((x : ℕ) → b x ≡ false → keep f (g x) ≡ []) → (xs : List ℕ)
     → keep f (collect g xs) ≡ keep f (collect g (keep b xs))
 keep-less f g b h [] = refl
-keep-less f g b h (x ∷ xs) = keep-append f (g x) (collect g xs) ∙ ap (λ (r : List Literals). keep f (g x) ++ r) (keep-less f g b h xs) ∙ at (b x) refl
+keep-less f g b h (x ∷ xs) = keep-append f (g x) (collect g xs) ∙ ap (λ (r : List Literals). keep f (g x) ++ r) (keep-less f g b h xs)
+    ∙ at (b x) refl
   where
     at : (t : Bool) → b x ≡ t → keep f (g x) ++ keep f (collect g (keep b xs)) ≡ keep f (collect g (addIf (b x) x (keep b xs)))
     at true e = rw e (sym (keep-append f (g x) (collect g (keep b xs))))
@@ -166,10 +180,13 @@ module _ (os : List Literals) (d : Literals) where
   unfolding choicesOf missing
   choices-start bs a rest h q e =
       ap (λ (x : List Literals). keep consistent (falsify x d)) q
-      ∙ keep-less consistent (λ j. falsify os (join d (flip (literal j)))) (λ j. not (contains d j)) (λ j k. cut os (join d (flip (literal j))) (denied d j h ∙ k)) (members a 0)
-      ∙ ap (λ (x : List ℕ). keep consistent (collect (λ j. falsify os (join d (flip (literal j)))) x)) (sym (ap (λ (x : Literals). members x 0) e ∙ members-lacks a d))
+      ∙ keep-less consistent (λ j. falsify os (join d (flip (literal j)))) (λ j. not (contains d j))
+      (λ j k. cut os (join d (flip (literal j))) (denied d j h ∙ k)) (members a 0)
+      ∙ ap (λ (x : List ℕ). keep consistent (collect (λ j. falsify os (join d (flip (literal j)))) x))
+      (sym (ap (λ (x : Literals). members x 0) e ∙ members-lacks a d))
 
-  pub choices-step : (rest less one f w : Literals) (l : ℕ) → l ≡ next rest 0 → l < 64 → one ≡ literal l → f ≡ flip one → w ≡ join d f → less ≡ minus rest one
+  pub choices-step : (rest less one f w : Literals) (l : ℕ) → l ≡ next rest 0 → l < 64 → one ≡ literal l → f ≡ flip one → w ≡ join d f
+      → less ≡ minus rest one
       → keep consistent (choicesOf os rest d) ≡ keep consistent (falsify os w) ++ keep consistent (choicesOf os less d)
   unfolding choicesOf
   choices-step rest less one f w l e h p q r s = keep-split (choicesOf os rest d) (falsify os w) (choicesOf os less d) split-up
@@ -182,7 +199,8 @@ module _ (os : List Literals) (d : Literals) where
 
   pub choices-end : (rest : Literals) (l : ℕ) → l ≡ next rest 0 → 64 ≤ l → keep consistent (choicesOf os rest d) ≡ []
   unfolding choicesOf
-  choices-end rest l e h = ap (λ (x : List ℕ). keep consistent (collect (λ j. falsify os (join d (flip (literal j)))) x)) (members-nil rest 0 (omega (arith, e, h)))
+  choices-end rest l e h = ap (λ (x : List ℕ). keep consistent (collect (λ j. falsify os (join d (flip (literal j)))) x))
+      (members-nil rest 0 (omega (arith, e, h)))
 
 -- there are fewer literals
 pub choices-less : (rest less one : Literals) (l : ℕ) → l ≡ next rest 0 → l < 64 → one ≡ literal l → less ≡ minus rest one
@@ -202,7 +220,8 @@ unfolding waysFrom
 ways-start xs d = refl
 
 pub ways-step : (xs : List Literals) (d : Literals) (i : ℕ) → i < length xs
-    → keep consistent (waysFrom xs d i) ≡ keep consistent (falsify (others i 0 xs) (join d (getD xs i noLiteral))) ++ keep consistent (waysFrom xs d (i + 1))
+    → keep consistent (waysFrom xs d i) ≡ keep consistent (falsify (others i 0 xs) (join d (getD xs i noLiteral)))
+    ++ keep consistent (waysFrom xs d (i + 1))
 unfolding waysFrom
 ways-step xs d i lt = keep-split (waysFrom xs d i) (falsify (others i 0 xs) (join d a)) (waysFrom xs d (i + 1)) split-up
   where
@@ -243,7 +262,8 @@ or-end d xs e = ap (λ (r : List Literals). keep consistent (map (λ x. join d x
 
 -- ---- what f makes of the members, one after the other
 module _ (f : Literals → List Literals) where
-  pub collect-step : (e : Literals) (xs ys : List Literals) → xs ≡ e ∷ ys → keep consistent (collect f xs) ≡ keep consistent (f e) ++ keep consistent (collect f ys)
+  pub collect-step : (e : Literals) (xs ys : List Literals) → xs ≡ e ∷ ys → keep consistent (collect f xs) ≡ keep consistent (f e)
+      ++ keep consistent (collect f ys)
   collect-step e xs ys q = keep-split (collect f xs) (f e) (collect f ys) (ap (collect f) q)
 
   pub collect-end : (xs : List Literals) → xs ≡ [] → keep consistent (collect f xs) ≡ []

@@ -40,7 +40,8 @@ none-counted : {A : Type 0} (f : A → Bool) (xs : List A) → howMany f xs ≡ 
 none-counted f [] e = tt
 none-counted f (x ∷ xs) e = go (f x) refl e (none-counted f xs)
   where
-    go : (b : Bool) → f x ≡ b → addOne b (howMany f xs) ≡ 0 → (howMany f xs ≡ 0 → All (λ y. T (not (f y))) xs) → All (λ y. T (not (f y))) (x ∷ xs)
+    go : (b : Bool) → f x ≡ b → addOne b (howMany f xs) ≡ 0 → (howMany f xs ≡ 0 → All (λ y. T (not (f y))) xs)
+        → All (λ y. T (not (f y))) (x ∷ xs)
     go true e h k = absurd (omega arith)
     go false e h k = (false-T (f x) e, k h)
 
@@ -52,7 +53,8 @@ counted-none f (x ∷ xs) h = ap (λ (b : Bool). addOne b (howMany f xs)) (T-fal
 abbrev Single : (Literals → Bool) → Pick → Type 0
 Single f k = T (f (k .chosen)) × All (λ o. T (not (f o))) (k .rest)
 
-pick-one : (f : Literals → Bool) (before alts : List Literals) → Any (Single f) (picks before alts) → All (λ o. T (not (f o))) before × (howMany f alts ≡ 1)
+pick-one : (f : Literals → Bool) (before alts : List Literals) → Any (Single f) (picks before alts) → All (λ o. T (not (f o))) before
+    × (howMany f alts ≡ 1)
 pick-one f before [] h = absurd h
 pick-one f before (a ∷ alts) (inl h) =
     let r = all-parts (λ o. T (not (f o))) before alts (h .1) in
@@ -62,7 +64,8 @@ pick-one f before (a ∷ alts) (inr h) =
     let q = all-parts (λ o. T (not (f o))) before (a ∷ []) (r .0) in
     (q .0, ap (λ (b : Bool). addOne b (howMany f alts)) (T-false (f a) (q .1 .0)) ∙ r .1)
 
-one-pick : (f : Literals → Bool) (before alts : List Literals) → All (λ o. T (not (f o))) before → howMany f alts ≡ 1 → Any (Single f) (picks before alts)
+one-pick : (f : Literals → Bool) (before alts : List Literals) → All (λ o. T (not (f o))) before → howMany f alts ≡ 1
+    → Any (Single f) (picks before alts)
 one-pick f before [] h e = absurd (omega arith)
 one-pick f before (a ∷ alts) h e = go (f a) refl e (one-pick f (before ++ (a ∷ [])) alts)
   where
@@ -72,7 +75,8 @@ one-pick f before (a ∷ alts) h e = go (f a) refl e (one-pick f (before ++ (a �
     go true e c k = inl (true-T (f a) e, all-append (λ o. T (not (f o))) before alts h (none-counted f alts (omega arith)))
     go false e c k = inr (k (all-append (λ o. T (not (f o))) before (a ∷ []) h (false-T (f a) e, tt)) c)
 
-picks-all : (P : Literals → Type 0) (before alts : List Literals) → All P before → All P alts → All (λ k. P (k .chosen) × All P (k .rest)) (picks before alts)
+picks-all : (P : Literals → Type 0) (before alts : List Literals) → All P before → All P alts
+    → All (λ k. P (k .chosen) × All P (k .rest)) (picks before alts)
 picks-all P before [] h k = tt
 picks-all P before (a ∷ alts) h k =
     ((k .0, all-append P before alts h (k .1)), picks-all P (before ++ (a ∷ [])) alts (all-append P before (a ∷ []) h (k .0, tt)) (k .1))
@@ -116,16 +120,19 @@ module _ (n : ℕ) where
     fails-some hn o ho h =
         let r = fails-at n w b o (proper-below n o ho) (T-false (within o st) h) in
         members-any n hn o ho (λ l. T (within (flip (literal l)) st)) (r .0) (r .1) (r .2)
-        (subst (λ (x : Literals). T (within x st)) (sym (flip-byte (r .0) (r .1))) (true-T (within (single (not (r .0)) (r .1)) st) (within-single (not (r .0)) (r .1) st ∙ r .3)))
+        (subst (λ (x : Literals). T (within x st)) (sym (flip-byte (r .0) (r .1)))
+        (true-T (within (single (not (r .0)) (r .1)) st) (within-single (not (r .0)) (r .1) st ∙ r .3)))
 
     some-fails : (o : Literals) (l : ℕ) → contains o l ≡ true → T (within (flip (literal l)) st) → T (not (within o st))
     unfolding contains
     some-fails o l h k =
         false-T (within o st)
         (fails-here n w b o (sign l) (l / 2) h
-        (sym (within-single (not (sign l)) (l / 2) st) ∙ ap (λ (x : Literals). within x st) (sym (flip-literal l)) ∙ T-true (within (flip (literal l)) st) k))
+        (sym (within-single (not (sign l)) (l / 2) st) ∙ ap (λ (x : Literals). within x st) (sym (flip-literal l))
+        ∙ T-true (within (flip (literal l)) st) k))
 
-    falsify-in : n ≤ 32 → (os : List Literals) → All (Proper n) os → (d : Literals) → T (within d st) → All (λ o. T (not (within o st))) os → In n (falsify os d) w
+    falsify-in : n ≤ 32 → (os : List Literals) → All (Proper n) os → (d : Literals) → T (within d st) → All (λ o. T (not (within o st))) os
+        → In n (falsify os d) w
     falsify-in hn [] ho d h k = inl h
     falsify-in hn (o ∷ os) ho d h k =
         any-collected (λ l. falsify os (join d (flip (literal l)))) (λ q. T (within q st)) (members o 0)
@@ -141,17 +148,22 @@ module _ (n : ℕ) where
         (λ l k j.
         let r = falsify-out os (join d (flip (literal l))) j in (
           within-trans d (join d (flip (literal l))) st (within-join-l d (flip (literal l))) (r .0),
-          (some-fails o l k (within-trans (flip (literal l)) (join d (flip (literal l))) st (within-join-r d (flip (literal l))) (r .0)), r .1),
+          (
+            some-fails o l k (within-trans (flip (literal l)) (join d (flip (literal l))) st (within-join-r d (flip (literal l))) (r .0)),
+            r .1,
+          ),
         ))
         (members o 0) (members-all o)
         (any-collect (λ l. falsify os (join d (flip (literal l)))) (λ q. T (within q st)) (members o 0) i)
 
     pub candidates-in : n ≤ 32 → (c : Clause) → Alternatives n c → (d : Literals) → T (within d st) → Meets n c w → In n (candidates c d) w
     candidates-in hn (orOf alts) hc d h k =
-        any-imaged (λ a. join d a) (λ q. T (within q st)) alts (any-map (λ a. T (within a st)) (λ a. T (within (join d a) st)) (λ a m. join-within d a st h m) alts k)
+        any-imaged (λ a. join d a) (λ q. T (within q st)) alts
+        (any-map (λ a. T (within a st)) (λ a. T (within (join d a) st)) (λ a m. join-within d a st h m) alts k)
     candidates-in hn (oneOf alts) hc d h k =
         any-collected (λ q. falsify (q .rest) (join d (q .chosen))) (λ q. T (within q st)) (picks [] alts)
-        (any-with (λ q. Proper n (q .chosen) × All (Proper n) (q .rest)) (Single (λ a. within a st)) (λ q. In n (falsify (q .rest) (join d (q .chosen))) w)
+        (any-with (λ q. Proper n (q .chosen) × All (Proper n) (q .rest)) (Single (λ a. within a st))
+        (λ q. In n (falsify (q .rest) (join d (q .chosen))) w)
         (λ q m s. falsify-in hn (q .rest) (m .1) (join d (q .chosen)) (join-within d (q .chosen) st h (s .0)) (s .1))
         (picks [] alts) (picks-all (Proper n) [] alts tt hc) (one-pick (λ a. within a st) [] alts tt k))
 

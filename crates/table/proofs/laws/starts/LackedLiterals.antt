@@ -67,18 +67,22 @@ module _ (a : Literals) (l : ℕ) where
       P : ℕ → Type 0
       P m = l < m → keep (λ j. not (contains (literal l) j)) (members a m) ≡ members a m
 
-      pick : (m : ℕ) → m < 64 → keep (λ j. not (contains (literal l) j)) (members a (m + 1)) ≡ members a (m + 1) → l < m → (b : Bool) → contains a m ≡ b
+      pick : (m : ℕ) → m < 64 → keep (λ j. not (contains (literal l) j)) (members a (m + 1)) ≡ members a (m + 1) → l < m → (b : Bool)
+          → contains a m ≡ b
           → keep (λ j. not (contains (literal l) j)) (members a m) ≡ members a m
       pick m h r k true e =
           rw (members-here a m h e)
-          (ap (λ (b : Bool). addIf b m (keep (λ j. not (contains (literal l) j)) (members a (m + 1)))) (other m k) ∙ ap (λ (x : List ℕ). m ∷ x) r)
+          (ap (λ (b : Bool). addIf b m (keep (λ j. not (contains (literal l) j)) (members a (m + 1)))) (other m k)
+          ∙ ap (λ (x : List ℕ). m ∷ x) r)
       pick m h r k false e = rw (members-step a m h e) r
 
   pub members-first : l ≡ next a 0 → l < 64 → members a 0 ≡ l ∷ members (minus a (literal l)) 0
   unfolding missing
   members-first e h =
-      let all : members a 0 ≡ l ∷ members a (l + 1) = members-cons a 0 (omega (arith, e, h)) ∙ ap (λ (x : ℕ). x ∷ members a (x + 1)) (sym e) in
-      let one : not (contains (literal l) l) ≡ false = ap not (sym (within-literal l (literal l)) ∙ T-true (within (literal l) (literal l)) (within-refl (literal l))) in
+      let all : members a 0 ≡ l ∷ members a (l + 1) = members-cons a 0 (omega (arith, e, h))
+      ∙ ap (λ (x : ℕ). x ∷ members a (x + 1)) (sym e) in
+      let one : not (contains (literal l) l) ≡ false = ap not
+      (sym (within-literal l (literal l)) ∙ T-true (within (literal l) (literal l)) (within-refl (literal l))) in
       all
       ∙ ap (λ (x : List ℕ). l ∷ x)
       (sym

@@ -74,7 +74,8 @@ ready o r k ts fs small w e = at o refl (subst (λ (x : Started). Right o x ts f
         record { held = held-of _ _ _ _ _ h; is = q ∙ sym (ap table (holds-entries _ _ _ _ _ h)) }
 
 -- a refusal stays
-pub refusal : (o : Outcome) (r : Started) (k p : ℕ) (ts fs : List ℕ) (f : List Literals → Outcome) → Right o r ts fs → r ≡ started.Refused k p
+pub refusal : (o : Outcome) (r : Started) (k p : ℕ) (ts fs : List ℕ) (f : List Literals → Outcome) → Right o r ts fs
+    → r ≡ started.Refused k p
     → Right (onTable o f) (started.Refused k p) ts fs
 unfolding orGiven
 refusal o r k p ts fs f w e = at o (subst (λ (x : Started). Right o x ts fs) e w)
@@ -96,9 +97,11 @@ grow-small c es u e = at (putAll 128 (keep consistent (collect (candidates c) es
     at : (o : Option (List Literals)) → putAll 128 (keep consistent (collect (candidates c) es)) [] ≡ o → fresh o ≡ table u → length u ≤ 128
     at none q f = absurd (let z : _≡_ {A = ℕ} 0 1 = cc in omega arith)
     at (some []) q f = absurd (let z : _≡_ {A = ℕ} 0 1 = cc in omega arith)
-    at (some (d ∷ t)) q f = let s : d ∷ t ≡ u = cc in put-all-size 128 (keep consistent (collect (candidates c) es)) [] u (q ∙ ap {B = Option (List Literals)} some s) (omega arith)
+    at (some (d ∷ t)) q f = let s : d ∷ t ≡ u = cc in put-all-size 128 (keep consistent (collect (candidates c) es)) [] u
+        (q ∙ ap {B = Option (List Literals)} some s) (omega arith)
 
-module _ (c : Clause) (es : List Literals) (r : Grown) (ts fs : List ℕ) (w : Puts (keep consistent (collect (candidates c) es)) 0 (replicate 128 0) (replicate 128 0) r ts fs) where
+module _ (c : Clause) (es : List Literals) (r : Grown) (ts fs : List ℕ)
+    (w : Puts (keep consistent (collect (candidates c) es)) 0 (replicate 128 0) (replicate 128 0) r ts fs) where
   told : (x : Grown) → r ≡ x → Grew 128 (putAll 128 (keep consistent (collect (candidates c) es)) []) x ts fs
   unfolding entriesOf pairs pad
   told x e = subst (λ (y : Grown). Grew 128 (putAll 128 (keep consistent (collect (candidates c) es)) []) y ts fs) e (w .grew)
@@ -125,7 +128,8 @@ pub record Sections (o : Outcome) (cs : List Clause) (k : ℕ) (ts fs : List ℕ
   pub held : Held 128 k ts fs
   pub onwards : growAll 128 cs (entriesOf k ts fs) ≡ o
 
-module _ (o : Outcome) (bs cs : List Clause) (c : Clause) (n : ℕ) (us gs : List ℕ) (g : Sections o bs n us gs) (is : bs ≡ c ∷ cs) (r : Started) (ts fs : List ℕ)
+module _ (o : Outcome) (bs cs : List Clause) (c : Clause) (n : ℕ) (us gs : List ℕ) (g : Sections o bs n us gs) (is : bs ≡ c ∷ cs)
+    (r : Started) (ts fs : List ℕ)
     (w : Right (grow 128 c (entriesOf n us gs)) r ts fs) (k : ℕ) where
   unrolled : onTable (grow 128 c (entriesOf n us gs)) (λ u. growAll 128 cs u) ≡ o
   unrolled = sym (ap (λ (x : List Clause). growAll 128 x (entriesOf n us gs)) is) ∙ g .onwards
@@ -136,9 +140,11 @@ module _ (o : Outcome) (bs cs : List Clause) (c : Clause) (n : ℕ) (us gs : Lis
       record { held = m .held; onwards = sym (ap (λ (x : Outcome). onTable x (λ u. growAll 128 cs u)) (m .is)) ∙ unrolled }
 
   pub sections-refused : (p : ℕ) → r ≡ started.Refused k p → Right o (started.Refused k p) ts fs
-  sections-refused p e = subst (λ (x : Outcome). Right x (started.Refused k p) ts fs) unrolled (refusal _ r k p ts fs (λ u. growAll 128 cs u) w e)
+  sections-refused p e = subst (λ (x : Outcome). Right x (started.Refused k p) ts fs) unrolled
+      (refusal _ r k p ts fs (λ u. growAll 128 cs u) w e)
 
-pub sections-end : (o : Outcome) (cs : List Clause) (k : ℕ) (ts fs : List ℕ) → Sections o cs k ts fs → cs ≡ [] → Right o (started.To k) ts fs
+pub sections-end : (o : Outcome) (cs : List Clause) (k : ℕ) (ts fs : List ℕ) → Sections o cs k ts fs → cs ≡ []
+    → Right o (started.To k) ts fs
 sections-end o cs k ts fs g e =
     right-table o k ts fs (record { held = g .held; is = sym (g .onwards) ∙ ap (λ (x : List Clause). growAll 128 x (entriesOf k ts fs)) e })
 
@@ -157,7 +163,8 @@ growAll-small : (cs : List Clause) (t : List Literals) → length t ≤ 128 → 
 growAll-small [] t h u e = let q : t ≡ u = cc in subst (λ (x : List Literals). length x ≤ 128) q h
 growAll-small (c ∷ cs) t h u e = at (grow 128 c t) refl e (λ v l. growAll-small cs v l u)
   where
-    at : (o : Outcome) → grow 128 c t ≡ o → onTable o (λ v. growAll 128 cs v) ≡ table u → ((v : List Literals) → length v ≤ 128 → growAll 128 cs v ≡ table u → length u ≤ 128) → length u ≤ 128
+    at : (o : Outcome) → grow 128 c t ≡ o → onTable o (λ v. growAll 128 cs v) ≡ table u
+        → ((v : List Literals) → length v ≤ 128 → growAll 128 cs v ≡ table u → length u ≤ 128) → length u ≤ 128
     at (refused k) q f rec = absurd (let z : _≡_ {A = ℕ} 0 1 = cc in omega arith)
     at (table v) q f rec = rec v (grow-small c t v q) f
 
@@ -165,20 +172,30 @@ growAll-small (c ∷ cs) t h u e = at (grow 128 c t) refl e (λ v l. growAll-sma
 module _ (known : Literals) (ts fs : List ℕ) (zeros : Fresh ts fs) where
   one : Holds 128 (known ∷ []) 1 (set ts 0 (known .trues)) (set fs 0 (known .falses))
   unfolding pad
-  one = record { count-is = refl; room = omega arith; trues-are = ap (λ (x : List ℕ). set x 0 (known .trues)) (zeros .trues); falses-are = ap (λ (x : List ℕ). set x 0 (known .falses)) (zeros .falses) }
+  one = record {
+    count-is = refl;
+    room = omega arith;
+    trues-are = ap (λ (x : List ℕ). set x 0 (known .trues)) (zeros .trues);
+    falses-are = ap (λ (x : List ℕ). set x 0 (known .falses)) (zeros .falses);
+  }
 
   pub first-held : Held 128 1 (set ts 0 (known .trues)) (set fs 0 (known .falses))
   first-held = held-of _ _ _ _ _ one
 
-  module _ (cs ds : List Clause) (r : Started) (us gs : List ℕ) (w : Right (growAll 128 cs (entriesOf 1 (set ts 0 (known .trues)) (set fs 0 (known .falses)))) r us gs) (k : ℕ) where
-    whole : onTable (growAll 128 cs (entriesOf 1 (set ts 0 (known .trues)) (set fs 0 (known .falses)))) (λ u. growAll 128 ds u) ≡ growAll 128 (cs ++ ds) (known ∷ [])
-    whole = ap (λ (y : List Literals). onTable (growAll 128 cs y) (λ u. growAll 128 ds u)) (holds-entries _ _ _ _ _ one) ∙ sym (growAll-append cs ds (known ∷ []))
+  module _ (cs ds : List Clause) (r : Started) (us gs : List ℕ)
+      (w : Right (growAll 128 cs (entriesOf 1 (set ts 0 (known .trues)) (set fs 0 (known .falses)))) r us gs) (k : ℕ) where
+    whole : onTable (growAll 128 cs (entriesOf 1 (set ts 0 (known .trues)) (set fs 0 (known .falses)))) (λ u. growAll 128 ds u)
+        ≡ growAll 128 (cs ++ ds) (known ∷ [])
+    whole = ap (λ (y : List Literals). onTable (growAll 128 cs y) (λ u. growAll 128 ds u)) (holds-entries _ _ _ _ _ one)
+        ∙ sym (growAll-append cs ds (known ∷ []))
 
     pub first-refused : (p : ℕ) → r ≡ started.Refused k p → Right (growAll 128 (cs ++ ds) (known ∷ [])) (started.Refused k p) us gs
-    first-refused p e = subst (λ (y : Outcome). Right y (started.Refused k p) us gs) whole (refusal _ r k p us gs (λ u. growAll 128 ds u) w e)
+    first-refused p e = subst (λ (y : Outcome). Right y (started.Refused k p) us gs) whole
+        (refusal _ r k p us gs (λ u. growAll 128 ds u) w e)
 
     first-ready : r ≡ started.To k → Readied (growAll 128 cs (entriesOf 1 (set ts 0 (known .trues)) (set fs 0 (known .falses)))) k us gs
-    first-ready e = ready _ r k us gs (growAll-small cs _ (omega (arith, length-entriesOf 1 (set ts 0 (known .trues)) (set fs 0 (known .falses))))) w e
+    first-ready e = ready _ r k us gs
+        (growAll-small cs _ (omega (arith, length-entriesOf 1 (set ts 0 (known .trues)) (set fs 0 (known .falses))))) w e
 
     pub first-grown : r ≡ started.To k → Held 128 k us gs
     first-grown e = first-ready e .held
@@ -207,5 +224,6 @@ pub start-by : (r x : Started) (ts fs : List ℕ) (d : TableAnswer) → r ≡ x 
 start-by r x ts fs d e q = sym (ap (λ (y : Started). startAnswer y ts fs) e) ∙ q
 
 -- no table
-pub start-refusal : (c : TableAnswer) (k p : ℕ) → (c .answer ≡ Refused k p) × (c .table ≡ tableOf []) → (d : TableAnswer) → startAnswer (started.Refused k p) [] [] ≡ d → c ≡ d
+pub start-refusal : (c : TableAnswer) (k p : ℕ) → (c .answer ≡ Refused k p) × (c .table ≡ tableOf []) → (d : TableAnswer)
+    → startAnswer (started.Refused k p) [] [] ≡ d → c ≡ d
 start-refusal c k p h d q = (λ j. record { answer = h .0 j; table = h .1 j }) ∙ q

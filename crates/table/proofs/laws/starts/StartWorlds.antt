@@ -55,7 +55,8 @@ pub growAll-kind : (cap : ℕ) (cs : List Clause) (t : List Literals) → Kind (
 unfolding grow
 growAll-kind cap [] t = inr (inr (t, refl))
 growAll-kind cap (c ∷ cs) t =
-    go (fresh (putAll cap (keep consistent (collect (candidates c) t)) [])) (fresh-kind (putAll cap (keep consistent (collect (candidates c) t)) [])) (growAll-kind cap cs)
+    go (fresh (putAll cap (keep consistent (collect (candidates c) t)) []))
+    (fresh-kind (putAll cap (keep consistent (collect (candidates c) t)) [])) (growAll-kind cap cs)
   where
     go : (o : Outcome) → Kind o → ((v : List Literals) → Kind (growAll cap cs v)) → Kind (onTable o (λ v. growAll cap cs v))
     go o (inl e) ih = inl (ap (λ (x : Outcome). onTable x (λ v. growAll cap cs v)) e)
@@ -79,7 +80,8 @@ module _ (n : ℕ) (hn : n ≤ 32) (cap : ℕ) (c : Clause) (hc : Alternatives n
       (any-map (λ d. T (within d (state n w))) (λ d. In n (candidates c d) w) (λ d h. candidates-in n w b hn c hc d h k) t i)))
 
   cs-out : (w : ℕ) → w < 2 ^ n → In n cs w → In n t w × Meets n c w
-  cs-out w b i = go t (any-collect (candidates c) (λ q. T (within q (state n w))) t (any-keep consistent (λ q. T (within q (state n w))) all i))
+  cs-out w b i = go t (any-collect (candidates c) (λ q. T (within q (state n w))) t
+      (any-keep consistent (λ q. T (within q (state n w))) all i))
     where
       go : (x : List Literals) → Any (λ d. In n (candidates c d) w) x → In n x w × Meets n c w
       go [] h = absurd h
@@ -90,9 +92,11 @@ module _ (n : ℕ) (hn : n ≤ 32) (cap : ℕ) (c : Clause) (hc : Alternatives n
   cs-proper =
       all-map (λ q. Low n q × T (consistent q)) (Proper n) (λ q k. proper-of n q (T-true (consistent q) (k .1)) (k .0)) cs
       (all-keep consistent (Low n) all
-      (all-collected (candidates c) (Low n) t (all-map (Proper n) (λ d. All (Low n) (candidates c d)) (λ d k. candidates-low n c hc d (proper-below n d k)) t ht)))
+      (all-collected (candidates c) (Low n) t
+      (all-map (Proper n) (λ d. All (Low n) (candidates c d)) (λ d k. candidates-low n c hc d (proper-below n d k)) t ht)))
 
-  grow-table : (u : List Literals) → grow cap c t ≡ table u → Described cap n u × ((w : ℕ) → w < 2 ^ n → In n u w ↔ (In n t w × Meets n c w))
+  grow-table : (u : List Literals) → grow cap c t ≡ table u → Described cap n u
+      × ((w : ℕ) → w < 2 ^ n → In n u w ↔ (In n t w × Meets n c w))
   unfolding grow
   grow-table u e =
       let p = fresh-table (putAll cap cs []) u e in (
@@ -115,7 +119,8 @@ module _ (n : ℕ) (hn : n ≤ 32) (cap : ℕ) where
   GrownTo cs t u =
       ((k : ℕ) → cap ≤ k → Described k n t → Described k n u) × ((w : ℕ) → w < 2 ^ n → In n u w ↔ (In n t w × All (λ c. Meets n c w) cs))
 
-  growAll-table : (cs : List Clause) → All (Alternatives n) cs → (t : List Literals) → All (Proper n) t → (u : List Literals) → growAll cap cs t ≡ table u → GrownTo cs t u
+  growAll-table : (cs : List Clause) → All (Alternatives n) cs → (t : List Literals) → All (Proper n) t → (u : List Literals)
+      → growAll cap cs t ≡ table u → GrownTo cs t u
   growAll-table [] hc t ht u e =
       let q : t ≡ u = table-is t u e in (
         λ k l d. subst (λ (x : List Literals). Described k n x) q d,
@@ -129,7 +134,8 @@ module _ (n : ℕ) (hn : n ≤ 32) (cap : ℕ) where
       go (table v) g e ih =
           let x = grow-table n hn cap c (hc .0) t ht v g in
           let h = ih v (x .0 .proper) e in (
-            λ k l d. h .0 k l (record { least = x .0 .least; most = omega (arith, x .0 .most); proper = x .0 .proper; apart = x .0 .apart }),
+            λ k l d. h .0 k l (record
+                { least = x .0 .least; most = omega (arith, x .0 .most); proper = x .0 .proper; apart = x .0 .apart }),
             λ w b. (
               λ i. let y = h .1 w b .0 i in let z = x .1 w b .0 (y .0) in (z .0, (z .1, y .1)),
               λ y. h .1 w b .1 (x .1 w b .1 (y .0, y .1 .0), y .1 .1),
@@ -147,7 +153,8 @@ module _ (n : ℕ) (hn : n ≤ 32) (cap : ℕ) where
       go (table v) g e ih = let x = grow-table n hn cap c (hc .0) t ht v g in ih v (x .0 .proper) e (x .1 w b .1 (i, k .0)) (k .1)
 
 -- ---- which clause gives the number
-growAll-append : (cap : ℕ) (xs ys : List Clause) (t : List Literals) → growAll cap (xs ++ ys) t ≡ onTable (growAll cap xs t) (λ u. growAll cap ys u)
+growAll-append : (cap : ℕ) (xs ys : List Clause) (t : List Literals)
+    → growAll cap (xs ++ ys) t ≡ onTable (growAll cap xs t) (λ u. growAll cap ys u)
 growAll-append cap [] ys t = refl
 growAll-append cap (c ∷ xs) ys t = go (grow cap c t) (growAll-append cap xs ys)
   where
@@ -157,13 +164,15 @@ growAll-append cap (c ∷ xs) ys t = go (grow cap c t) (growAll-append cap xs ys
     go (table v) ih = ih v
 
 -- k is the number of the outcome o alone
-module _ (cap k : ℕ) (o : Option (List Literals)) (only : (x : Option (List Literals)) → fresh x ≡ refused k → x ≡ o) (number : fresh o ≡ refused k) where
+module _ (cap k : ℕ) (o : Option (List Literals)) (only : (x : Option (List Literals)) → fresh x ≡ refused k → x ≡ o)
+    (number : fresh o ≡ refused k) where
   stops-of : (cs : List Clause) (t : List Literals) → growAll cap cs t ≡ refused k → Stops cap o cs t
   unfolding grow
   stops-of [] t e = table-refused t k e
   stops-of (c ∷ cs) t e = go (grow cap c t) refl e (stops-of cs)
     where
-      go : (x : Outcome) → grow cap c t ≡ x → onTable x (λ v. growAll cap cs v) ≡ refused k → ((v : List Literals) → growAll cap cs v ≡ refused k → Stops cap o cs v) → Stops cap o (c ∷ cs) t
+      go : (x : Outcome) → grow cap c t ≡ x → onTable x (λ v. growAll cap cs v) ≡ refused k
+          → ((v : List Literals) → growAll cap cs v ≡ refused k → Stops cap o cs v) → Stops cap o (c ∷ cs) t
       go (refused j) g e ih = record {
         before = [];
         clause = c;
@@ -208,11 +217,16 @@ module _ (p : Problem) (hp : ProperProblem p) where
   start-of w = (
     λ s. (
       inl (s .known),
-      all-append (λ c. Meets (p .n) c w) (map orOf (p .ors)) (map oneOf (p .oneofs)) (all-imaged orOf (λ c. Meets (p .n) c w) (p .ors) (s .ors))
+      all-append (λ c. Meets (p .n) c w) (map orOf (p .ors)) (map oneOf (p .oneofs))
+          (all-imaged orOf (λ c. Meets (p .n) c w) (p .ors) (s .ors))
           (all-imaged oneOf (λ c. Meets (p .n) c w) (p .oneofs) (s .oneofs)),
     ),
     λ x. let r = all-parts (λ c. Meets (p .n) c w) (map orOf (p .ors)) (map oneOf (p .oneofs)) (x .1) in
-        record { known = the-one (x .0); ors = all-image orOf (λ c. Meets (p .n) c w) (p .ors) (r .0); oneofs = all-image oneOf (λ c. Meets (p .n) c w) (p .oneofs) (r .1) },
+        record {
+          known = the-one (x .0);
+          ors = all-image orOf (λ c. Meets (p .n) c w) (p .ors) (r .0);
+          oneofs = all-image oneOf (λ c. Meets (p .n) c w) (p .oneofs) (r .1);
+        },
   )
     where
       the-one : In (p .n) (p .known ∷ []) w → T (within (p .known) (state (p .n) w))
@@ -222,12 +236,14 @@ module _ (p : Problem) (hp : ProperProblem p) where
   clauses-proper : All (Alternatives (p .n)) (startClauses p)
   unfolding startClauses
   clauses-proper =
-      all-append (Alternatives (p .n)) (map orOf (p .ors)) (map oneOf (p .oneofs)) (all-imaged orOf (Alternatives (p .n)) (p .ors) (each (p .ors) (hp .ors .each)))
+      all-append (Alternatives (p .n)) (map orOf (p .ors)) (map oneOf (p .oneofs))
+      (all-imaged orOf (Alternatives (p .n)) (p .ors) (each (p .ors) (hp .ors .each)))
       (all-imaged oneOf (Alternatives (p .n)) (p .oneofs) (each (p .oneofs) (hp .oneofs .each)))
     where
       each : (cs : List (List Literals)) → All (ProperClause (p .n)) cs → All (All (Proper (p .n))) cs
       each cs h =
-          all-map (ProperClause (p .n)) (All (Proper (p .n))) (λ alts k. all-map (ProperList (p .n) 1 4) (Proper (p .n)) (λ a q. q .proper) alts (k .each)) cs h
+          all-map (ProperClause (p .n)) (All (Proper (p .n)))
+          (λ alts k. all-map (ProperList (p .n) 1 4) (Proper (p .n)) (λ a q. q .proper) alts (k .each)) cs h
 
   grown : (cap : ℕ) (t : List Literals) → startTable cap p ≡ table t → GrownTo (p .n) (hp .n-most) cap (startClauses p) (p .known ∷ []) t
   unfolding startTable
@@ -255,11 +271,13 @@ module _ (p : Problem) (hp : ProperProblem p) where
   pub start-some : (cap : ℕ) (t : List Literals) → startTable cap p ≡ table t → (w : ℕ) × ((w < 2 ^ p .n) × Starting p w)
   start-some cap t e = go t (start-worlds cap t e) (grown cap t e .0 (cap + 1) (omega arith) (first-described (cap + 1) (omega arith)))
     where
-      go : (t : List Literals) → ((w : ℕ) → w < 2 ^ p .n → In (p .n) t w ↔ Starting p w) → Described (cap + 1) (p .n) t → (w : ℕ) × ((w < 2 ^ p .n) × Starting p w)
+      go : (t : List Literals) → ((w : ℕ) → w < 2 ^ p .n → In (p .n) t w ↔ Starting p w) → Described (cap + 1) (p .n) t → (w : ℕ)
+          × ((w < 2 ^ p .n) × Starting p w)
       go [] f d = absurd (omega (arith, d .least))
       go (e ∷ t) f d = let x = some-world (p .n) e (d .proper .0) in (x .0, (x .1 .0, f (x .0) (x .1 .0) .0 (inl (x .1 .1))))
 
-  pub start-none : (cap : ℕ) → ((w : ℕ) → w < 2 ^ p .n → Starting p w → ⊥) → (startTable cap p ≡ refused 20) ⊎ (startTable cap p ≡ refused 21)
+  pub start-none : (cap : ℕ) → ((w : ℕ) → w < 2 ^ p .n → Starting p w → ⊥) → (startTable cap p ≡ refused 20)
+      ⊎ (startTable cap p ≡ refused 21)
   start-none cap f = go (start-kind cap p)
     where
       go : Kind (startTable cap p) → (startTable cap p ≡ refused 20) ⊎ (startTable cap p ≡ refused 21)
@@ -270,9 +288,14 @@ module _ (p : Problem) (hp : ProperProblem p) where
 -- 20 (21) exactly if some clause leaves its fresh table empty (does not fit), every clause before it having given a table
 pub first-20 : (cap : ℕ) (p : Problem) → (startTable cap p ≡ refused 20) ↔ Stops cap (some []) (startClauses p) (p .known ∷ [])
 unfolding startTable
-first-20 cap p =
-    (stops-of cap 20 (some []) fresh-20 refl (startClauses p) (p .known ∷ []), of-stops cap 20 (some []) fresh-20 refl (startClauses p) (p .known ∷ []))
+first-20 cap p = (
+  stops-of cap 20 (some []) fresh-20 refl (startClauses p) (p .known ∷ []),
+  of-stops cap 20 (some []) fresh-20 refl (startClauses p) (p .known ∷ []),
+)
 
 pub first-21 : (cap : ℕ) (p : Problem) → (startTable cap p ≡ refused 21) ↔ Stops cap none (startClauses p) (p .known ∷ [])
 unfolding startTable
-first-21 cap p = (stops-of cap 21 none fresh-21 refl (startClauses p) (p .known ∷ []), of-stops cap 21 none fresh-21 refl (startClauses p) (p .known ∷ []))
+first-21 cap p = (
+  stops-of cap 21 none fresh-21 refl (startClauses p) (p .known ∷ []),
+  of-stops cap 21 none fresh-21 refl (startClauses p) (p .known ∷ []),
+)

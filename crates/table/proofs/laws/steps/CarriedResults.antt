@@ -35,7 +35,8 @@ swapped true true r s t = sym (join-assoc r s t) ∙ ap (λ (x : Literals). join
 swapped true false r s t = refl
 swapped false b r s t = refl
 
-results-more : (es : List Effect) (e : Effect) (q : Literals) → results (es ++ e ∷ []) q ≡ addResult (within (e .condition) q) (e .result) (results es q)
+results-more : (es : List Effect) (e : Effect) (q : Literals)
+    → results (es ++ e ∷ []) q ≡ addResult (within (e .condition) q) (e .result) (results es q)
 results-more [] e q = refl
 results-more (f ∷ es) e q =
     ap (addResult (within (f .condition) q) (f .result)) (results-more es e q)
@@ -68,7 +69,8 @@ carried-start es d h s = record { piece-steady = s; steady = h; sum-is = λ q t 
 
 -- ---- past the effect at i, to a piece p that contains the piece d
 module _ (es hs : List Effect) (i : ℕ) (e : Effect) (at : drop i es ≡ e ∷ hs) (d sum : Literals) (c : Carried es i d sum) where
-  past : (b : Bool) (p : Literals) → consistent p ≡ true → T (within d p) → ((q : Literals) → consistent q ≡ true → within p q ≡ true → within (e .condition) q ≡ b)
+  past : (b : Bool) (p : Literals) → consistent p ≡ true → T (within d p)
+      → ((q : Literals) → consistent q ≡ true → within p q ≡ true → within (e .condition) q ≡ b)
       → Carried es (i + 1) p (addResult b (e .result) sum)
   past b p s w f =
       record {
@@ -78,12 +80,15 @@ module _ (es hs : List Effect) (i : ℕ) (e : Effect) (at : drop i es ≡ e ∷ 
             ap (λ (j : ℕ). results (take j es) q) (add-one i)
             ∙ ap (λ (x : List Effect). results x q) (take-more es hs i e at)
             ∙ results-more (take i es) e q
-            ∙ ap₂ (λ (x : Bool) (r : Literals). addResult x (e .result) r) (f q t k) (c .sum-is q t (T-true (within d q) (within-trans d p q w (true-T (within p q) k))));
+            ∙ ap₂ (λ (x : Bool) (r : Literals). addResult x (e .result) r) (f q t k)
+            (c .sum-is q t (T-true (within d q) (within-trans d p q w (true-T (within p q) k))));
       }
 
   -- the condition lies in the piece
   past-within : within (e .condition) d ≡ true → Carried es (i + 1) d (join (e .result) sum)
-  past-within h = past true d (c .piece-steady) (within-refl d) (λ q t k. T-true (within (e .condition) q) (within-trans (e .condition) d q (true-T (within (e .condition) d) h) (true-T (within d q) k)))
+  past-within h = past true d (c .piece-steady) (within-refl d)
+      (λ q t k. T-true (within (e .condition) q)
+      (within-trans (e .condition) d q (true-T (within (e .condition) d) h) (true-T (within d q) k)))
 
   -- it contradicts the piece
   past-clash : clash (e .condition) d ≡ true → Carried es (i + 1) d sum
@@ -93,7 +98,8 @@ module _ (es hs : List Effect) (i : ℕ) (e : Effect) (at : drop i es ≡ e ∷ 
   condition-steady = all-here (λ e. consistent (e .condition) ≡ true) es hs i e at (c .steady)
 
   -- the piece is joined with the whole condition
-  past-joined : clash (e .condition) d ≡ false → (w more : Literals) → w ≡ join d (e .condition) → more ≡ join (e .result) sum → Carried es (i + 1) w more
+  past-joined : clash (e .condition) d ≡ false → (w more : Literals) → w ≡ join d (e .condition) → more ≡ join (e .result) sum
+      → Carried es (i + 1) w more
   past-joined h w more p m =
       rw (p, m)
       (past true (join d (e .condition))
@@ -101,7 +107,8 @@ module _ (es hs : List Effect) (i : ℕ) (e : Effect) (at : drop i es ≡ e ∷ 
       (within-join-l d (e .condition))
       (λ q t k.
       T-true (within (e .condition) q)
-      (within-trans (e .condition) (join d (e .condition)) q (within-join-r d (e .condition)) (true-T (within (join d (e .condition)) q) k))))
+      (within-trans (e .condition) (join d (e .condition)) q (within-join-r d (e .condition))
+      (true-T (within (join d (e .condition)) q) k))))
 
   -- it is joined with the complement of a literal of the condition that it lacks
   past-denied : (s : Bool) (p : ℕ) → mem (e .condition) s p ≡ true → mem d s p ≡ false → Carried es (i + 1) (join d (single (not s) p)) sum
@@ -112,14 +119,16 @@ module _ (es hs : List Effect) (i : ℕ) (e : Effect) (at : drop i es ≡ e ∷ 
       (within-join-l d (single (not s) p))
       (λ q t k. outside (e .condition) (join d (single (not s) p)) q
       (clash-here (e .condition) (join d (single (not s) p)) s p h
-      (within-of _ _ (T-true (within (single (not s) p) (join d (single (not s) p))) (within-join-r d (single (not s) p))) (not s) p (mem-self (not s) p))) t k)
+      (within-of _ _ (T-true (within (single (not s) p) (join d (single (not s) p))) (within-join-r d (single (not s) p))) (not s) p
+      (mem-self (not s) p))) t k)
 
   past-without : (l : ℕ) → contains (e .condition) l ≡ true → contains d l ≡ false → Carried es (i + 1) (join d (flip (literal l))) sum
   unfolding contains
   past-without l h n = rw flip-literal (past-denied (sign l) (l / 2) h n)
 
   -- it becomes part t, where it lacks the literals m of the condition
-  pub past-part : (m : Literals) → m ≡ minus (e .condition) d → clash (e .condition) d ≡ false → (t : ℕ) → t < 65 → Turn m t → (w more : Literals)
+  pub past-part : (m : Literals) → m ≡ minus (e .condition) d → clash (e .condition) d ≡ false → (t : ℕ) → t < 65 → Turn m t
+      → (w more : Literals)
       → w ≡ partAt d (e .condition) t → more ≡ carriedAt sum (e .result) t → Carried es (i + 1) w more
   unfolding partAt carriedAt
   past-part m is k zero h f w more p r = past-joined k w more p r
@@ -134,12 +143,14 @@ pub settles-start : (es : List Effect) (at : ℕ) (d sum : Literals) → Carried
 settles-start es at d sum c = record { upto = omega arith; carried = c; whole = refl }
 
 module _ (es : List Effect) (at : ℕ) (d : Literals) (r : Undecided) (g : Skips es at d r) where
-  pub settles-puts : (k : ℕ) (ts fs : List ℕ) (o : Grown) (us gs : List ℕ) → Puts (map (image es) (pieces (drop (r .at) es) d)) k ts fs o us gs
+  pub settles-puts : (k : ℕ) (ts fs : List ℕ) (o : Grown) (us gs : List ℕ)
+      → Puts (map (image es) (pieces (drop (r .at) es) d)) k ts fs o us gs
       → Puts (map (image es) (pieces (drop at es) d)) k ts fs o us gs
   settles-puts k ts fs o us gs w = puts-is _ _ _ _ _ _ _ _ (ap (map (image es)) (g .whole)) w
 
   -- no effect is left
-  pub settles-leaf : drop (r .at) es ≡ [] → (w : Literals) → w ≡ replace d (r .results) → (k : ℕ) (ts fs : List ℕ) (o : Grown) (us gs : List ℕ)
+  pub settles-leaf : drop (r .at) es ≡ [] → (w : Literals) → w ≡ replace d (r .results)
+      → (k : ℕ) (ts fs : List ℕ) (o : Grown) (us gs : List ℕ)
       → Puts (w ∷ []) k ts fs o us gs → Puts (map (image es) (pieces (drop at es) d)) k ts fs o us gs
   unfolding image
   settles-leaf q w e k ts fs o us gs p =
@@ -150,7 +161,8 @@ module _ (es : List Effect) (at : ℕ) (d : Literals) (r : Undecided) (g : Skips
       all = sym (append-nil (take (r .at) es)) ∙ ap (λ (x : List Effect). take (r .at) es ++ x) (sym q) ∙ take-append-drop (r .at) es
 
       last : results es d ≡ r .results
-      last = ap (λ (x : List Effect). results x d) (sym all) ∙ g .carried .sum-is d (g .carried .piece-steady) (T-true (within d d) (within-refl d))
+      last = ap (λ (x : List Effect). results x d) (sym all)
+          ∙ g .carried .sum-is d (g .carried .piece-steady) (T-true (within d d) (within-refl d))
 
   module _ (e : Effect) (q : drop (r .at) es ≡ e ∷ drop (r .at + 1) es) where
     on : (more : Literals) → (within (e .condition) d || clash (e .condition) d) ≡ true → Carried es (r .at + 1) d more
@@ -166,7 +178,8 @@ module _ (es : List Effect) (at : ℕ) (d : Literals) (r : Undecided) (g : Skips
         → Skips es at d (record { at = r .at + 1; results = more })
     on-within more h m = on more (rw h) (rw m (past-within es (drop (r .at + 1) es) (r .at) e q d (r .results) (g .carried) h))
 
-    pub on-clash : (more : Literals) → clash (e .condition) d ≡ true → more ≡ r .results → Skips es at d (record { at = r .at + 1; results = more })
+    pub on-clash : (more : Literals) → clash (e .condition) d ≡ true → more ≡ r .results
+        → Skips es at d (record { at = r .at + 1; results = more })
     on-clash more h m =
         on more (or-right (within (e .condition) d) (clash (e .condition) d) h)
         (rw m (past-clash es (drop (r .at + 1) es) (r .at) e q d (r .results) (g .carried) h))

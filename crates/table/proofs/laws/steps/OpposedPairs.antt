@@ -30,12 +30,14 @@ abbrev clear : List Effect → Literals → Bool
 clear es q = consistent (results es q)
 
 -- what clashes with the results clashes with that of an effect whose condition holds
-clash-results : (r : Literals) (es : List Effect) (q : Literals) → clash r (results es q) ≡ anyOf (λ f. within (f .condition) q && clash r (f .result)) es
+clash-results : (r : Literals) (es : List Effect) (q : Literals)
+    → clash r (results es q) ≡ anyOf (λ f. within (f .condition) q && clash r (f .result)) es
 clash-results r [] q = of-apart r noLiteral (λ s p m. mem-none (not s) p)
 clash-results r (f ∷ es) q = go (within (f .condition) q) (clash-results r es q)
   where
     go : (b : Bool) → clash r (results es q) ≡ anyOf (λ f. within (f .condition) q && clash r (f .result)) es
-        → clash r (addResult b (f .result) (results es q)) ≡ (b && clash r (f .result) || anyOf (λ f. within (f .condition) q && clash r (f .result)) es)
+        → clash r (addResult b (f .result) (results es q))
+        ≡ (b && clash r (f .result) || anyOf (λ f. within (f .condition) q && clash r (f .result)) es)
     go true k =
         clash-sym r (join (f .result) (results es q)) ∙ clash-join (f .result) (results es q) r
         ∙ ap₂ _||_ (clash-sym (f .result) r) (clash-sym (results es q) r ∙ k)
@@ -49,26 +51,35 @@ joined-apart a b h k = go (test (consistent b)) (test (clash a b))
     go (inr x) y = inl x
     go (inl x) (inl y) = inr y
     go (inl x) (inr y) =
-        both (consistent (join a b)) (true-T (consistent (join a b)) (consistent-join a b ∙ rw (T-true (consistent a) h, T-true (consistent b) x, T-false (clash a b) y))) k
+        both (consistent (join a b))
+        (true-T (consistent (join a b))
+        (consistent-join a b ∙ rw (T-true (consistent a) h, T-true (consistent b) x, T-false (clash a b) y))) k
 
 clash-joined : (a b : Literals) → T (clash a b) → T (not (consistent (join a b)))
-clash-joined a b h = false-T (consistent (join a b)) (consistent-join a b ∙ rw (T-true (clash a b) h) (and-false (consistent a && consistent b)))
+clash-joined a b h = false-T (consistent (join a b))
+    (consistent-join a b ∙ rw (T-true (clash a b) h) (and-false (consistent a && consistent b)))
 
 rest-joined : (a b : Literals) → T (not (consistent b)) → T (not (consistent (join a b)))
 rest-joined a b h =
-    not-in (consistent (join a b)) (λ t. both (consistent b) (true-T (consistent b) (consistent-within b (join a b) (T-true (within b (join a b)) (within-join-r a b)) (T-true (consistent (join a b)) t))) h)
+    not-in (consistent (join a b))
+    (λ t. both (consistent b)
+    (true-T (consistent b) (consistent-within b (join a b) (T-true (within b (join a b)) (within-join-r a b))
+    (T-true (consistent (join a b)) t))) h)
 
 -- where the results contradict in q, some two effects do in every d within q
 pair-of : (es : List Effect) (d q : Literals) → T (within d q) → T (consistent q) → All (λ e. T (consistent (e .result))) es
     → T (not (consistent (results es q))) → T (contradicts es d)
 unfolding contradicts
-pair-of [] d q h c he k = both (consistent noLiteral) (true-T (consistent noLiteral) (of-consistent noLiteral (λ s p m. mem-none (not s) p))) k
+pair-of [] d q h c he k = both (consistent noLiteral)
+    (true-T (consistent noLiteral) (of-consistent noLiteral (λ s p m. mem-none (not s) p))) k
 pair-of (e ∷ es) d q h c he k = go (within (e .condition) q) refl k (pair-of es d q h c (he .1))
   where
     together : T (within (e .condition) q) → (f : Effect) → T (within (f .condition) q && clash (e .result) (f .result)) → T (pair d e f)
     together x f y =
-        and-in (clash (e .result) (f .result)) (consistent (join d (join (e .condition) (f .condition)))) (and-r (within (f .condition) q) (clash (e .result) (f .result)) y)
-        (true-T (consistent (join d (join (e .condition) (f .condition)))) (consistent-within (join d (join (e .condition) (f .condition))) q
+        and-in (clash (e .result) (f .result)) (consistent (join d (join (e .condition) (f .condition))))
+        (and-r (within (f .condition) q) (clash (e .result) (f .result)) y)
+        (true-T (consistent (join d (join (e .condition) (f .condition))))
+        (consistent-within (join d (join (e .condition) (f .condition))) q
         (T-true (within (join d (join (e .condition) (f .condition))) q) (join-within d (join (e .condition) (f .condition)) q h
         (join-within (e .condition) (f .condition) q x (and-l (within (f .condition) q) (clash (e .result) (f .result)) y))))
         (T-true (consistent q) c)))
@@ -82,7 +93,8 @@ pair-of (e ∷ es) d q h c he k = go (within (e .condition) q) refl k (pair-of e
         part (inl x) = or-r (anyOf (pair d e) es) (contradicts es d) (ih x)
         part (inr x) =
             or-l (anyOf (pair d e) es) (contradicts es d)
-            (any-tested (pair d e) (λ f. T (within (f .condition) q && clash (e .result) (f .result))) (together (true-T (within (e .condition) q) b)) es
+            (any-tested (pair d e) (λ f. T (within (f .condition) q && clash (e .result) (f .result)))
+            (together (true-T (within (e .condition) q) b)) es
             (any-test (λ f. within (f .condition) q && clash (e .result) (f .result)) es (subst T (clash-results (e .result) es q) x)))
 
 -- two effects that can hold together in d do so in a world of d
@@ -110,7 +122,8 @@ module _ (n : ℕ) where
       found : (f : Effect) → ProperEffect n f → T (pair d e f) → (w : ℕ) × (Here f w × At w)
       found f hf k =
           let j = join (e .condition) (f .condition) in
-          let x = some-world n (join d j) (proper-of n (join d j) (T-true (consistent (join d j)) (and-r (clash (e .result) (f .result)) (consistent (join d j)) k))
+          let x = some-world n (join d j)
+          (proper-of n (join d j) (T-true (consistent (join d j)) (and-r (clash (e .result) (f .result)) (consistent (join d j)) k))
           (below-join n d j
           ∙ rw (
             proper-below n d hd,
@@ -126,14 +139,18 @@ module _ (n : ℕ) where
                   (and-l (clash (e .result) (f .result)) (consistent (join d j)) k),
               (
                 x .1 .0,
-                (within-trans d (join d j) (state n (x .0)) (within-join-l d j) (x .1 .1), within-trans (e .condition) j (state n (x .0)) (within-join-l (e .condition) (f .condition)) i),
+                (
+                  within-trans d (join d j) (state n (x .0)) (within-join-l d j) (x .1 .1),
+                  within-trans (e .condition) j (state n (x .0)) (within-join-l (e .condition) (f .condition)) i,
+                ),
               ),
             ),
           )
 
       go : T (anyOf (pair d e) es) ⊎ T (contradicts es d)
           → (T (contradicts es d) → Clashing es d) → Clashing (e ∷ es) d
-      go (inr h) ih = let x = ih h in (x .0, (x .1 .0, (x .1 .1 .0, more (within (e .condition) (state n (x .0))) (state n (x .0)) (x .1 .1 .1))))
+      go (inr h) ih = let x = ih h in
+          (x .0, (x .1 .0, (x .1 .1 .0, more (within (e .condition) (state n (x .0))) (state n (x .0)) (x .1 .1 .1))))
       go (inl h) ih =
           let x = any-choose Here At es
           (any-with (ProperEffect n) (λ f. T (pair d e f)) (λ f. (w : ℕ) × (Here f w × At w)) found es (he .1)
@@ -143,10 +160,12 @@ module _ (n : ℕ) where
               x .1 .1 .0,
               (
                 x .1 .1 .1 .0,
-                subst (λ (b : Bool). T (not (consistent (addResult b (e .result) (results es (state n (x .0))))))) (sym (T-true (within (e .condition) (state n (x .0))) (x .1 .1 .1 .1)))
+                subst (λ (b : Bool). T (not (consistent (addResult b (e .result) (results es (state n (x .0)))))))
+                    (sym (T-true (within (e .condition) (state n (x .0))) (x .1 .1 .1 .1)))
                     (clash-joined (e .result) (results es (state n (x .0)))
                     (subst T (sym (clash-results (e .result) es (state n (x .0))))
-                    (any-tested (λ f. within (f .condition) (state n (x .0)) && clash (e .result) (f .result)) (λ f. Here f (x .0)) (λ f y. y) es (x .1 .0)))),
+                    (any-tested (λ f. within (f .condition) (state n (x .0)) && clash (e .result) (f .result)) (λ f. Here f (x .0))
+                    (λ f y. y) es (x .1 .0)))),
               ),
             ),
           )
@@ -174,8 +193,10 @@ module _ (n : ℕ) where
           not-in (contradicts es d) (λ t.
           let x = world-of es he d hd t in
           any-out (λ q. Part n es d q × T (consistent (results es q))) (λ q. T (within q (state n (x .0))))
-          (λ q m i. both (consistent (results es (state n (x .0)))) (subst (λ (r : Literals). T (consistent r)) (results-same n (x .0) (x .1 .0) es q i (m .0 .decided)) (m .1)) (x .1 .1 .1))
+          (λ q m i. both (consistent (results es (state n (x .0))))
+          (subst (λ (r : Literals). T (consistent r)) (results-same n (x .0) (x .1 .0) es q i (m .0 .decided)) (m .1)) (x .1 .1 .1))
           (pieces es d)
-          (all-with (Part n es d) (λ q. T (consistent (results es q))) (λ q. Part n es d q × T (consistent (results es q))) (λ q m c. (m, c)) (pieces es d)
+          (all-with (Part n es d) (λ q. T (consistent (results es q))) (λ q. Part n es d q × T (consistent (results es q)))
+          (λ q m c. (m, c)) (pieces es d)
           (pieces-parts n es he d hd) (all-test (clear es) (pieces es d) k))
           (pieces-in n hn es he d hd (x .0) (x .1 .0) (x .1 .1 .0)))

@@ -24,7 +24,8 @@ module _ {A : Type 0} where
   no-any [] = refl
   no-any (x ∷ xs) = no-any xs
 
-  any-swap : {B : Type 0} (p : A → B → Bool) (xs : List A) (ys : List B) → anyOf (λ x. anyOf (p x) ys) xs ≡ anyOf (λ y. anyOf (λ x. p x y) xs) ys
+  any-swap : {B : Type 0} (p : A → B → Bool) (xs : List A) (ys : List B)
+      → anyOf (λ x. anyOf (p x) ys) xs ≡ anyOf (λ y. anyOf (λ x. p x y) xs) ys
   any-swap p xs [] = no-any xs
   any-swap p xs (y ∷ ys) = any-or (λ x. p x y) (λ x. anyOf (p x) ys) xs ∙ ap (λ (b : Bool). anyOf (λ x. p x y) xs || b) (any-swap p xs ys)
 

@@ -37,7 +37,8 @@ results-are (e ∷ es) d sign p = go (within (e .condition) d) refl (results-are
         there : T (mem (join (e .result) (results es d)) sign p) → (T (within (e .condition) d) × T (mem (e .result) sign p)) ⊎ Rest
         there h = pick (or-out (mem (e .result) sign p) (mem (results es d) sign p) (rw mem-join at h))
           where
-            pick : T (mem (e .result) sign p) ⊎ T (mem (results es d) sign p) → (T (within (e .condition) d) × T (mem (e .result) sign p)) ⊎ Rest
+            pick : T (mem (e .result) sign p) ⊎ T (mem (results es d) sign p) → (T (within (e .condition) d) × T (mem (e .result) sign p))
+                ⊎ Rest
             pick (inl i) = inl (true-T (within (e .condition) d) k, i)
             pick (inr i) = inr (ih .0 i)
 
@@ -66,7 +67,10 @@ module _ (n : ℕ) (a : Action) (ha : ProperAction n a) (w : ℕ) (l : w < 2 ^ n
 
   defined : T (takes n a w) ↔ Defined
   unfolding takes
-  defined = (λ t. (and-l (within (a .precondition) before) (consistent e) t, and-r (within (a .precondition) before) (consistent e) t), λ d. and-in (within (a .precondition) before) (consistent e) (d .0) (d .1))
+  defined = (
+    λ t. (and-l (within (a .precondition) before) (consistent e) t, and-r (within (a .precondition) before) (consistent e) t),
+    λ d. and-in (within (a .precondition) before) (consistent e) (d .0) (d .1),
+  )
 
   updated : T (takes n a w) → Update (worldAfter n a w)
   updated t sign p = ap (λ (d : Literals). mem d sign p) (sym (after-world n a ha w l t .1)) ∙ mem-replace before e sign p
@@ -84,10 +88,12 @@ module _ (n : ℕ) (a : Action) (ha : ProperAction n a) (w : ℕ) (l : w < 2 ^ n
   pub step-some : (v : ℕ) → (stepWorld n a w ≡ some v) ↔ (T (within (a .precondition) before) × T (consistent e) × (v < 2 ^ n) × Update v)
   step-some v = (λ h. there h (test (takes n a w)), λ h. let t = defined .1 (h .0, h .1) in step-goes n a w t ∙ ap some (only t v (h .3)))
     where
-      there : stepWorld n a w ≡ some v → T (takes n a w) ⊎ T (not (takes n a w)) → T (within (a .precondition) before) × T (consistent e) × (v < 2 ^ n) × Update v
+      there : stepWorld n a w ≡ some v → T (takes n a w) ⊎ T (not (takes n a w)) → T (within (a .precondition) before) × T (consistent e)
+          × (v < 2 ^ n) × Update v
       there h (inl t) =
           let d = defined .0 t in
-          rw (← Option·some-injective (worldAfter n a w) v (sym (step-goes n a w t) ∙ h)) (d .0, d .1, after-world n a ha w l t .0, updated t)
+          rw (← Option·some-injective (worldAfter n a w) v (sym (step-goes n a w t) ∙ h))
+          (d .0, d .1, after-world n a ha w l t .0, updated t)
       there h (inr t) = absurd (Option·none-ne-some v (sym (step-stays n a w t) ∙ h))
 
   pub step-none : (stepWorld n a w ≡ none) ↔ (Defined → ⊥)

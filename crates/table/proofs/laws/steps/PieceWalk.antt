@@ -65,7 +65,8 @@ module _ (es gs hs : List Effect) (e : Effect) (d : Literals) (q : gs ≡ e ∷ 
   unfolding split
   at-whole t =
       sym
-      (ap (λ (x : List Effect). pieces x d) q ∙ ap (λ (x : Bool). collect (pieces hs) (splitBy x (e .condition) d)) t ∙ append-nil (pieces hs d))
+      (ap (λ (x : List Effect). pieces x d) q ∙ ap (λ (x : Bool). collect (pieces hs) (splitBy x (e .condition) d)) t
+      ∙ append-nil (pieces hs d))
 
   -- all parts come, where the condition splits the piece
   pub parts-start : (m : Literals) → (within (e .condition) d || clash (e .condition) d) ≡ false → m ≡ minus (e .condition) d
@@ -101,7 +102,8 @@ module _ (c d m : Literals) where
   unfolding partsFrom partList
   parts-end es hs zero h = absurd (omega (arith, h))
   parts-end es hs (suc l) h =
-      ap (λ (x : List ℕ). map (image es) (collect (pieces hs) (map (λ j. join d (flip (literal j))) x))) (members-end m l (omega (arith, h)))
+      ap (λ (x : List ℕ). map (image es) (collect (pieces hs) (map (λ j. join d (flip (literal j))) x)))
+      (members-end m l (omega (arith, h)))
 
 -- ---- the entries, one after the other
 pub entries-ways : (es : List Effect) (e : Literals) (xs ys : List Literals) → xs ≡ e ∷ ys

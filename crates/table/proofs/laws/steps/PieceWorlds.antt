@@ -46,11 +46,13 @@ module _ (n : ℕ) (c d : Literals) (hc : Proper n c) (hd : Proper n d) where
   piece-of l h k =
       subst (λ (x : Literals). Piece n c d (join d x)) (sym (flip-literal l))
       (record {
-        proper = deny-proper n d (sign l) (l / 2) hd (below-of n c (proper-below n c hc) (sign l) (l / 2) h) (T-false (mem d (sign l) (l / 2)) k);
+        proper = deny-proper n d (sign l) (l / 2) hd (below-of n c (proper-below n c hc) (sign l) (l / 2) h)
+            (T-false (mem d (sign l) (l / 2)) k);
         over = within-join-l d (single (not (sign l)) (l / 2));
         decided = inr (true-T (clash c (join d (single (not (sign l)) (l / 2))))
             (clash-here c (join d (single (not (sign l)) (l / 2))) (sign l) (l / 2) h
-            (within-of _ _ (T-true (within (single (not (sign l)) (l / 2)) (join d (single (not (sign l)) (l / 2)))) (within-join-r d (single (not (sign l)) (l / 2)))) (not (sign l)) (l / 2) (mem-self (not (sign l)) (l / 2)))));
+            (within-of _ _ (T-true (within (single (not (sign l)) (l / 2)) (join d (single (not (sign l)) (l / 2))))
+            (within-join-r d (single (not (sign l)) (l / 2)))) (not (sign l)) (l / 2) (mem-self (not (sign l)) (l / 2)))));
       })
 
   pub split-pieces : All (Piece n c d) (split c d)
@@ -58,7 +60,14 @@ module _ (n : ℕ) (c d : Literals) (hc : Proper n c) (hd : Proper n d) where
   split-pieces = go (within c d || clash c d) refl
     where
       go : (b : Bool) → (within c d || clash c d) ≡ b → All (Piece n c d) (splitBy b c d)
-      go true e = (record { proper = hd; over = within-refl d; decided = or-out (within c d) (clash c d) (true-T (within c d || clash c d) e) }, tt)
+      go true e = (
+        record {
+          proper = hd;
+          over = within-refl d;
+          decided = or-out (within c d) (clash c d) (true-T (within c d || clash c d) e);
+        },
+        tt,
+      )
       go false e = (
         record {
           proper = join-proper n d c hd hc (or-not-r (within c d) (clash c d) (false-T (within c d || clash c d) e));
@@ -66,7 +75,8 @@ module _ (n : ℕ) (c d : Literals) (hc : Proper n c) (hd : Proper n d) where
           decided = inl (within-join-r d c);
         },
         all-imaged (λ l. join d (flip (literal l))) (Piece n c d) (missing c d)
-            (all-map (λ l. (contains c l ≡ true) × T (not (contains d l))) (λ l. Piece n c d (join d (flip (literal l)))) (λ l h. piece-of l (h .0) (h .1)) (missing c d)
+            (all-map (λ l. (contains c l ≡ true) × T (not (contains d l))) (λ l. Piece n c d (join d (flip (literal l))))
+            (λ l h. piece-of l (h .0) (h .1)) (missing c d)
             (all-keep (λ l. not (contains d l)) (λ l. contains c l ≡ true) (members c 0) (members-all c))),
       )
 
@@ -84,8 +94,10 @@ module _ (n : ℕ) (c d : Literals) (hc : Proper n c) (hd : Proper n d) where
               let r = split-world n w b c d (proper-below n c hc) (T-true (within d (state n w)) h) (T-false (within c (state n w)) z) in
               inr (any-imaged (λ l. join d (flip (literal l))) (λ q. T (within q (state n w))) (missing c d)
               (any-passed (λ l. not (contains d l)) (λ l. T (within (join d (flip (literal l))) (state n w))) (members c 0)
-              (members-any n hn c hc (λ l. T (within (join d (flip (literal l))) (state n w)) × T (not (contains d l))) (r .0) (r .1) (r .2) (
-                subst (λ (x : Literals). T (within (join d x) (state n w))) (sym (flip-byte (r .0) (r .1))) (true-T (within (join d (single (not (r .0)) (r .1))) (state n w)) (r .4)),
+              (members-any n hn c hc (λ l. T (within (join d (flip (literal l))) (state n w)) × T (not (contains d l))) (r .0) (r .1)
+              (r .2) (
+                subst (λ (x : Literals). T (within (join d x) (state n w))) (sym (flip-byte (r .0) (r .1)))
+                    (true-T (within (join d (single (not (r .0)) (r .1))) (state n w)) (r .4)),
                 false-T (contains d (byte (r .0) (r .1))) (contains-byte d (r .0) (r .1) ∙ r .3),
               ))))
 
@@ -101,7 +113,11 @@ pieces-parts n (e ∷ es) he d hd =
     all-collected (pieces es) (Part n (e ∷ es) d) (split (e .condition) d)
     (all-map (Piece n (e .condition) d) (λ x. All (Part n (e ∷ es) d) (pieces es x))
     (λ x h. all-map (Part n es x) (Part n (e ∷ es) d)
-    (λ q k. record { proper = k .proper; over = within-trans d x q (h .over) (k .over); decided = (mono (e .condition) x q (k .over) (h .decided), k .decided) })
+    (λ q k. record {
+      proper = k .proper;
+      over = within-trans d x q (h .over) (k .over);
+      decided = (mono (e .condition) x q (k .over) (h .decided), k .decided);
+    })
     (pieces es x) (pieces-parts n es (he .1) x (h .proper)))
     (split (e .condition) d) (split-pieces n (e .condition) d (he .0 .condition .proper) hd))
 
@@ -115,9 +131,11 @@ pieces-in n hn (e ∷ es) he d hd w b h =
     (split (e .condition) d) (split-pieces n (e .condition) d (he .0 .condition .proper) hd)
     (split-in n (e .condition) d (he .0 .condition .proper) hd hn w b h))
 
-pub pieces-out : (n : ℕ) (es : List Effect) → All (ProperEffect n) es → (d : Literals) → Proper n d → (w : ℕ) → In n (pieces es d) w → T (within d (state n w))
+pub pieces-out : (n : ℕ) (es : List Effect) → All (ProperEffect n) es → (d : Literals) → Proper n d → (w : ℕ) → In n (pieces es d) w
+    → T (within d (state n w))
 pieces-out n es he d hd w i =
-    any-out (Part n es d) (λ q. T (within q (state n w))) (λ q k h. within-trans d q (state n w) (k .over) h) (pieces es d) (pieces-parts n es he d hd) i
+    any-out (Part n es d) (λ q. T (within q (state n w))) (λ q k h. within-trans d q (state n w) (k .over) h) (pieces es d)
+    (pieces-parts n es he d hd) i
 
 -- a condition that q decides lies in q exactly if it holds in any one of q's worlds
 decided-same : (n w : ℕ) → w < 2 ^ n → (c q : Literals) → T (within q (state n w)) → Decides c q → within c q ≡ within c (state n w)
@@ -128,8 +146,10 @@ decided-same n w b c q h (inr k) =
     (λ t. both (within c (state n w)) t (false-T (within c (state n w))
     (fails-here n w b c (r .0) (r .1) (r .2) (within-of q (state n w) (T-true (within q (state n w)) h) (not (r .0)) (r .1) (r .3)))))
 
-pub results-same : (n w : ℕ) → w < 2 ^ n → (es : List Effect) (q : Literals) → T (within q (state n w)) → All (λ e. Decides (e .condition) q) es
+pub results-same : (n w : ℕ) → w < 2 ^ n → (es : List Effect) (q : Literals) → T (within q (state n w))
+    → All (λ e. Decides (e .condition) q) es
     → results es q ≡ results es (state n w)
 results-same n w b [] q h k = refl
 results-same n w b (e ∷ es) q h k =
-    ap₂ (λ (x : Bool) (r : Literals). addResult x (e .result) r) (decided-same n w b (e .condition) q h (k .0)) (results-same n w b es q h (k .1))
+    ap₂ (λ (x : Bool) (r : Literals). addResult x (e .result) r) (decided-same n w b (e .condition) q h (k .0))
+    (results-same n w b es q h (k .1))

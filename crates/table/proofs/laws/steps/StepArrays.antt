@@ -86,13 +86,15 @@ module _ (a : Action) (t : Table) (h : Fits a t) where
     by-clear : (b : Bool) → anyOf (λ d. contradicts es d) (entries t) ≡ b → outcome ≡ stepClear (not b) 128 es ps
     by-clear b e =
         by-sure true s
-        ∙ ap (λ (x : Bool). stepClear x 128 es ps) (all-clear (h .n) (h .n-most) es (h .action .effects .each) (entries t) (h .proper) ∙ ap not e)
+        ∙ ap (λ (x : Bool). stepClear x 128 es ps)
+        (all-clear (h .n) (h .n-most) es (h .action .effects .each) (entries t) (h .proper) ∙ ap not e)
 
     pub unclear : anyOf (λ d. contradicts es d) (entries t) ≡ true → outcome ≡ refused 25
     unclear e = by-clear true e
 
     module _ (u : anyOf (λ d. contradicts es d) (entries t) ≡ false) (r : Grown) (ts fs : List ℕ)
-        (w : Puts (map (image es) (collect (pieces es) (entriesOf (t .count) (t .trues) (t .falses)))) 0 (replicate 128 0) (replicate 128 0) r ts fs) where
+        (w : Puts (map (image es) (collect (pieces es) (entriesOf (t .count) (t .trues) (t .falses)))) 0 (replicate 128 0)
+        (replicate 128 0) r ts fs) where
       told : (x : Grown) → r ≡ x → Grew 128 (putAll 128 (map (image es) ps) []) x ts fs
       unfolding entriesOf pairs pad entries
       told x e = subst (λ (y : Grown). Grew 128 (putAll 128 (map (image es) ps) []) y ts fs) e (w .grew)
@@ -111,9 +113,11 @@ module _ (a : Action) (t : Table) (h : Fits a t) where
 -- ---- the same in lent arrays, into arrays of zeros, by what was read of a move
 pub fresh-held : (us gs : List ℕ) → Fresh us gs → Held (length us) 0 us gs
 fresh-held us gs z =
-    subst (λ (x : List ℕ). Held (length x) 0 x gs) (sym (z .trues)) (subst (λ (y : List ℕ). Held 128 0 (replicate 128 0) y) (sym (z .falses)) (fresh 128))
+    subst (λ (x : List ℕ). Held (length x) 0 x gs) (sym (z .trues))
+    (subst (λ (y : List ℕ). Held 128 0 (replicate 128 0) y) (sym (z .falses)) (fresh 128))
 
-fresh-puts : (us gs : List ℕ) → Fresh us gs → (cs : List Literals) (r : Grown) (vs hs : List ℕ) → Puts cs 0 us gs r vs hs → Puts cs 0 (replicate 128 0) (replicate 128 0) r vs hs
+fresh-puts : (us gs : List ℕ) → Fresh us gs → (cs : List Literals) (r : Grown) (vs hs : List ℕ) → Puts cs 0 us gs r vs hs
+    → Puts cs 0 (replicate 128 0) (replicate 128 0) r vs hs
 fresh-puts us gs z cs r vs hs p =
     subst (λ (y : List ℕ). Puts cs 0 (replicate 128 0) y r vs hs) (z .falses) (subst (λ (x : List ℕ). Puts cs 0 x gs r vs hs) (z .trues) p)
 
@@ -132,7 +136,8 @@ module _ (a : Action) (n : ℕ) (ts fs : List ℕ) (h : Fits a (lent n ts fs)) (
 
   -- no condition contradicts itself
   pub effects-steady : Steady (b .effects)
-  effects-steady = all-map (ProperEffect (fits .n)) (λ e. consistent (e .condition) ≡ true) (λ e x. proper-consistent (fits .n) (e .condition) (x .condition .proper)) (b .effects) (fits .action .effects .each)
+  effects-steady = all-map (ProperEffect (fits .n)) (λ e. consistent (e .condition) ≡ true)
+      (λ e x. proper-consistent (fits .n) (e .condition) (x .condition .proper)) (b .effects) (fits .action .effects .each)
 
   -- no entry contradicts itself
   pub entries-steady : All (λ d. consistent d ≡ true) (entriesOf n ts fs)
@@ -144,12 +149,14 @@ module _ (a : Action) (n : ℕ) (ts fs : List ℕ) (h : Fits a (lent n ts fs)) (
   lent-unsure s = sym (ap (orGiven given) (unsure b given fits s)) ∙ due-is
 
   module _ (s : allOf (λ d. within (b .precondition) d) (entriesOf n ts fs) ≡ true) where
-    pub lent-conflicting : anyOf (λ d. contradicts (b .effects) d) (entriesOf n ts fs) ≡ true → stepAnswer given (moved.Refused 25 0) [] [] ≡ due
+    pub lent-conflicting : anyOf (λ d. contradicts (b .effects) d) (entriesOf n ts fs) ≡ true
+        → stepAnswer given (moved.Refused 25 0) [] [] ≡ due
     unfolding entries orGiven
     lent-conflicting u = sym (ap (orGiven given) (unclear b given fits s u)) ∙ due-is
 
     module _ (u : anyOf (λ d. contradicts (b .effects) d) (entriesOf n ts fs) ≡ false) (us gs : List ℕ) (z : Fresh us gs)
-        (r : Grown) (vs hs : List ℕ) (w : Puts (map (image (b .effects)) (collect (pieces (b .effects)) (entriesOf n ts fs))) 0 us gs r vs hs) where
+        (r : Grown) (vs hs : List ℕ)
+        (w : Puts (map (image (b .effects)) (collect (pieces (b .effects)) (entriesOf n ts fs))) 0 us gs r vs hs) where
       pub lent-full : r ≡ grown.Full → stepAnswer given (moved.Refused 21 0) vs hs ≡ due
       unfolding entries orGiven
       lent-full q = sym (ap (orGiven given) (overfull b given fits s u r vs hs (fresh-puts us gs z _ r vs hs w) q)) ∙ due-is
@@ -159,7 +166,8 @@ module _ (a : Action) (n : ℕ) (ts fs : List ℕ) (h : Fits a (lent n ts fs)) (
       lent-to k q = stepped b given fits s u r vs hs (fresh-puts us gs z _ r vs hs w) k q ∙ due-is
 
 -- what was read of the numbers of a move is the move
-pub action-is : (moves : List ℕ) (m : ℕ) (item : List ℕ) (p : Literals) (size : ℕ) → item ≡ itemAt 35 moves m → p ≡ setFrom item 0 → size ≡ countIn item
+pub action-is : (moves : List ℕ) (m : ℕ) (item : List ℕ) (p : Literals) (size : ℕ) → item ≡ itemAt 35 moves m → p ≡ setFrom item 0
+    → size ≡ countIn item
     → actionBy p size (take 32 (drop 3 item)) ≡ actionOf moves m
 unfolding actionFrom
 action-is moves m item p size r a b = ap₂ (λ (q : Literals) (n : ℕ). actionBy q n (take 32 (drop 3 item))) a b ∙ ap actionFrom r
@@ -188,11 +196,13 @@ module _ (s : List ℕ) (d : Decoded) (packed : List ℕ) (e : judgementIn d pac
     unfolding stepOf statementIn problemIn actionAt
     by-move b q =
         known b q
-        ∙ ap (λ (z : Bool). stepMove z (x .n) (actionAt (problemIn x packed) i) t) (sym q ∙ sym (ap (ltb i) (items-length 35 actionFrom (x .moves) (movesIn packed))))
+        ∙ ap (λ (z : Bool). stepMove z (x .n) (actionAt (problemIn x packed) i) t)
+        (sym q ∙ sym (ap (ltb i) (items-length 35 actionFrom (x .moves) (movesIn packed))))
         ∙ sym (ap (λ (j : Judgement). stepOf j t i) (accepted-says d packed s e a))
       where
         known : (z : Bool) → ltb i (x .moves) ≡ z → stepMove z (x .n) its t ≡ stepMove z (x .n) (actionAt (problemIn x packed) i) t
-        known true q = ap (λ (y : Action). stepMove true (x .n) y t) (sym (item-at 35 actionFrom (x .moves) (movesIn packed) i _ (ltb-true i (x .moves) q)))
+        known true q = ap (λ (y : Action). stepMove true (x .n) y t)
+            (sym (item-at 35 actionFrom (x .moves) (movesIn packed) i _ (ltb-true i (x .moves) q)))
         known false q = refl
 
     pub off-sheet : x .moves ≤ i → stepAnswer t (moved.Refused 7 0) [] [] ≡ whole
@@ -207,7 +217,8 @@ module _ (s : List ℕ) (d : Decoded) (packed : List ℕ) (e : judgementIn d pac
 
       pub its-count : countOf (movesIn packed) i ≤ 8
       unfolding actionFrom
-      its-count = subst (λ (k : ℕ). k ≤ 8) (effects-long (countOf (movesIn packed) i) (take 32 (drop 3 (itemAt 35 (movesIn packed) i)))) (its-action .effects .most)
+      its-count = subst (λ (k : ℕ). k ≤ 8) (effects-long (countOf (movesIn packed) i) (take 32 (drop 3 (itemAt 35 (movesIn packed) i))))
+          (its-action .effects .most)
 
       by-known : (b : Bool) → described 128 (x .n) (entries t) ≡ b → stepKnown b its t ≡ whole
       by-known b k = ap (λ (z : Bool). stepKnown z its t) (sym k) ∙ by-move true (lt-ltb i (x .moves) lt)

@@ -55,7 +55,8 @@ takes-clear : (n : ℕ) (a : Action) (w : ℕ) → T (takes n a w) → T (consis
 unfolding takes
 takes-clear n a w t = and-r (within (a .precondition) (state n w)) (consistent (results (a .effects) (state n w))) t
 
-takes-by : (n : ℕ) (a : Action) (w : ℕ) → T (within (a .precondition) (state n w)) → T (consistent (results (a .effects) (state n w))) → T (takes n a w)
+takes-by : (n : ℕ) (a : Action) (w : ℕ) → T (within (a .precondition) (state n w)) → T (consistent (results (a .effects) (state n w)))
+    → T (takes n a w)
 unfolding takes
 takes-by n a w p c = and-in (within (a .precondition) (state n w)) (consistent (results (a .effects) (state n w))) p c
 
@@ -72,7 +73,10 @@ results-below n (e ∷ es) he d = go (within (e .condition) d) (results-below n 
 pub after-world : (n : ℕ) (a : Action) → ProperAction n a → (w : ℕ) → w < 2 ^ n → T (takes n a w)
     → (worldAfter n a w < 2 ^ n) × (replace (state n w) (results (a .effects) (state n w)) ≡ state n (worldAfter n a w))
 unfolding worldAfter masks.overridden replace state
-after-world n a ha w b t = (after-lt n w b r (T-true (consistent r) (takes-clear n a w t)) low, replace-state n w b r (T-true (consistent r) (takes-clear n a w t)) low)
+after-world n a ha w b t = (
+  after-lt n w b r (T-true (consistent r) (takes-clear n a w t)) low,
+  replace-state n w b r (T-true (consistent r) (takes-clear n a w t)) low,
+)
   where
     r : Literals
     r = results (a .effects) (state n w)
@@ -136,7 +140,8 @@ module _ (n : ℕ) (hn : n ≤ 32) (a : Action) (ha : ProperAction n a) (t : Lis
   ready =
       all-collected (pieces es) Ready t
       (all-map (Proper n) (λ d. All Ready (pieces es d))
-      (λ d hd. all-map (Part n es d) Ready (λ q k. (k .proper, k .decided)) (pieces es d) (pieces-parts n es (ha .effects .each) d hd)) t ht)
+      (λ d hd. all-map (Part n es d) Ready (λ q k. (k .proper, k .decided)) (pieces es d) (pieces-parts n es (ha .effects .each) d hd)) t
+      ht)
 
   -- the worlds of the pieces are those of the table
   parts-in : (w : ℕ) → w < 2 ^ n → In n t w → In n ps w
@@ -167,12 +172,14 @@ module _ (n : ℕ) (hn : n ≤ 32) (a : Action) (ha : ProperAction n a) (t : Lis
       any-choose (λ d w. T (within d (state n w))) (λ w. (w < 2 ^ n) × T (not (within (a .precondition) (state n w)))) t
       (any-with (Proper n) (λ d. T (not (within (a .precondition) d)))
       (λ d. (w : ℕ) × (T (within d (state n w)) × ((w < 2 ^ n) × T (not (within (a .precondition) (state n w))))))
-      (λ d hd k. lacking-world n (a .precondition) d (ha .precondition .proper) hd k) t ht (all-fails (λ d. within (a .precondition) d) t h))
+      (λ d hd k. lacking-world n (a .precondition) d (ha .precondition .proper) hd k) t ht
+      (all-fails (λ d. within (a .precondition) d) t h))
 
   -- each piece with its results
   each-clear : Clear → All (λ q. Ready q × T (consistent (results es q))) ps
   each-clear h =
-      all-with Ready (λ q. T (consistent (results es q))) (λ q. Ready q × T (consistent (results es q))) (λ q x y. (x, y)) ps ready (all-test (λ d. consistent (results es d)) ps h)
+      all-with Ready (λ q. T (consistent (results es q))) (λ q. Ready q × T (consistent (results es q))) (λ q x y. (x, y)) ps ready
+      (all-test (λ d. consistent (results es d)) ps h)
 
   clear-each : Clear → (w : ℕ) → w < 2 ^ n → In n t w → T (consistent (results es (state n w)))
   unfolding Ready
@@ -189,8 +196,17 @@ module _ (n : ℕ) (hn : n ≤ 32) (a : Action) (ha : ProperAction n a) (t : Lis
       let x = any-choose (λ q w. T (within q (state n w))) (λ w. (w < 2 ^ n) × T (not (consistent (results es (state n w))))) ps
       (any-with Ready (λ q. T (not (consistent (results es q))))
       (λ q. (w : ℕ) × (T (within q (state n w)) × ((w < 2 ^ n) × T (not (consistent (results es (state n w)))))))
-      (λ q k c. let y = some-world n q (k .0) in
-      (y .0, (y .1 .1, (y .1 .0, subst (λ (r : Literals). T (not (consistent r))) (results-same n (y .0) (y .1 .0) es q (y .1 .1) (k .1)) c))))
+      (λ q k c. let y = some-world n q (k .0) in (
+        y .0,
+        (
+          y .1 .1,
+          (
+            y .1 .0,
+            subst (λ (r : Literals). T (not (consistent r))) (results-same n (y .0) (y .1 .0) es q (y .1 .1) (k .1))
+                c,
+          ),
+        ),
+      ))
       ps ready (all-fails (λ d. consistent (results es d)) ps h)) in
       (x .0, (parts-out (x .0) (x .1 .0), x .1 .1))
 
@@ -203,7 +219,8 @@ module _ (n : ℕ) (hn : n ≤ 32) (a : Action) (ha : ProperAction n a) (t : Lis
       (any-with Ready (λ q. T (within q (state n w))) (λ q. T (within (image es q) (state n (worldAfter n a w))))
       (λ q k j. subst (λ (x : Literals). T (within (image es q) x)) (after-world n a ha w b (all-take hs hc w b i) .1)
       (subst (λ (r : Literals). T (within (replace q (results es q)) (replace (state n w) r))) (results-same n w b es q j (k .1))
-      (true-T (within (replace q (results es q)) (replace (state n w) (results es q))) (replace-mono q (state n w) (results es q) (T-true (within q (state n w)) j)))))
+      (true-T (within (replace q (results es q)) (replace (state n w) (results es q)))
+      (replace-mono q (state n w) (results es q) (T-true (within q (state n w)) j)))))
       ps ready (parts-in w b i))
 
   -- a world of a piece's image comes from one of the piece's worlds
@@ -211,10 +228,18 @@ module _ (n : ℕ) (hn : n ≤ 32) (a : Action) (ha : ProperAction n a) (t : Lis
       → (w : ℕ) × (T (within q (state n w)) × ((w < 2 ^ n) × (worldAfter n a w ≡ v)))
   unfolding Ready image worldAfter
   came-from v b q k h =
-      let x = before-world n q (results es q) (proper-consistent n q (k .0)) (proper-below n q (k .0)) v b (T-true (within (replace q (results es q)) (state n v)) h) in
+      let x = before-world n q (results es q) (proper-consistent n q (k .0)) (proper-below n q (k .0)) v b
+      (T-true (within (replace q (results es q)) (state n v)) h) in
       let j = true-T (within q (state n (x .0))) (x .2) in (
         x .0,
-        (j, (x .1, ap (λ (r : Literals). (replace (state n (x .0)) r) .trues) (sym (results-same n (x .0) (x .1) es q j (k .1))) ∙ ap (λ (y : Literals). y .trues) (x .3) ∙ world-of)),
+        (
+          j,
+          (
+            x .1,
+            ap (λ (r : Literals). (replace (state n (x .0)) r) .trues) (sym (results-same n (x .0) (x .1) es q j (k .1)))
+                ∙ ap (λ (y : Literals). y .trues) (x .3) ∙ world-of,
+          ),
+        ),
       )
     where
       world-of : (state n v) .trues ≡ v
@@ -223,7 +248,8 @@ module _ (n : ℕ) (hn : n ≤ 32) (a : Action) (ha : ProperAction n a) (t : Lis
   image-out : Sure → Clear → (v : ℕ) → v < 2 ^ n → In n (map (image es) ps) v → SomeTo n a t v
   image-out hs hc v b i =
       let x = any-choose (λ q w. T (within q (state n w))) (λ w. (w < 2 ^ n) × (worldAfter n a w ≡ v)) ps
-      (any-with Ready (λ q. T (within (image es q) (state n v))) (λ q. (w : ℕ) × (T (within q (state n w)) × ((w < 2 ^ n) × (worldAfter n a w ≡ v))))
+      (any-with Ready (λ q. T (within (image es q) (state n v)))
+      (λ q. (w : ℕ) × (T (within q (state n w)) × ((w < 2 ^ n) × (worldAfter n a w ≡ v))))
       (λ q k j. came-from v b q k j) ps ready (any-image (image es) (λ q. T (within q (state n v))) ps i)) in
       let it = parts-out (x .0) (x .1 .0) in
       (x .0, (it, (x .1 .1 .0, step-goes n a (x .0) (all-take hs hc (x .0) (x .1 .1 .0) it) ∙ ap {B = Option ℕ} some (x .1 .1 .1))))
@@ -327,11 +353,13 @@ module _ (n : ℕ) (hn : n ≤ 32) (a : Action) (ha : ProperAction n a) (t : Lis
       go : (stepTable cap a t ≡ refused 24) ⊎ (stepTable cap a t ≡ refused 25) → SomeUndefined n a t
       go (inl e) =
           let x = step-24 cap .0 e in
-          let stays = not-in (takes n a (x .0)) (λ k. both (within (a .precondition) (state n (x .0))) (takes-pre n a (x .0) k) (x .1 .1 .1)) in
+          let stays = not-in (takes n a (x .0))
+          (λ k. both (within (a .precondition) (state n (x .0))) (takes-pre n a (x .0) k) (x .1 .1 .1)) in
           (x .0, (x .1 .0, (x .1 .1 .0, step-stays n a (x .0) stays)))
       go (inr e) =
           let x = step-25 cap .0 e .1 in
-          let stays = not-in (takes n a (x .0)) (λ k. both (consistent (results es (state n (x .0)))) (takes-clear n a (x .0) k) (x .1 .1 .1)) in
+          let stays = not-in (takes n a (x .0))
+          (λ k. both (consistent (results es (state n (x .0)))) (takes-clear n a (x .0) k) (x .1 .1 .1)) in
           (x .0, (x .1 .0, (x .1 .1 .0, step-stays n a (x .0) stays)))
 
       back : SomeUndefined n a t → Case cap (stepTable cap a t) → (stepTable cap a t ≡ refused 24) ⊎ (stepTable cap a t ≡ refused 25)
@@ -366,7 +394,8 @@ module _ (n : ℕ) (hn : n ≤ 32) (a : Action) (ha : ProperAction n a) (t : Lis
     step-worlds v b = (
       λ i. image-out (x .0) (x .1 .0) v b (put-all-out n v cap (map (image es) ps) u (x .1 .1) i),
       λ y. put-all-in n v cap (map (image es) ps) u (x .1 .1)
-          (subst (λ (z : ℕ). In n (map (image es) ps) z) (step-some n a (y .0) v (y .1 .1 .1)) (image-in (x .0) (x .1 .0) (y .0) (y .1 .1 .0) (y .1 .0))),
+          (subst (λ (z : ℕ). In n (map (image es) ps) z) (step-some n a (y .0) v (y .1 .1 .1))
+          (image-in (x .0) (x .1 .0) (y .0) (y .1 .1 .0) (y .1 .0))),
     )
       where
         x : Sure × (Clear × (images cap ≡ some u))
@@ -397,4 +426,5 @@ module _ (n : ℕ) (hn : n ≤ 32) (a : Action) (ha : ProperAction n a) (t : Lis
         filled : (x : List Literals) → All (Proper n) x → 1 ≤ length x → (y : List Literals)
             → ((w : ℕ) → w < 2 ^ n → In n x w → In n y (worldAfter n a w)) → 1 ≤ length y
         filled [] hx h y f = absurd (omega arith)
-        filled (d ∷ x) hx h y f = let k = some-world n d (hx .0) in some-entry y (worldAfter n a (k .0)) (f (k .0) (k .1 .0) (inl (k .1 .1)))
+        filled (d ∷ x) hx h y f = let k = some-world n d (hx .0) in some-entry y (worldAfter n a (k .0))
+            (f (k .0) (k .1 .0) (inl (k .1 .1)))

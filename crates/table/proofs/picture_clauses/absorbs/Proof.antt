@@ -18,8 +18,11 @@ some-within-requires c κs = search needs
 
 returns-2 : tie.Need-returns-2
 returns-2 c = λ e.
-    let s = c .before .before .before .before .args in
-    (any-test (λ u. within u (s .clause)) (entriesOf (s .count) (s .trues .now) (s .falses .now)) (true-T _ (sym (c .some-within .ensures) ∙ e)), omega arith)
+    let s = c .before .before .before .before .args in (
+      any-test (λ u. within u (s .clause)) (entriesOf (s .count) (s .trues .now) (s .falses .now))
+          (true-T _ (sym (c .some-within .ensures) ∙ e)),
+      omega arith,
+    )
 
 pub absorbs-spec : {M : Type 1} → statement M
 absorbs-spec = tie.close (tie.spec returns some-within-requires returns-2)

@@ -22,60 +22,55 @@ abbrev μ-loop : tie.MeasureT-loop
 μ-loop trues falses count other-trues other-falses others to-trues₀ to-falses₀ filled₀ i₀ to-trues to-falses filled i = count - i
 
 loop-holds : tie.Need-loop-holds Inv-loop μ-loop
-loop-holds c = (omega arith, going-start _ _ _ _ _ refl (c .before .before .before .before .before .before .pre .held))
-
-mul-t14 : tie.Need-mul-t14 Inv-loop μ-loop
-mul-t14 c = omega arith
-
-shared-slice-read-t16 : tie.Need-shared-slice-read-t16 Inv-loop μ-loop
-shared-slice-read-t16 c = omega arith
-
-mul-t17 : tie.Need-mul-t17 Inv-loop μ-loop
-mul-t17 c = omega arith
-
-shared-slice-read-t19 : tie.Need-shared-slice-read-t19 Inv-loop μ-loop
-shared-slice-read-t19 c = omega arith
+loop-holds c =
+    let start = c .before .before .before .before .before .before in
+    (omega arith, going-start _ _ _ _ _ refl (start .pre .held))
 
 distribute-requires : tie.Need-distribute-requires Inv-loop μ-loop
 distribute-requires c κs =
-    (c .before .before .before .before .before .before .before .before .before .before .before .before .pre .others-room, held-own _ _ _ _ (c .before .before .before .before .before .loop .inv .1 .held))
-
-enum-known-grown : tie.Need-enum-known-grown Inv-loop μ-loop
-enum-known-grown c = search needs
-
-enum-told : tie.Need-enum-told Inv-loop μ-loop
-enum-told c = search needs
+    let at-loop = c .before .before .before .before .before in
+    let start = at-loop .before .before .before .before .before .before .before in
+    (start .pre .others-room, held-own _ _ _ _ (at-loop .loop .inv .1 .held))
 
 same-length : tie.Need-same-length Inv-loop μ-loop
 same-length c =
-    c .before .before .before .before .before .before .distribute .kept .1 .1 .1 .1 .0 ∙ holds-trues-long _ _ _ _ _ (c .before .before .before .before .before .before .before .before .before .before .before .before .loop .inv .1 .held)
+    let after-distribute = c .before .before .before .before .before .before in
+    let at-loop = after-distribute .before .before .before .before .before .before in
+    after-distribute .distribute .kept .1 .1 .1 .1 .0 ∙ holds-trues-long _ _ _ _ _ (at-loop .loop .inv .1 .held)
 
 same-length-2 : tie.Need-same-length-2 Inv-loop μ-loop
 same-length-2 c =
-    c .before .before .before .before .before .before .distribute .kept .1 .1 .1 .1 .1 .0 ∙ holds-falses-long _ _ _ _ _ (c .before .before .before .before .before .before .before .before .before .before .before .before .loop .inv .1 .held) ∙ sym (holds-falses-long _ _ _ _ _ (c .before .before .before .before .before .before .before .before .before .before .before .before .before .before .before .before .before .before .before .pre .held))
+    let after-distribute = c .before .before .before .before .before .before in
+    let at-loop = after-distribute .before .before .before .before .before .before in
+    let start = at-loop .before .before .before .before .before .before .before in
+    after-distribute .distribute .kept .1 .1 .1 .1 .1 .0 ∙ holds-falses-long _ _ _ _ _ (at-loop .loop .inv .1 .held)
+    ∙ sym (holds-falses-long _ _ _ _ _ (start .pre .held))
 
 returns : tie.Need-returns Inv-loop μ-loop
 returns c =
-    going-full _ _ _ _ _ _ _ _ _ _ _ _ _ (c .before .before .before .before .before .before .before .before .before .before .before .before .loop .inv .1) (unions-step _ _ _ _ _ (c .before .before .before .before .before .before .before .before .before .before .before .loop-test .taken)) (c .before .before .before .before .before .before .distribute .ensures) (c .enum-told .given .1)
-
-add-i : tie.Need-add-i Inv-loop μ-loop
-add-i c = omega arith
-
-loop-less : tie.Need-loop-less Inv-loop μ-loop
-loop-less c = omega arith
+    let after-distribute = c .before .before .before .before .before .before in
+    let after-loop-test = after-distribute .before .before .before .before .before in
+    let at-loop = after-loop-test .before in
+    going-full _ _ _ _ _ _ _ _ _ _ _ _ _ (at-loop .loop .inv .1) (unions-step _ _ _ _ _ (after-loop-test .loop-test .taken))
+    (after-distribute .distribute .ensures) (c .enum-told .given .1)
 
 loop-again : tie.Need-loop-again Inv-loop μ-loop
-loop-again c = (
-  omega (arith, c .before .before .before .before .before .before .before .before .before .before .before .before .loop-test .taken),
-  going-on _ _ _ _ _ _ _ _ _ _ _ _ _ (c .before .before .before .before .before .before .before .before .before .before .before .before .before .loop .inv .1) (unions-step _ _ _ _ _ (c .before .before .before .before .before .before .before .before .before .before .before .before .loop-test .taken)) (c .before .before .before .before .before .before .before .distribute .ensures) _ (c .before .grown .given .1),
-)
+loop-again c =
+    let after-distribute = c .before .before .before .before .before .before .before in
+    let after-loop-test = after-distribute .before .before .before .before .before in
+    let at-loop = after-loop-test .before in (
+      omega (arith, after-loop-test .loop-test .taken),
+      going-on _ _ _ _ _ _ _ _ _ _ _ _ _ (at-loop .loop .inv .1) (unions-step _ _ _ _ _ (after-loop-test .loop-test .taken))
+          (after-distribute .distribute .ensures) _ (c .before .grown .given .1),
+    )
 
 same-length-3 : tie.Need-same-length-3 Inv-loop μ-loop
 same-length-3 c = holds-trues-long _ _ _ _ _ (c .before .loop .inv .1 .held)
 
 same-length-4 : tie.Need-same-length-4 Inv-loop μ-loop
 same-length-4 c =
-    holds-falses-long _ _ _ _ _ (c .before .loop .inv .1 .held) ∙ sym (holds-falses-long _ _ _ _ _ (c .before .before .before .before .before .before .before .before .pre .held))
+    let start = c .before .before .before .before .before .before .before .before in
+    holds-falses-long _ _ _ _ _ (c .before .loop .inv .1 .held) ∙ sym (holds-falses-long _ _ _ _ _ (start .pre .held))
 
 returns-2 : tie.Need-returns-2 Inv-loop μ-loop
 returns-2 c = going-end _ _ _ _ _ _ _ _ (c .before .loop .inv .1) (unions-end _ _ _ _ _ (c .loop-test .left))
@@ -87,18 +82,18 @@ join-lists-spec =
     Inv-loop
     μ-loop
     loop-holds
-    mul-t14
-    shared-slice-read-t16
-    mul-t17
-    shared-slice-read-t19
+    (λ c. omega arith)
+    (λ c. omega arith)
+    (λ c. omega arith)
+    (λ c. omega arith)
     distribute-requires
-    enum-known-grown
-    enum-told
+    (λ c. search needs)
+    (λ c. search needs)
     same-length
     same-length-2
     returns
-    add-i
-    loop-less
+    (λ c. omega arith)
+    (λ c. omega arith)
     loop-again
     same-length-3
     same-length-4

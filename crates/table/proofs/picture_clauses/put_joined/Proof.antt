@@ -26,60 +26,54 @@ abbrev μ-loop : tie.MeasureT-loop
 loop-holds : tie.Need-loop-holds Inv-loop μ-loop
 loop-holds c = (omega arith, going-start _ _ _ _ _ refl (c .before .before .before .before .pre .1))
 
-mul-t13 : tie.Need-mul-t13 Inv-loop μ-loop
-mul-t13 c = omega arith
-
-shared-slice-read-t15 : tie.Need-shared-slice-read-t15 Inv-loop μ-loop
-shared-slice-read-t15 c = omega arith
-
-mul-t16 : tie.Need-mul-t16 Inv-loop μ-loop
-mul-t16 c = omega arith
-
-shared-slice-read-t18 : tie.Need-shared-slice-read-t18 Inv-loop μ-loop
-shared-slice-read-t18 c = omega arith
-
-join-requires : tie.Need-join-requires Inv-loop μ-loop
-join-requires c κs = search needs
-
 admit-requires : tie.Need-admit-requires Inv-loop μ-loop
-admit-requires c κs = held-own _ _ _ _ (c .before .before .before .before .before .before .loop .inv .1 .held)
-
-enum-known-grown : tie.Need-enum-known-grown Inv-loop μ-loop
-enum-known-grown c = search needs
-
-enum-told : tie.Need-enum-told Inv-loop μ-loop
-enum-told c = search needs
+admit-requires c κs =
+    let at-loop = c .before .before .before .before .before .before in
+    held-own _ _ _ _ (at-loop .loop .inv .1 .held)
 
 same-length : tie.Need-same-length Inv-loop μ-loop
 same-length c =
-    c .before .before .before .before .before .before .admit .kept .0 ∙ holds-trues-long _ _ _ _ _ (c .before .before .before .before .before .before .before .before .before .before .before .before .before .loop .inv .1 .held)
+    let after-admit = c .before .before .before .before .before .before in
+    let at-loop = after-admit .before .before .before .before .before .before .before in
+    after-admit .admit .kept .0 ∙ holds-trues-long _ _ _ _ _ (at-loop .loop .inv .1 .held)
 
 same-length-2 : tie.Need-same-length-2 Inv-loop μ-loop
 same-length-2 c =
-    c .before .before .before .before .before .before .admit .kept .1 .0 ∙ holds-falses-long _ _ _ _ _ (c .before .before .before .before .before .before .before .before .before .before .before .before .before .loop .inv .1 .held) ∙ sym (holds-falses-long _ _ _ _ _ (c .before .before .before .before .before .before .before .before .before .before .before .before .before .before .before .before .before .before .pre .1))
+    let after-admit = c .before .before .before .before .before .before in
+    let at-loop = after-admit .before .before .before .before .before .before .before in
+    let start = at-loop .before .before .before .before .before in
+    after-admit .admit .kept .1 .0 ∙ holds-falses-long _ _ _ _ _ (at-loop .loop .inv .1 .held)
+    ∙ sym (holds-falses-long _ _ _ _ _ (start .pre .1))
 
 returns : tie.Need-returns Inv-loop μ-loop
 returns c =
-    going-full _ _ _ _ _ _ _ _ _ _ _ _ _ (c .before .before .before .before .before .before .before .before .before .before .before .before .before .loop .inv .1) (put-joined-step _ _ _ _ _ _ (c .before .before .before .before .before .before .before .before .before .before .before .before .loop-test .taken) (c .before .before .before .before .before .before .before .join .ensures)) (c .before .before .before .before .before .before .admit .ensures) (c .enum-told .given .1)
-
-add-i : tie.Need-add-i Inv-loop μ-loop
-add-i c = omega arith
-
-loop-less : tie.Need-loop-less Inv-loop μ-loop
-loop-less c = omega arith
+    let after-admit = c .before .before .before .before .before .before in
+    let after-join = after-admit .before in
+    let after-loop-test = after-join .before .before .before .before .before in
+    let at-loop = after-loop-test .before in
+    going-full _ _ _ _ _ _ _ _ _ _ _ _ _ (at-loop .loop .inv .1)
+    (put-joined-step _ _ _ _ _ _ (after-loop-test .loop-test .taken) (after-join .join .ensures)) (after-admit .admit .ensures)
+    (c .enum-told .given .1)
 
 loop-again : tie.Need-loop-again Inv-loop μ-loop
-loop-again c = (
-  omega (arith, c .before .before .before .before .before .before .before .before .before .before .before .before .before .loop-test .taken),
-  going-on _ _ _ _ _ _ _ _ _ _ _ _ _ (c .before .before .before .before .before .before .before .before .before .before .before .before .before .before .loop .inv .1) (put-joined-step _ _ _ _ _ _ (c .before .before .before .before .before .before .before .before .before .before .before .before .before .loop-test .taken) (c .before .before .before .before .before .before .before .before .join .ensures)) (c .before .before .before .before .before .before .before .admit .ensures) _ (c .before .grown .given .1),
-)
+loop-again c =
+    let after-admit = c .before .before .before .before .before .before .before in
+    let after-join = after-admit .before in
+    let after-loop-test = after-join .before .before .before .before .before in
+    let at-loop = after-loop-test .before in (
+      omega (arith, after-loop-test .loop-test .taken),
+      going-on _ _ _ _ _ _ _ _ _ _ _ _ _ (at-loop .loop .inv .1)
+          (put-joined-step _ _ _ _ _ _ (after-loop-test .loop-test .taken) (after-join .join .ensures)) (after-admit .admit .ensures) _
+          (c .before .grown .given .1),
+    )
 
 same-length-3 : tie.Need-same-length-3 Inv-loop μ-loop
 same-length-3 c = holds-trues-long _ _ _ _ _ (c .before .loop .inv .1 .held)
 
 same-length-4 : tie.Need-same-length-4 Inv-loop μ-loop
 same-length-4 c =
-    holds-falses-long _ _ _ _ _ (c .before .loop .inv .1 .held) ∙ sym (holds-falses-long _ _ _ _ _ (c .before .before .before .before .before .before .pre .1))
+    let start = c .before .before .before .before .before .before in
+    holds-falses-long _ _ _ _ _ (c .before .loop .inv .1 .held) ∙ sym (holds-falses-long _ _ _ _ _ (start .pre .1))
 
 returns-2 : tie.Need-returns-2 Inv-loop μ-loop
 returns-2 c = going-end _ _ _ _ _ _ _ _ (c .before .loop .inv .1) (put-joined-end _ _ _ _ _ (c .loop-test .left))
@@ -91,19 +85,19 @@ put-joined-spec =
     Inv-loop
     μ-loop
     loop-holds
-    mul-t13
-    shared-slice-read-t15
-    mul-t16
-    shared-slice-read-t18
-    join-requires
+    (λ c. omega arith)
+    (λ c. omega arith)
+    (λ c. omega arith)
+    (λ c. omega arith)
+    (λ c κs. search needs)
     admit-requires
-    enum-known-grown
-    enum-told
+    (λ c. search needs)
+    (λ c. search needs)
     same-length
     same-length-2
     returns
-    add-i
-    loop-less
+    (λ c. omega arith)
+    (λ c. omega arith)
     loop-again
     same-length-3
     same-length-4

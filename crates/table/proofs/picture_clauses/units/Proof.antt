@@ -16,43 +16,25 @@ Inv-loop entry to-trues₀ to-falses₀ filled₀ l₀ to-trues to-falses filled
 abbrev μ-loop : tie.MeasureT-loop
 μ-loop entry to-trues₀ to-falses₀ filled₀ l₀ to-trues to-falses filled l = 64 - l
 
-next-requires : tie.Need-next-requires Inv-loop μ-loop
-next-requires c κs = search needs
-
 loop-holds : tie.Need-loop-holds Inv-loop μ-loop
 loop-holds c = listed-start _ _ _ _ _ (c .before .before .before .pre .0) (c .next .ensures)
 
-literal-requires : tie.Need-literal-requires Inv-loop μ-loop
-literal-requires c κs = search needs
-
-mul-to-trues : tie.Need-mul-to-trues Inv-loop μ-loop
-mul-to-trues c = omega arith
-
-slice-write-to-trues : tie.Need-slice-write-to-trues Inv-loop μ-loop
-slice-write-to-trues c = omega arith
-
-mul-to-falses : tie.Need-mul-to-falses Inv-loop μ-loop
-mul-to-falses c = omega arith
-
 slice-write-to-falses : tie.Need-slice-write-to-falses Inv-loop μ-loop
 slice-write-to-falses c =
-    omega (arith, c .before .before .loop .inv .few, c .before .before .loop .inv .falses-long, c .before .before .before .before .before .before .pre .1, c .before .loop-test .taken)
-
-add-filled : tie.Need-add-filled Inv-loop μ-loop
-add-filled c = omega arith
-
-add-next : tie.Need-add-next Inv-loop μ-loop
-add-next c = omega arith
-
-next-requires-2 : tie.Need-next-requires-2 Inv-loop μ-loop
-next-requires-2 c κs = search needs
+    let at-loop = c .before .before in
+    let start = at-loop .before .before .before .before in
+    omega (arith, at-loop .loop .inv .few, at-loop .loop .inv .falses-long, start .pre .1, c .before .loop-test .taken)
 
 loop-less : tie.Need-loop-less Inv-loop μ-loop
 loop-less c = listed-less _ _ _ (c .before .before .loop-test .taken) (c .next2 .ensures)
 
 loop-again : tie.Need-loop-again Inv-loop μ-loop
 loop-again c =
-    listed-on _ _ _ _ _ _ (c .before .before .before .loop .inv) (c .before .before .loop-test .taken) (c .before .before .before .before .before .before .before .pre .1) _ (c .before .literal .ensures) _ (c .next2 .ensures)
+    let after-loop-test = c .before .before in
+    let at-loop = after-loop-test .before in
+    let start = at-loop .before .before .before .before in
+    listed-on _ _ _ _ _ _ (at-loop .loop .inv) (after-loop-test .loop-test .taken) (start .pre .1) _ (c .before .literal .ensures) _
+    (c .next2 .ensures)
 
 same-length : tie.Need-same-length Inv-loop μ-loop
 same-length c = c .before .loop .inv .trues-long
@@ -70,16 +52,16 @@ units-spec =
     (tie.spec
     Inv-loop
     μ-loop
-    next-requires
+    (λ c κs. search needs)
     loop-holds
-    literal-requires
-    mul-to-trues
-    slice-write-to-trues
-    mul-to-falses
+    (λ c κs. search needs)
+    (λ c. omega arith)
+    (λ c. omega arith)
+    (λ c. omega arith)
     slice-write-to-falses
-    add-filled
-    add-next
-    next-requires-2
+    (λ c. omega arith)
+    (λ c. omega arith)
+    (λ c κs. search needs)
     loop-less
     loop-again
     same-length

@@ -19,10 +19,16 @@ same-length-2 : tie.Need-same-length-2
 same-length-2 c = search needs
 
 returns : tie.Need-returns
-returns c = puts-is _ _ _ _ _ _ _ _ (sym (kept-one _ (sym (c .before .before .before .before .before .before .before .before .consistent .ensures) ∙ c .before .before .before .before .before .before .before .if1 .taken))) (c .before .before .before .before .offer .ensures)
+returns c =
+    let after-offer = c .before .before .before .before in
+    let after-if1 = after-offer .before .before .before in
+    let after-consistent = after-if1 .before in
+    puts-is _ _ _ _ _ _ _ _ (sym (kept-one _ (sym (after-consistent .consistent .ensures) ∙ after-if1 .if1 .taken)))
+    (after-offer .offer .ensures)
 
 returns-2 : tie.Need-returns-2
-returns-2 c = nothing-put _ _ _ _ (left-out _ (sym (c .before .consistent .ensures) ∙ c .if1 .left)) (c .before .before .before .before .pre)
+returns-2 c = nothing-put _ _ _ _ (left-out _ (sym (c .before .consistent .ensures) ∙ c .if1 .left))
+    (c .before .before .before .before .pre)
 
 pub admit-spec : {M : Type 1} → statement M
 admit-spec =

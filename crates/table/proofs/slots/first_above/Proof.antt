@@ -22,48 +22,38 @@ abbrev μ-loop : tie.MeasureT-loop
 loop-holds : tie.Need-loop-holds Inv-loop μ-loop
 loop-holds c = (omega arith, none-left _ _ _ 0 (omega arith))
 
-mul-t8 : tie.Need-mul-t8 Inv-loop μ-loop
-mul-t8 c = omega arith
-
-shared-slice-read-t10 : tie.Need-shared-slice-read-t10 Inv-loop μ-loop
-shared-slice-read-t10 c = omega arith
-
-mul-t11 : tie.Need-mul-t11 Inv-loop μ-loop
-mul-t11 c = omega arith
-
-shared-slice-read-t13 : tie.Need-shared-slice-read-t13 Inv-loop μ-loop
-shared-slice-read-t13 c = omega arith
-
-within-requires : tie.Need-within-requires Inv-loop μ-loop
-within-requires c κs = search needs
-
 returns : tie.Need-returns Inv-loop μ-loop
 returns c =
-    let a = c .before .before .before .before .before .before .before .before .args in
-    let g = c .before .before .before .before .before .loop in
-    (g .inv .0, found-none (λ e. within (a .candidate) e) (entriesOf (g .i) (a .trues .now) (a .falses .now)) Nothing (sym (g .inv .1)) refl)
-
-add-i : tie.Need-add-i Inv-loop μ-loop
-add-i c = omega arith
-
-loop-less : tie.Need-loop-less Inv-loop μ-loop
-loop-less c = omega arith
+    let at-loop = c .before .before .before .before .before in
+    let start = at-loop .before .before .before in
+    let a = start .args in
+    let g = at-loop .loop in (
+      g .inv .0,
+      found-none (λ e. within (a .candidate) e) (entriesOf (g .i) (a .trues .now) (a .falses .now)) Nothing (sym (g .inv .1))
+          refl,
+    )
 
 loop-again : tie.Need-loop-again Inv-loop μ-loop
 unfolding slot
 loop-again c =
-    let a = c .before .before .before .before .before .before .before .before .args in
-    let g = c .before .before .before .before .before .loop in (
+    let at-loop = c .before .before .before .before .before in
+    let start = at-loop .before .before .before in
+    let a = start .args in
+    let g = at-loop .loop in (
       omega arith,
-      missed (λ e. within (a .candidate) e) (a .trues .now) (a .falses .now) _ (g .i) (add-one (g .i)) (sym (c .before .within .ensures) ∙ c .if1 .left) ∙ g .inv .1,
+      missed (λ e. within (a .candidate) e) (a .trues .now) (a .falses .now) _ (g .i) (add-one (g .i))
+          (sym (c .before .within .ensures) ∙ c .if1 .left) ∙ g .inv .1,
     )
 
 returns-2 : tie.Need-returns-2 Inv-loop μ-loop
 returns-2 c =
     let a = c .before .before .before .before .args in
     let g = c .before .loop in
-    let e : g .i ≡ a .count = omega (arith, g .inv .0) in
-    (omega arith, found-none (λ e. within (a .candidate) e) (entriesOf (a .count) (a .trues .now) (a .falses .now)) Nothing (sym (g .inv .1) ∙ ap (λ (k : ℕ). lastOf (λ e. within (a .candidate) e) (entriesOf k (a .trues .now) (a .falses .now))) e) refl)
+    let e : g .i ≡ a .count = omega (arith, g .inv .0) in (
+      omega arith,
+      found-none (λ e. within (a .candidate) e) (entriesOf (a .count) (a .trues .now) (a .falses .now)) Nothing
+          (sym (g .inv .1) ∙ ap (λ (k : ℕ). lastOf (λ e. within (a .candidate) e) (entriesOf k (a .trues .now) (a .falses .now))) e) refl,
+    )
 
 pub first-above-spec : {M : Type 1} → statement M
 first-above-spec =
@@ -72,13 +62,13 @@ first-above-spec =
     Inv-loop
     μ-loop
     loop-holds
-    mul-t8
-    shared-slice-read-t10
-    mul-t11
-    shared-slice-read-t13
-    within-requires
+    (λ c. omega arith)
+    (λ c. omega arith)
+    (λ c. omega arith)
+    (λ c. omega arith)
+    (λ c κs. search needs)
     returns
-    add-i
-    loop-less
+    (λ c. omega arith)
+    (λ c. omega arith)
     loop-again
     returns-2)

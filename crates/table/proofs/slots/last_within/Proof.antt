@@ -10,7 +10,8 @@ use Rattle.table.proofs.slots.last_within.Statement.{statement}
 use Rattle.table.proofs.slots.last_within.Tie as tie
 
 abbrev Inv-loop : tie.InvT-loop
-Inv-loop trues falses count candidate i₀ i = (i ≤ count) × (lastWithin (entriesOf i trues falses) candidate ≡ lastWithin (entriesOf count trues falses) candidate)
+Inv-loop trues falses count candidate i₀ i = (i ≤ count)
+    × (lastWithin (entriesOf i trues falses) candidate ≡ lastWithin (entriesOf count trues falses) candidate)
 
 abbrev μ-loop : tie.MeasureT-loop
 μ-loop trues falses count candidate i₀ i = i
@@ -18,29 +19,27 @@ abbrev μ-loop : tie.MeasureT-loop
 loop-holds : tie.Need-loop-holds Inv-loop μ-loop
 loop-holds c = (omega arith, refl)
 
-some-of-four-requires : tie.Need-some-of-four-requires Inv-loop μ-loop
-some-of-four-requires c κs = search needs
-
 last-of-four-requires : tie.Need-last-of-four-requires Inv-loop μ-loop
 last-of-four-requires c κs = (search needs, sym (c .before .some-of-four .ensures) ∙ c .if1 .taken)
 
 returns : tie.Need-returns Inv-loop μ-loop
 returns c =
-    let g = c .before .before .before .before .loop in
-    let s = c .before .before .before .before .before .before .before .args in
+    let at-loop = c .before .before .before .before in
+    let start = at-loop .before .before .before in
+    let g = at-loop .loop in
+    let s = start .args in
     turn-found (s .trues .now) (s .falses .now) (g .i) (g .i - 4) (s .candidate) (omega arith) (c .last-of-four .ensures) ∙ g .inv .1
-
-loop-less : tie.Need-loop-less Inv-loop μ-loop
-loop-less c = omega arith
 
 loop-again : tie.Need-loop-again Inv-loop μ-loop
 loop-again c =
-    let g = c .before .before .before .loop in
-    let s = c .before .before .before .before .before .before .args in
-    (omega arith, turn-none (s .trues .now) (s .falses .now) (g .i) (g .i - 4) (s .candidate) (omega arith) (sym (c .before .some-of-four .ensures) ∙ c .if1 .left) ∙ g .inv .1)
-
-last-singly-requires : tie.Need-last-singly-requires Inv-loop μ-loop
-last-singly-requires c κs = search needs
+    let at-loop = c .before .before .before in
+    let start = at-loop .before .before .before in
+    let g = at-loop .loop in
+    let s = start .args in (
+      omega arith,
+      turn-none (s .trues .now) (s .falses .now) (g .i) (g .i - 4) (s .candidate) (omega arith)
+          (sym (c .before .some-of-four .ensures) ∙ c .if1 .left) ∙ g .inv .1,
+    )
 
 returns-2 : tie.Need-returns-2 Inv-loop μ-loop
 returns-2 c = c .last-singly .ensures ∙ c .before .before .loop .inv .1
@@ -52,10 +51,10 @@ last-within-spec =
     Inv-loop
     μ-loop
     loop-holds
-    some-of-four-requires
+    (λ c κs. search needs)
     last-of-four-requires
     returns
-    loop-less
+    (λ c. omega arith)
     loop-again
-    last-singly-requires
+    (λ c κs. search needs)
     returns-2)

@@ -11,70 +11,53 @@ use Rattle.table.proofs.slots.put.Tie as tie
 last-within-requires : tie.Need-last-within-requires
 last-within-requires c κs = holds-room _ _ _ _ _ (c .before .before .before .before .pre)
 
-enum-told : tie.Need-enum-told
-enum-told c = search needs
-
-enum-told-2 : tie.Need-enum-told-2
-enum-told-2 c = search needs
-
-remove-requires : tie.Need-remove-requires
-remove-requires c κs = search needs
-
-same-length : tie.Need-same-length
-same-length c = search needs
-
-same-length-2 : tie.Need-same-length-2
-same-length-2 c = search needs
-
 returns : tie.Need-returns
 returns c =
-    let m = c .before .before .before .before .before in
-    full _ _ _ _ _ (c .before .before .before .before .before .before .before .before .before .before .before .before .before .before .before .pre) _ _ _ (m .remove .ensures)
-    (found-none _ _ _ (c .before .before .before .before .before .before .before .before .before .before .last-within .ensures) (c .before .before .before .before .before .before .before .before .enum-told2 .given .1))
+    let after-5 = c .before .before .before .before .before in
+    let after-enum-told2 = after-5 .before .before .before in
+    let after-last-within = after-enum-told2 .before .before in
+    let start = after-last-within .before .before .before .before .before in
+    let m = after-5 in
+    full _ _ _ _ _ (start .pre) _ _ _ (m .remove .ensures)
+    (found-none _ _ _ (after-last-within .last-within .ensures) (after-enum-told2 .enum-told2 .given .1))
     (c .if1 .taken ∙ holds-trues-long _ _ _ _ _ (m .remove .ensures))
-
-mul-trues : tie.Need-mul-trues
-mul-trues c = omega arith
-
-slice-write-trues : tie.Need-slice-write-trues
-slice-write-trues c = omega arith
-
-mul-falses : tie.Need-mul-falses
-mul-falses c = omega arith
 
 slice-write-falses : tie.Need-slice-write-falses
 slice-write-falses c =
     let m = c .before .before .before .before .before in
-    omega (arith, m .remove .ensures .room, c .if1 .left, holds-trues-long _ _ _ _ _ (m .remove .ensures), holds-falses-long _ _ _ _ _ (m .remove .ensures))
+    omega (
+      arith,
+      m .remove .ensures .room,
+      c .if1 .left,
+      holds-trues-long _ _ _ _ _ (m .remove .ensures),
+      holds-falses-long _ _ _ _ _ (m .remove .ensures),
+    )
 
 sub-t16 : tie.Need-sub-t16
 sub-t16 c =
-    let m = c .before .before .before .before .before in
-    fewer _ _ _ _ _ (c .before .before .before .before .before .before .before .before .before .before .before .before .before .before .before .pre) _ _ _ (m .remove .ensures) (found-none _ _ _ (c .before .before .before .before .before .before .before .before .before .before .last-within .ensures) (c .before .before .before .before .before .before .before .before .enum-told2 .given .1))
-
-add-t20 : tie.Need-add-t20
-add-t20 c = omega arith
-
-same-length-3 : tie.Need-same-length-3
-same-length-3 c = search needs
-
-same-length-4 : tie.Need-same-length-4
-same-length-4 c = search needs
+    let after-5 = c .before .before .before .before .before in
+    let after-enum-told2 = after-5 .before .before .before in
+    let after-last-within = after-enum-told2 .before .before in
+    let start = after-last-within .before .before .before .before .before in
+    let m = after-5 in
+    fewer _ _ _ _ _ (start .pre) _ _ _ (m .remove .ensures)
+    (found-none _ _ _ (after-last-within .last-within .ensures) (after-enum-told2 .enum-told2 .given .1))
 
 returns-2 : tie.Need-returns-2
-returns-2 c = dropped _ _ _ _ _ (c .before .before .before .before .before .before .before .pre) (found-some _ _ _ _ (c .before .before .last-within .ensures) (c .enum-told .given .1))
-
-same-length-5 : tie.Need-same-length-5
-same-length-5 c = search needs
-
-same-length-6 : tie.Need-same-length-6
-same-length-6 c = search needs
+returns-2 c =
+    let after-last-within = c .before .before in
+    let start = after-last-within .before .before .before .before .before in
+    dropped _ _ _ _ _ (start .pre) (found-some _ _ _ _ (after-last-within .last-within .ensures) (c .enum-told .given .1))
 
 returns-3 : tie.Need-returns-3
 returns-3 c =
-    let m = c .before .before .before .before .before in
-    placed _ _ _ _ _ (c .before .before .before .before .before .before .before .before .before .before .before .before .before .before .before .pre) _ _ _ (m .remove .ensures)
-    (found-none _ _ _ (c .before .before .before .before .before .before .before .before .before .before .last-within .ensures) (c .before .before .before .before .before .before .before .before .enum-told2 .given .1))
+    let after-5 = c .before .before .before .before .before in
+    let after-enum-told2 = after-5 .before .before .before in
+    let after-last-within = after-enum-told2 .before .before in
+    let start = after-last-within .before .before .before .before .before in
+    let m = after-5 in
+    placed _ _ _ _ _ (start .pre) _ _ _ (m .remove .ensures)
+    (found-none _ _ _ (after-last-within .last-within .ensures) (after-enum-told2 .enum-told2 .given .1))
     (λ e. c .if1 .left (e ∙ sym (holds-trues-long _ _ _ _ _ (m .remove .ensures))))
 
 pub put-spec : {M : Type 1} → statement M
@@ -82,21 +65,21 @@ put-spec =
     tie.close
     (tie.spec
     last-within-requires
-    enum-told
-    enum-told-2
-    remove-requires
-    same-length
-    same-length-2
+    (λ c. search needs)
+    (λ c. search needs)
+    (λ c κs. search needs)
+    (λ c. search needs)
+    (λ c. search needs)
     returns
-    mul-trues
-    slice-write-trues
-    mul-falses
+    (λ c. omega arith)
+    (λ c. omega arith)
+    (λ c. omega arith)
     slice-write-falses
     sub-t16
-    add-t20
-    same-length-3
-    same-length-4
+    (λ c. omega arith)
+    (λ c. search needs)
+    (λ c. search needs)
     returns-2
-    same-length-5
-    same-length-6
+    (λ c. search needs)
+    (λ c. search needs)
     returns-3)

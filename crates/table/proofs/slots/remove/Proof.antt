@@ -17,7 +17,8 @@ use Rattle.table.proofs.slots.remove.Statement.{statement}
 use Rattle.table.proofs.slots.remove.Tie as tie
 
 abbrev Inv-loop : tie.InvT-loop
-Inv-loop trues₀ falses₀ count candidate first i₀ filled₀ trues falses i filled = Moved (λ e. not (within candidate e)) count trues₀ falses₀ trues falses filled i
+Inv-loop trues₀ falses₀ count candidate first i₀ filled₀ trues falses i filled = Moved (λ e. not (within candidate e)) count trues₀ falses₀
+    trues falses filled i
 
 abbrev μ-loop : tie.MeasureT-loop
 μ-loop trues₀ falses₀ count candidate first i₀ filled₀ trues falses i filled = count - i
@@ -25,80 +26,38 @@ abbrev μ-loop : tie.MeasureT-loop
 some-above-requires : tie.Need-some-above-requires Inv-loop μ-loop
 some-above-requires c κs = holds-room _ _ _ _ _ (c .before .before .before .before .pre)
 
-same-length : tie.Need-same-length Inv-loop μ-loop
-same-length c = search needs
-
-same-length-2 : tie.Need-same-length-2 Inv-loop μ-loop
-same-length-2 c = search needs
-
 returns : tie.Need-returns Inv-loop μ-loop
 returns c =
-    let o = c .before .before .before .before .before .before in
+    let after-6 = c .before .before .before .before .before .before in
+    let o = after-6 in
     let a = o .args in
     subst (λ (x : List Literals). Holds (length (a .trues .now)) x (a .count) (a .trues .now) (a .falses .now))
     (sym (none-goes (λ e. within (a .candidate) e) _ (sym (c .before .some-above .ensures) ∙ not-true _ (c .if1 .taken)))) (o .pre)
 
 first-above-requires : tie.Need-first-above-requires Inv-loop μ-loop
-first-above-requires c κs = holds-room _ _ _ _ _ (c .before .before .before .before .before .before .before .before .pre)
+first-above-requires c κs =
+    let start = c .before .before .before .before .before .before .before .before in
+    holds-room _ _ _ _ _ (start .pre)
 
 loop-holds : tie.Need-loop-holds Inv-loop μ-loop
 loop-holds c =
-    let o = c .before .before .before .before .before .before .before .before .before in
+    let after-9 = c .before .before .before .before .before .before .before .before .before in
+    let o = after-9 in
     let e = c .first-above .ensures in
     moved-start _ _ _ _ (o .pre) _ (e .0) (none-goes (λ e. within (o .args .candidate) e) _ (e .1))
-
-mul-t20 : tie.Need-mul-t20 Inv-loop μ-loop
-mul-t20 c = omega arith
-
-slice-read-t22 : tie.Need-slice-read-t22 Inv-loop μ-loop
-slice-read-t22 c = omega arith
-
-mul-t23 : tie.Need-mul-t23 Inv-loop μ-loop
-mul-t23 c = omega arith
-
-slice-read-t25 : tie.Need-slice-read-t25 Inv-loop μ-loop
-slice-read-t25 c = omega arith
-
-mul-trues : tie.Need-mul-trues Inv-loop μ-loop
-mul-trues c = omega arith
-
-slice-write-trues : tie.Need-slice-write-trues Inv-loop μ-loop
-slice-write-trues c = omega arith
-
-mul-falses : tie.Need-mul-falses Inv-loop μ-loop
-mul-falses c = omega arith
-
-slice-write-falses : tie.Need-slice-write-falses Inv-loop μ-loop
-slice-write-falses c = omega arith
-
-within-requires : tie.Need-within-requires Inv-loop μ-loop
-within-requires c κs = search needs
-
-mul-trues-2 : tie.Need-mul-trues-2 Inv-loop μ-loop
-mul-trues-2 c = omega arith
 
 slice-write-trues-2 : tie.Need-slice-write-trues-2 Inv-loop μ-loop
 slice-write-trues-2 c = simp length-set (omega arith)
 
-mul-falses-2 : tie.Need-mul-falses-2 Inv-loop μ-loop
-mul-falses-2 c = omega arith
-
 slice-write-falses-2 : tie.Need-slice-write-falses-2 Inv-loop μ-loop
 slice-write-falses-2 c = simp length-set (omega arith)
 
-add-filled : tie.Need-add-filled Inv-loop μ-loop
-add-filled c = omega arith
-
-add-i : tie.Need-add-i Inv-loop μ-loop
-add-i c = omega arith
-
-loop-less : tie.Need-loop-less Inv-loop μ-loop
-loop-less c = omega arith
-
 loop-again : tie.Need-loop-again Inv-loop μ-loop
 loop-again c =
-    let h = c .before .before .before .before .before .before .before .before .before .before .before .before .before .before .before .pre in
-    let g = c .before .before .before .before .before .loop .inv in
+    let at-loop = c .before .before .before .before .before in
+    let start = at-loop .before .before .before .before .before .before .before .before .before .before in
+    let h = start .pre in
+    let g = at-loop .loop .inv in
     let w = c .before .within .ensures in
     ⊎-elim
     (λ v. moved-is _ _ _ _ _ _ _ _ _ _ _ (v .1) (v .2) (v .3) (moved-kept _ _ _ _ h _ _ _ _ g (omega arith) (ap not (sym w) ∙ v .0 .taken)))
@@ -109,10 +68,14 @@ same-length-3 : tie.Need-same-length-3 Inv-loop μ-loop
 same-length-3 c = c .before .loop .inv .trues-long
 
 same-length-4 : tie.Need-same-length-4 Inv-loop μ-loop
-same-length-4 c = c .before .loop .inv .falses-long ∙ sym (holds-falses-long _ _ _ _ _ (c .before .before .before .before .before .before .before .before .before .before .before .pre))
+same-length-4 c =
+    let start = c .before .before .before .before .before .before .before .before .before .before .before in
+    c .before .loop .inv .falses-long ∙ sym (holds-falses-long _ _ _ _ _ (start .pre))
 
 returns-2 : tie.Need-returns-2 Inv-loop μ-loop
-returns-2 c = moved-end _ _ _ _ (c .before .before .before .before .before .before .before .before .before .before .before .pre) _ _ _ _ (c .before .loop .inv) (c .loop-test .left)
+returns-2 c =
+    let start = c .before .before .before .before .before .before .before .before .before .before .before in
+    moved-end _ _ _ _ (start .pre) _ _ _ _ (c .before .loop .inv) (c .loop-test .left)
 
 pub remove-spec : {M : Type 1} → statement M
 remove-spec =
@@ -121,27 +84,27 @@ remove-spec =
     Inv-loop
     μ-loop
     some-above-requires
-    same-length
-    same-length-2
+    (λ c. search needs)
+    (λ c. search needs)
     returns
     first-above-requires
     loop-holds
-    mul-t20
-    slice-read-t22
-    mul-t23
-    slice-read-t25
-    mul-trues
-    slice-write-trues
-    mul-falses
-    slice-write-falses
-    within-requires
-    mul-trues-2
+    (λ c. omega arith)
+    (λ c. omega arith)
+    (λ c. omega arith)
+    (λ c. omega arith)
+    (λ c. omega arith)
+    (λ c. omega arith)
+    (λ c. omega arith)
+    (λ c. omega arith)
+    (λ c κs. search needs)
+    (λ c. omega arith)
     slice-write-trues-2
-    mul-falses-2
+    (λ c. omega arith)
     slice-write-falses-2
-    add-filled
-    add-i
-    loop-less
+    (λ c. omega arith)
+    (λ c. omega arith)
+    (λ c. omega arith)
     loop-again
     same-length-3
     same-length-4

@@ -16,7 +16,8 @@ use Rattle.table.proofs.slots.some_above.Tie as tie
 
 abbrev Inv-loop : tie.InvT-loop
 Inv-loop trues falses count candidate found₀ i₀ found i =
-    (i ≤ count) × (anyOf (λ e. within candidate e) (entriesOf count trues falses) ≡ (found || anyOf (λ e. within candidate e) (drop i (entriesOf count trues falses))))
+    (i ≤ count) × (anyOf (λ e. within candidate e) (entriesOf count trues falses)
+    ≡ (found || anyOf (λ e. within candidate e) (drop i (entriesOf count trues falses))))
 
 abbrev μ-loop : tie.MeasureT-loop
 μ-loop trues falses count candidate found₀ i₀ found i = count - i
@@ -24,45 +25,31 @@ abbrev μ-loop : tie.MeasureT-loop
 loop-holds : tie.Need-loop-holds Inv-loop μ-loop
 loop-holds c = (omega arith, refl)
 
-mul-t9 : tie.Need-mul-t9 Inv-loop μ-loop
-mul-t9 c = omega arith
-
-shared-slice-read-t11 : tie.Need-shared-slice-read-t11 Inv-loop μ-loop
-shared-slice-read-t11 c = omega arith
-
-mul-t12 : tie.Need-mul-t12 Inv-loop μ-loop
-mul-t12 c = omega arith
-
-shared-slice-read-t14 : tie.Need-shared-slice-read-t14 Inv-loop μ-loop
-shared-slice-read-t14 c = omega arith
-
-within-requires : tie.Need-within-requires Inv-loop μ-loop
-within-requires c κs = search needs
-
-add-i : tie.Need-add-i Inv-loop μ-loop
-add-i c = omega arith
-
-loop-less : tie.Need-loop-less Inv-loop μ-loop
-loop-less c = omega arith
-
 loop-again : tie.Need-loop-again Inv-loop μ-loop
 unfolding slot
 loop-again c =
-    let a = c .before .before .before .before .before .before .before .before .args in
-    let g = c .before .before .before .before .before .loop in
+    let at-loop = c .before .before .before .before .before in
+    let start = at-loop .before .before .before in
+    let a = start .args in
+    let g = at-loop .loop in
     let q = entries-next (a .count) (a .trues .now) (a .falses .now) (g .i) _ (omega arith) refl in
     let w = c .before .within .ensures in (
       omega arith,
       ⊎-elim
-          (λ v. g .inv .1 ∙ any-mark (λ e. within (a .candidate) e) _ _ _ _ q w (g .found) (v .0 .taken) ∙ sym (ap (λ (t : Bool). t || anyOf (λ e. within (a .candidate) e) (drop (g .i + 1) (entriesOf (a .count) (a .trues .now) (a .falses .now)))) (v .1)))
-          (λ v. g .inv .1 ∙ any-keep (λ e. within (a .candidate) e) _ _ _ _ q w (g .found) (v .0 .left) ∙ sym (ap (λ (t : Bool). t || anyOf (λ e. within (a .candidate) e) (drop (g .i + 1) (entriesOf (a .count) (a .trues .now) (a .falses .now)))) (v .1)))
+          (λ v. g .inv .1 ∙ any-mark (λ e. within (a .candidate) e) _ _ _ _ q w (g .found) (v .0 .taken)
+          ∙ sym (ap (λ (t : Bool). t || anyOf (λ e. within (a .candidate) e)
+          (drop (g .i + 1) (entriesOf (a .count) (a .trues .now) (a .falses .now)))) (v .1)))
+          (λ v. g .inv .1 ∙ any-keep (λ e. within (a .candidate) e) _ _ _ _ q w (g .found) (v .0 .left)
+          ∙ sym (ap (λ (t : Bool). t || anyOf (λ e. within (a .candidate) e)
+          (drop (g .i + 1) (entriesOf (a .count) (a .trues .now) (a .falses .now)))) (v .1)))
           (c .if1 .came),
     )
 
 returns : tie.Need-returns Inv-loop μ-loop
 returns c =
     let a = c .before .before .before .before .args in
-    sym (c .before .loop .inv .1 ∙ any-end (λ e. within (a .candidate) e) _ _ (entries-done (a .count) (a .trues .now) (a .falses .now) (c .before .loop .i) (omega arith)))
+    sym (c .before .loop .inv .1 ∙ any-end (λ e. within (a .candidate) e) _ _
+    (entries-done (a .count) (a .trues .now) (a .falses .now) (c .before .loop .i) (omega arith)))
 
 pub some-above-spec : {M : Type 1} → statement M
 some-above-spec =
@@ -71,12 +58,12 @@ some-above-spec =
     Inv-loop
     μ-loop
     loop-holds
-    mul-t9
-    shared-slice-read-t11
-    mul-t12
-    shared-slice-read-t14
-    within-requires
-    add-i
-    loop-less
+    (λ c. omega arith)
+    (λ c. omega arith)
+    (λ c. omega arith)
+    (λ c. omega arith)
+    (λ c κs. search needs)
+    (λ c. omega arith)
+    (λ c. omega arith)
     loop-again
     returns)

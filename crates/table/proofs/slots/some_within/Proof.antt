@@ -15,7 +15,8 @@ use Rattle.table.proofs.slots.some_within.Tie as tie
 
 abbrev Inv-loop : tie.InvT-loop
 Inv-loop trues falses count set some₀ i₀ some i =
-    (i ≤ count) × (anyOf (λ e. within e set) (entriesOf count trues falses) ≡ (some || anyOf (λ e. within e set) (drop i (entriesOf count trues falses))))
+    (i ≤ count) × (anyOf (λ e. within e set) (entriesOf count trues falses)
+    ≡ (some || anyOf (λ e. within e set) (drop i (entriesOf count trues falses))))
 
 abbrev μ-loop : tie.MeasureT-loop
 μ-loop trues falses count set some₀ i₀ some i = count - i
@@ -23,35 +24,31 @@ abbrev μ-loop : tie.MeasureT-loop
 loop-holds : tie.Need-loop-holds Inv-loop μ-loop
 loop-holds c = (omega arith, refl)
 
-entry-at-requires : tie.Need-entry-at-requires Inv-loop μ-loop
-entry-at-requires c κs = search needs
-
-within-requires : tie.Need-within-requires Inv-loop μ-loop
-within-requires c κs = search needs
-
-add-i : tie.Need-add-i Inv-loop μ-loop
-add-i c = omega arith
-
-loop-less : tie.Need-loop-less Inv-loop μ-loop
-loop-less c = omega arith
-
 loop-again : tie.Need-loop-again Inv-loop μ-loop
 loop-again c =
-    let a = c .before .before .before .before .before .before .before .args in
-    let g = c .before .before .before .before .loop in
-    let q = entries-next (a .count) (a .trues .now) (a .falses .now) (g .i) _ (omega arith) (c .before .before .entry-at .ensures) in
+    let after-entry-at = c .before .before in
+    let at-loop = after-entry-at .before .before in
+    let start = at-loop .before .before .before in
+    let a = start .args in
+    let g = at-loop .loop in
+    let q = entries-next (a .count) (a .trues .now) (a .falses .now) (g .i) _ (omega arith) (after-entry-at .entry-at .ensures) in
     let w = c .before .within .ensures in (
       omega arith,
       ⊎-elim
-          (λ v. g .inv .1 ∙ any-mark (λ e. within e (a .set)) _ _ _ _ q w (g .some) (v .0 .taken) ∙ sym (ap (λ (t : Bool). t || anyOf (λ e. within e (a .set)) (drop (g .i + 1) (entriesOf (a .count) (a .trues .now) (a .falses .now)))) (v .1)))
-          (λ v. g .inv .1 ∙ any-keep (λ e. within e (a .set)) _ _ _ _ q w (g .some) (v .0 .left) ∙ sym (ap (λ (t : Bool). t || anyOf (λ e. within e (a .set)) (drop (g .i + 1) (entriesOf (a .count) (a .trues .now) (a .falses .now)))) (v .1)))
+          (λ v. g .inv .1 ∙ any-mark (λ e. within e (a .set)) _ _ _ _ q w (g .some) (v .0 .taken)
+          ∙ sym (ap (λ (t : Bool). t || anyOf (λ e. within e (a .set))
+          (drop (g .i + 1) (entriesOf (a .count) (a .trues .now) (a .falses .now)))) (v .1)))
+          (λ v. g .inv .1 ∙ any-keep (λ e. within e (a .set)) _ _ _ _ q w (g .some) (v .0 .left)
+          ∙ sym (ap (λ (t : Bool). t || anyOf (λ e. within e (a .set))
+          (drop (g .i + 1) (entriesOf (a .count) (a .trues .now) (a .falses .now)))) (v .1)))
           (c .if1 .came),
     )
 
 returns : tie.Need-returns Inv-loop μ-loop
 returns c =
     let a = c .before .before .before .before .args in
-    sym (c .before .loop .inv .1 ∙ any-end (λ e. within e (a .set)) _ _ (entries-done (a .count) (a .trues .now) (a .falses .now) (c .before .loop .i) (omega arith)))
+    sym (c .before .loop .inv .1 ∙ any-end (λ e. within e (a .set)) _ _
+    (entries-done (a .count) (a .trues .now) (a .falses .now) (c .before .loop .i) (omega arith)))
 
 pub some-within-spec : {M : Type 1} → statement M
 some-within-spec =
@@ -60,9 +57,9 @@ some-within-spec =
     Inv-loop
     μ-loop
     loop-holds
-    entry-at-requires
-    within-requires
-    add-i
-    loop-less
+    (λ c κs. search needs)
+    (λ c κs. search needs)
+    (λ c. omega arith)
+    (λ c. omega arith)
     loop-again
     returns)

@@ -1,4 +1,5 @@
--- The cycle {choose}: the measure is the number of alternatives left. The invariant: the literals that are left give the whole, and the piece
+-- The cycle {choose}: the measure is the number of alternatives left. The invariant: the literals that are left give the whole, and the
+-- piece
 -- has none of them. Assumes nothing.
 use mathlib.Core.Path.{_≡_, refl, sym, ap, _∙_}
 use mathlib.Core.Logic.{⊎-elim}
@@ -41,24 +42,45 @@ abbrev choose-below : ℕ → In 3 choose-kinds.ps
 choose-below t = and 3 choose-kinds.ps (falls 3 choose-kinds.ps _<_ μ-choose t) choose.Pre
 
 abbrev claims : ℕ → choose-lts.Claims
-claims t = (offer-by-newest-reads.Asked, offer-by-newest-reads.Learnt, set-from-reads.Asked, set-from-reads.Learnt, minus-reads.Asked, minus-reads.Learnt, next-reads.Asked, next-reads.Learnt, literal-reads.Asked, literal-reads.Learnt, flip-reads.Asked, flip-reads.Learnt, join-reads.Asked, join-reads.Learnt, choose-below t, choose.Post)
+claims t = (
+  offer-by-newest-reads.Asked,
+  offer-by-newest-reads.Learnt,
+  set-from-reads.Asked,
+  set-from-reads.Learnt,
+  minus-reads.Asked,
+  minus-reads.Learnt,
+  next-reads.Asked,
+  next-reads.Learnt,
+  literal-reads.Asked,
+  literal-reads.Learnt,
+  flip-reads.Asked,
+  flip-reads.Learnt,
+  join-reads.Asked,
+  join-reads.Learnt,
+  choose-below t,
+  choose.Post,
+)
 
 abbrev choose-Inv-loop : choose-lts.InvT-loop
 choose-Inv-loop laid size at piece to-trues₀ to-falses₀ count after rest₀ filled₀ l₀ to-trues to-falses rest filled l =
-    Going (keep L.consistent (falsify (drop at (setsAt size laid)) piece)) count to-trues₀ to-falses₀ (keep L.consistent (choicesOf (drop after (setsAt size laid)) rest piece)) filled to-trues to-falses
+    Going (keep L.consistent (falsify (drop at (setsAt size laid)) piece)) count to-trues₀ to-falses₀
+    (keep L.consistent (choicesOf (drop after (setsAt size laid)) rest piece)) filled to-trues to-falses
     × (l ≡ K.next rest 0)
     × Free rest piece
 
 abbrev choose-μ-loop : choose-lts.MeasureT-loop
-choose-μ-loop laid size at piece to-trues₀ to-falses₀ count after rest₀ filled₀ l₀ to-trues to-falses rest filled l = length (L.members rest 0)
+choose-μ-loop laid size at piece to-trues₀ to-falses₀ count after rest₀ filled₀ l₀ to-trues to-falses rest filled
+    l = length (L.members rest 0)
 
-choose-offer-by-newest-requires : (t : ℕ) → choose-lts.Need-offer-by-newest-requires (claims t) (choose-at t) choose.Post choose-Inv-loop choose-μ-loop
+choose-offer-by-newest-requires : (t : ℕ) → choose-lts.Need-offer-by-newest-requires (claims t) (choose-at t) choose.Post choose-Inv-loop
+    choose-μ-loop
 choose-offer-by-newest-requires t c κs = c .before .before .before .pre .1 .held
 
 choose-returns : (t : ℕ) → choose-lts.Need-returns (claims t) (choose-at t) choose.Post choose-Inv-loop choose-μ-loop
 choose-returns t c =
     let s = c .before .before .before .before in
-    puts-is _ _ _ _ _ _ _ _ (chosen-all (s .args .size) (s .args .laid .now) (s .args .at) _ (omega arith) (s .pre .1 .steady)) (c .offer-by-newest .ensures)
+    puts-is _ _ _ _ _ _ _ _ (chosen-all (s .args .size) (s .args .laid .now) (s .args .at) _ (omega arith) (s .pre .1 .steady))
+    (c .offer-by-newest .ensures)
 
 choose-add-after : (t : ℕ) → choose-lts.Need-add-after (claims t) (choose-at t) choose.Post choose-Inv-loop choose-μ-loop
 choose-add-after t c = omega arith
@@ -78,7 +100,9 @@ choose-next-requires t c κs = search needs
 choose-loop-holds : (t : ℕ) → choose-lts.Need-loop-holds (claims t) (choose-at t) choose.Post choose-Inv-loop choose-μ-loop
 choose-loop-holds t c =
     let s = c .before .before .before .before .before in (
-      going-start _ _ _ _ _ (choices-start _ _ _ _ _ (s .pre .1 .steady) (sets-step (s .args .size) (s .args .laid .now) (s .args .at) _ (omega arith) (c .before .before .set-from .ensures)) (c .before .minus .ensures)) (s .pre .1 .held),
+      going-start _ _ _ _ _ (choices-start _ _ _ _ _ (s .pre .1 .steady)
+          (sets-step (s .args .size) (s .args .laid .now) (s .args .at) _ (omega arith) (c .before .before .set-from .ensures))
+          (c .before .minus .ensures)) (s .pre .1 .held),
       c .next .ensures,
       free-start _ _ _ (c .before .minus .ensures),
     )
@@ -100,7 +124,8 @@ choose-choose-requires t c κs =
       omega arith,
       record {
         room = s .pre .1 .room;
-        steady = chosen-steady _ _ _ _ _ _ (s .pre .1 .steady) (w .2) (w .1) (o .before .before .before .loop-test .taken) (o .before .before .literal .ensures) (o .before .flip .ensures) (o .join .ensures);
+        steady = chosen-steady _ _ _ _ _ _ (s .pre .1 .steady) (w .2) (w .1) (o .before .before .before .loop-test .taken)
+            (o .before .before .literal .ensures) (o .before .flip .ensures) (o .join .ensures);
         held = held-own _ _ _ _ (w .0 .held);
       },
     )
@@ -116,9 +141,11 @@ choose-returns-2 t c =
     let o = c .before .before .before .before .before .before in
     let w = o .before .before .before .before .loop .inv in
     going-full _ _ _ _ _ _ _ _ _ _ _ _ _ (w .0)
-    (choices-step _ _ _ _ _ _ _ _ (w .1) (o .before .before .before .loop-test .taken) (o .before .before .literal .ensures) (o .before .flip .ensures) (o .join .ensures) refl) (c .before .before .choose .ensures) (c .enum-told .given .1)
+    (choices-step _ _ _ _ _ _ _ _ (w .1) (o .before .before .before .loop-test .taken) (o .before .before .literal .ensures)
+    (o .before .flip .ensures) (o .join .ensures) refl) (c .before .before .choose .ensures) (c .enum-told .given .1)
 
-choose-offer-by-newest-requires-2 : (t : ℕ) → choose-lts.Need-offer-by-newest-requires-2 (claims t) (choose-at t) choose.Post choose-Inv-loop choose-μ-loop
+choose-offer-by-newest-requires-2 : (t : ℕ) → choose-lts.Need-offer-by-newest-requires-2 (claims t) (choose-at t) choose.Post
+    choose-Inv-loop choose-μ-loop
 choose-offer-by-newest-requires-2 t c κs = held-own _ _ _ _ (c .before .before .before .before .before .before .before .loop .inv .0 .held)
 
 choose-enum-known-grown-2 : (t : ℕ) → choose-lts.Need-enum-known-grown-2 (claims t) (choose-at t) choose.Post choose-Inv-loop choose-μ-loop
@@ -132,10 +159,14 @@ choose-returns-3 t c =
     let s = c .before .before .before .before .before .before .before .before .before .before .before .before .before .before .before .before in
     let o = c .before .before .before .before .before .before in
     let w = o .before .before .before .before .loop .inv in
-    let steady = chosen-steady _ _ _ _ _ _ (s .pre .1 .steady) (w .2) (w .1) (o .before .before .before .loop-test .taken) (o .before .before .literal .ensures) (o .before .flip .ensures) (o .join .ensures) in
-    let q = chosen-all (s .args .size) (s .args .laid .now) (s .args .at + 1) _ (c .before .before .before .before .before .if2 .left) steady in
+    let steady = chosen-steady _ _ _ _ _ _ (s .pre .1 .steady) (w .2) (w .1) (o .before .before .before .loop-test .taken)
+    (o .before .before .literal .ensures) (o .before .flip .ensures) (o .join .ensures) in
+    let q = chosen-all (s .args .size) (s .args .laid .now) (s .args .at + 1) _ (c .before .before .before .before .before .if2 .left)
+    steady in
     going-full _ _ _ _ _ _ _ _ _ _ _ _ _ (w .0)
-    (choices-step _ _ _ _ _ _ _ _ (w .1) (o .before .before .before .loop-test .taken) (o .before .before .literal .ensures) (o .before .flip .ensures) (o .join .ensures) refl) (puts-is _ _ _ _ _ _ _ _ q (c .before .before .offer-by-newest2 .ensures)) (c .enum-told2 .given .1)
+    (choices-step _ _ _ _ _ _ _ _ (w .1) (o .before .before .before .loop-test .taken) (o .before .before .literal .ensures)
+    (o .before .flip .ensures) (o .join .ensures) refl) (puts-is _ _ _ _ _ _ _ _ q (c .before .before .offer-by-newest2 .ensures))
+    (c .enum-told2 .given .1)
 
 choose-lacking-requires-2 : (t : ℕ) → choose-lts.Need-minus-requires-2 (claims t) (choose-at t) choose.Post choose-Inv-loop choose-μ-loop
 choose-lacking-requires-2 t c κs = search needs
@@ -146,27 +177,32 @@ choose-next-requires-2 t c κs = search needs
 choose-loop-less : (t : ℕ) → choose-lts.Need-loop-less (claims t) (choose-at t) choose.Post choose-Inv-loop choose-μ-loop
 choose-loop-less t c =
     let o = c .before .before .before in
-    choices-less _ _ _ _ (o .before .before .before .before .loop .inv .1) (o .before .before .before .loop-test .taken) (o .before .before .literal .ensures) (c .before .minus2 .ensures)
+    choices-less _ _ _ _ (o .before .before .before .before .loop .inv .1) (o .before .before .before .loop-test .taken)
+    (o .before .before .literal .ensures) (c .before .minus2 .ensures)
 
 choose-loop-again : (t : ℕ) → choose-lts.Need-loop-again (claims t) (choose-at t) choose.Post choose-Inv-loop choose-μ-loop
 choose-loop-again t c =
     let s = c .before .before .before .before .before .before .before .before .before .before .before .before .before in
     let o = c .before .before .before in
     let w = o .before .before .before .before .loop .inv in
-    let steady = chosen-steady _ _ _ _ _ _ (s .pre .1 .steady) (w .2) (w .1) (o .before .before .before .loop-test .taken) (o .before .before .literal .ensures) (o .before .flip .ensures) (o .join .ensures) in (
+    let steady = chosen-steady _ _ _ _ _ _ (s .pre .1 .steady) (w .2) (w .1) (o .before .before .before .loop-test .taken)
+    (o .before .before .literal .ensures) (o .before .flip .ensures) (o .join .ensures) in (
       going-on _ _ _ _ _ _ _ _ _ _ _ _ _ (w .0)
-          (choices-step _ _ _ _ _ _ _ _ (w .1) (o .before .before .before .loop-test .taken) (o .before .before .literal .ensures) (o .before .flip .ensures) (o .join .ensures) (c .before .minus2 .ensures))
+          (choices-step _ _ _ _ _ _ _ _ (w .1) (o .before .before .before .loop-test .taken) (o .before .before .literal .ensures)
+          (o .before .flip .ensures) (o .join .ensures) (c .before .minus2 .ensures))
           (⊎-elim
           (λ v. puts-later _ _ _ _ _ _ _ _ _ _ (v .7) (v .8) (ap grown.To (v .9) ∙ sym (v .5 .given .1)) (v .3 .ensures))
           (λ v. puts-later _ _ _ _ _ _ _ _ _ _ (v .7) (v .8) (ap grown.To (v .9) ∙ sym (v .5 .given .1))
-          (puts-is _ _ _ _ _ _ _ _ (chosen-all (s .args .size) (s .args .laid .now) (s .args .at + 1) _ (v .0 .left) steady) (v .3 .ensures)))
+          (puts-is _ _ _ _ _ _ _ _ (chosen-all (s .args .size) (s .args .laid .now) (s .args .at + 1) _ (v .0 .left) steady)
+          (v .3 .ensures)))
           (c .before .before .if2 .came)) _ refl,
       c .next2 .ensures,
       free-on _ _ _ _ (w .2) (c .before .minus2 .ensures),
     )
 
 choose-returns-4 : (t : ℕ) → choose-lts.Need-returns-4 (claims t) (choose-at t) choose.Post choose-Inv-loop choose-μ-loop
-choose-returns-4 t c = going-end _ _ _ _ _ _ _ _ (c .before .loop .inv .0) (choices-end _ _ _ _ (c .before .loop .inv .1) (c .loop-test .left))
+choose-returns-4 t c = going-end _ _ _ _ _ _ _ _ (c .before .loop .inv .0)
+    (choices-end _ _ _ _ (c .before .loop .inv .1) (c .loop-test .left))
 
 pub +choose-spec : {M : Type 1} → statement M
 +choose-spec = close μ-choose λ t. choose-lts.spec (claims t)

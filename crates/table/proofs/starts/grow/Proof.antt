@@ -8,20 +8,22 @@ use Rattle.table.proofs.starts.grow.Tie as tie
 
 widen-all-requires : tie.Need-widen-all-requires
 widen-all-requires c κs =
-    let s = c .before .before .before .before .before .before .before in
+    let after-7 = c .before .before .before .before .before .before .before in
+    let s = after-7 in
     record { sets = s .pre .0; room = holds-room _ _ _ _ _ (s .pre .1); held = fresh 128 }
 
-enum-known-filled : tie.Need-enum-known-filled
-enum-known-filled c = search needs
-
 returns : tie.Need-returns
-returns c = right-refused _ 20 [] [] (grown-empty _ _ _ _ _ (c .before .before .before .before .widen-all .ensures) _ (c .before .before .filled .given .1) (c .if1 .taken))
-
-enum-told : tie.Need-enum-told
-enum-told c = search needs
+returns c =
+    let after-filled = c .before .before in
+    let after-widen-all = after-filled .before .before in
+    right-refused _ 20 [] [] (grown-empty _ _ _ _ _ (after-widen-all .widen-all .ensures) _ (after-filled .filled .given .1)
+    (c .if1 .taken))
 
 returns-2 : tie.Need-returns-2
-returns-2 c = right-table _ _ _ _ (grown-table _ _ _ _ _ (c .before .before .before .before .widen-all .ensures) _ (c .before .before .filled .given .1) (c .if1 .left))
+returns-2 c =
+    let after-filled = c .before .before in
+    let after-widen-all = after-filled .before .before in
+    right-table _ _ _ _ (grown-table _ _ _ _ _ (after-widen-all .widen-all .ensures) _ (after-filled .filled .given .1) (c .if1 .left))
 
 returns-3 : tie.Need-returns-3
 returns-3 c = right-refused _ 21 [] [] (grown-full _ _ _ _ _ (c .before .before .widen-all .ensures) (c .enum-told .given .1))
@@ -31,8 +33,8 @@ grow-spec =
     tie.close
     (tie.spec
     widen-all-requires
-    enum-known-filled
+    (λ c. search needs)
     returns
-    enum-told
+    (λ c. search needs)
     returns-2
     returns-3)

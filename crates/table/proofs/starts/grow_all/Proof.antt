@@ -19,7 +19,8 @@ use Rattle.table.proofs.starts.grow_all.Tie as tie
 abbrev Inv-loop : tie.InvT-loop
 Inv-loop exclusive clauses size trues₀ falses₀ count filled₀ i₀ trues falses filled i =
     (i ≤ size)
-    × Sections (growAll 128 (map (clauseOf exclusive) (clausesAt size clauses)) (entriesOf count trues₀ falses₀)) (map (clauseOf exclusive) (drop i (clausesAt size clauses))) filled trues falses
+    × Sections (growAll 128 (map (clauseOf exclusive) (clausesAt size clauses)) (entriesOf count trues₀ falses₀))
+    (map (clauseOf exclusive) (drop i (clausesAt size clauses))) filled trues falses
 
 abbrev μ-loop : tie.MeasureT-loop
 μ-loop exclusive clauses size trues₀ falses₀ count filled₀ i₀ trues falses filled i = size - i
@@ -27,57 +28,46 @@ abbrev μ-loop : tie.MeasureT-loop
 loop-holds : tie.Need-loop-holds Inv-loop μ-loop
 loop-holds c = (omega arith, record { held = c .before .pre .1; onwards = refl })
 
-mul-at : tie.Need-mul-at Inv-loop μ-loop
-mul-at c = omega arith
-
-add-grow : tie.Need-add-grow Inv-loop μ-loop
-add-grow c = omega arith
-
-mul-grow : tie.Need-mul-grow Inv-loop μ-loop
-mul-grow c = omega arith
-
-sub-grow : tie.Need-sub-grow Inv-loop μ-loop
-sub-grow c = omega arith
-
-part-grow-start : tie.Need-part-grow-start Inv-loop μ-loop
-part-grow-start c = omega arith
-
-part-grow-end : tie.Need-part-grow-end Inv-loop μ-loop
-part-grow-end c = omega arith
-
 grow-requires : tie.Need-grow-requires Inv-loop μ-loop
 grow-requires c κs =
-    let s = c .before .before .before .before .before .before in
-    (clause-fits (s .args .size) (s .args .clauses .now) (c .before .before .before .before .loop .i) (s .pre .0) (c .before .before .before .loop-test .taken), c .before .before .before .before .loop .inv .1 .held)
-
-enum-known-grown : tie.Need-enum-known-grown Inv-loop μ-loop
-enum-known-grown c = search needs
-
-enum-known-number : tie.Need-enum-known-number Inv-loop μ-loop
-enum-known-number c = search needs
+    let after-loop-test = c .before .before .before in
+    let at-loop = after-loop-test .before in
+    let after-6 = at-loop .before .before in
+    let s = after-6 in (
+      clause-fits (s .args .size) (s .args .clauses .now) (at-loop .loop .i) (s .pre .0) (after-loop-test .loop-test .taken),
+      at-loop .loop .inv .1 .held,
+    )
 
 returns : tie.Need-returns Inv-loop μ-loop
 returns c =
-    let s = c .before .before .before .before .before .before .before .before .before .before in
-    let q = ap (map (clauseOf (s .args .exclusive))) (items-step 17 setsIn (s .args .size) (s .args .clauses .now) (c .before .before .before .before .before .before .before .before .loop .i) _ (c .before .before .before .before .before .before .before .loop-test .taken) (clause-is (s .args .clauses .now) (c .before .before .before .before .before .before .before .before .loop .i))) in
-    sections-refused _ _ _ _ _ _ _ (c .before .before .before .before .before .before .before .before .loop .inv .1) q _ _ _ (c .before .before .before .grow .ensures) _ _ (c .before .number .given .1)
-
-add-i : tie.Need-add-i Inv-loop μ-loop
-add-i c = search needs
-
-loop-less : tie.Need-loop-less Inv-loop μ-loop
-loop-less c = search needs
+    let after-grow = c .before .before .before in
+    let after-loop-test = after-grow .before .before .before .before in
+    let at-loop = after-loop-test .before in
+    let after-10 = at-loop .before .before in
+    let s = after-10 in
+    let q = ap (map (clauseOf (s .args .exclusive)))
+    (items-step 17 setsIn (s .args .size) (s .args .clauses .now) (at-loop .loop .i) _ (after-loop-test .loop-test .taken)
+    (clause-is (s .args .clauses .now) (at-loop .loop .i))) in
+    sections-refused _ _ _ _ _ _ _ (at-loop .loop .inv .1) q _ _ _ (after-grow .grow .ensures) _ _ (c .before .number .given .1)
 
 loop-again : tie.Need-loop-again Inv-loop μ-loop
 loop-again c =
-    let s = c .before .before .before .before .before .before .before .before .before .before in
-    let q = ap (map (clauseOf (s .args .exclusive))) (items-step 17 setsIn (s .args .size) (s .args .clauses .now) (c .before .before .before .before .before .before .before .before .loop .i) _ (c .before .before .before .before .before .before .before .loop-test .taken) (clause-is (s .args .clauses .now) (c .before .before .before .before .before .before .before .before .loop .i))) in
-    (omega arith, sections-on _ _ _ _ _ _ _ (c .before .before .before .before .before .before .before .before .loop .inv .1) q _ _ _ (c .before .before .before .grow .ensures) _ (c .before .grown .given .1))
+    let after-grow = c .before .before .before in
+    let after-loop-test = after-grow .before .before .before .before in
+    let at-loop = after-loop-test .before in
+    let after-10 = at-loop .before .before in
+    let s = after-10 in
+    let q = ap (map (clauseOf (s .args .exclusive)))
+    (items-step 17 setsIn (s .args .size) (s .args .clauses .now) (at-loop .loop .i) _ (after-loop-test .loop-test .taken)
+    (clause-is (s .args .clauses .now) (at-loop .loop .i))) in
+    (omega arith, sections-on _ _ _ _ _ _ _ (at-loop .loop .inv .1) q _ _ _ (after-grow .grow .ensures) _ (c .before .grown .given .1))
 
 returns-2 : tie.Need-returns-2 Inv-loop μ-loop
 returns-2 c =
     let s = c .before .before .before in
-    sections-end _ _ _ _ _ (c .before .loop .inv .1) (ap (map (clauseOf (s .args .exclusive))) (items-end 17 setsIn (s .args .size) (s .args .clauses .now) (c .before .loop .i) (c .loop-test .left)))
+    sections-end _ _ _ _ _ (c .before .loop .inv .1)
+    (ap (map (clauseOf (s .args .exclusive)))
+    (items-end 17 setsIn (s .args .size) (s .args .clauses .now) (c .before .loop .i) (c .loop-test .left)))
 
 pub grow-all-spec : {M : Type 1} → statement M
 grow-all-spec =
@@ -86,17 +76,17 @@ grow-all-spec =
     Inv-loop
     μ-loop
     loop-holds
-    mul-at
-    add-grow
-    mul-grow
-    sub-grow
-    part-grow-start
-    part-grow-end
+    (λ c. omega arith)
+    (λ c. omega arith)
+    (λ c. omega arith)
+    (λ c. omega arith)
+    (λ c. omega arith)
+    (λ c. omega arith)
     grow-requires
-    enum-known-grown
-    enum-known-number
+    (λ c. search needs)
+    (λ c. search needs)
     returns
-    add-i
-    loop-less
+    (λ c. search needs)
+    (λ c. search needs)
     loop-again
     returns-2)

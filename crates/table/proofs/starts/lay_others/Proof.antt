@@ -17,53 +17,33 @@ Inv-loop alts i laid₀ size filled₀ j₀ laid filled j = (j ≤ size) × (len
 abbrev μ-loop : tie.MeasureT-loop
 μ-loop alts i laid₀ size filled₀ j₀ laid filled j = size - j
 
-count-of-requires : tie.Need-count-of-requires Inv-loop μ-loop
-count-of-requires c κs = search needs
-
 loop-holds : tie.Need-loop-holds Inv-loop μ-loop
 loop-holds c = (omega arith, c .before .before .before .pre .1, laying-start _ _ _)
-
-set-at-requires : tie.Need-set-at-requires Inv-loop μ-loop
-set-at-requires c κs = omega arith
-
-mul-laid : tie.Need-mul-laid Inv-loop μ-loop
-mul-laid c = omega arith
-
-mul-laid-2 : tie.Need-mul-laid-2 Inv-loop μ-loop
-mul-laid-2 c = omega arith
-
-slice-write-laid : tie.Need-slice-write-laid Inv-loop μ-loop
-slice-write-laid c = omega arith
-
-mul-laid-3 : tie.Need-mul-laid-3 Inv-loop μ-loop
-mul-laid-3 c = omega arith
-
-add-laid : tie.Need-add-laid Inv-loop μ-loop
-add-laid c = omega arith
-
-mul-laid-4 : tie.Need-mul-laid-4 Inv-loop μ-loop
-mul-laid-4 c = omega arith
 
 slice-write-laid-2 : tie.Need-slice-write-laid-2 Inv-loop μ-loop
 slice-write-laid-2 c = simp length-set (omega arith)
 
-add-filled : tie.Need-add-filled Inv-loop μ-loop
-add-filled c = omega arith
-
-add-j : tie.Need-add-j Inv-loop μ-loop
-add-j c = omega arith
-
-loop-less : tie.Need-loop-less Inv-loop μ-loop
-loop-less c = omega arith
-
 loop-again : tie.Need-loop-again Inv-loop μ-loop
 loop-again c =
-    let alts = c .before .before .before .before .before .before .args .alts .now in
-    let j = c .before .before .loop .j in
-    let w = c .before .before .loop .inv in
-    let e = c .before .before .before .count-of .ensures in
-    ⊎-elim (λ v. rw (v .2, v .3) (omega arith, simp length-set (w .1), laying-one _ _ _ _ _ _ (w .2) (alts-step alts j _ e _ (c .before .loop-test .taken) (v .1 .ensures)) (v .0 .taken) (omega (arith, w .2 .few))))
-    (λ v. rw (v .1, v .2) (omega arith, w .1, laying-none _ _ _ _ _ _ (w .2) (alts-step alts j _ e _ (c .before .loop-test .taken) refl) (v .0 .left))) (c .if1 .came)
+    let at-loop = c .before .before in
+    let after-count-of = at-loop .before in
+    let start = after-count-of .before .before .before in
+    let alts = start .args .alts .now in
+    let j = at-loop .loop .j in
+    let w = at-loop .loop .inv in
+    let e = after-count-of .count-of .ensures in
+    ⊎-elim (λ v. rw (v .2, v .3) (
+      omega arith,
+      simp length-set (w .1),
+      laying-one _ _ _ _ _ _ (w .2)
+          (alts-step alts j _ e _ (c .before .loop-test .taken) (v .1 .ensures)) (v .0 .taken) (omega (arith, w .2 .few)),
+    ))
+    (λ v. rw (v .1, v .2) (
+      omega arith,
+      w .1,
+      laying-none _ _ _ _ _ _ (w .2) (alts-step alts j _ e _ (c .before .loop-test .taken) refl)
+          (v .0 .left),
+    )) (c .if1 .came)
 
 same-length : tie.Need-same-length Inv-loop μ-loop
 same-length c = c .before .loop .inv .1 ∙ sym (c .before .before .before .before .before .pre .1)
@@ -79,19 +59,19 @@ lay-others-spec =
     (tie.spec
     Inv-loop
     μ-loop
-    count-of-requires
+    (λ c κs. search needs)
     loop-holds
-    set-at-requires
-    mul-laid
-    mul-laid-2
-    slice-write-laid
-    mul-laid-3
-    add-laid
-    mul-laid-4
+    (λ c κs. omega arith)
+    (λ c. omega arith)
+    (λ c. omega arith)
+    (λ c. omega arith)
+    (λ c. omega arith)
+    (λ c. omega arith)
+    (λ c. omega arith)
     slice-write-laid-2
-    add-filled
-    add-j
-    loop-less
+    (λ c. omega arith)
+    (λ c. omega arith)
+    (λ c. omega arith)
     loop-again
     same-length
     returns)

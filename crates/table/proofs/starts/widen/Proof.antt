@@ -11,31 +11,31 @@ use borrow.Author.Needs.{needs}
 use Rattle.table.proofs.starts.widen.Statement.{statement}
 use Rattle.table.proofs.starts.widen.Tie as tie
 
-widen-oneof-requires : tie.Need-widen-oneof-requires
-widen-oneof-requires c κs = search needs
-
 returns : tie.Need-returns
 returns c =
-    let s = c .before .before .before .before .before in
+    let after-if1 = c .before .before .before in
+    let after-5 = after-if1 .before .before in
+    let s = after-5 in
     puts-is _ _ _ _ _ _ _ _
-    (sym (ap (λ (b : Bool). keep L.consistent (candidates (clauseOf b (setsIn (s .args .alts .now))) (s .args .entry))) (c .before .before .before .if1 .taken)))
+    (sym (ap (λ (b : Bool). keep L.consistent (candidates (clauseOf b (setsIn (s .args .alts .now))) (s .args .entry)))
+    (after-if1 .if1 .taken)))
     (c .widen-oneof .ensures)
-
-widen-or-requires : tie.Need-widen-or-requires
-widen-or-requires c κs = search needs
 
 returns-2 : tie.Need-returns-2
 returns-2 c =
-    let s = c .before .before .before .before .before in
+    let after-if1 = c .before .before .before in
+    let after-5 = after-if1 .before .before in
+    let s = after-5 in
     puts-is _ _ _ _ _ _ _ _
-    (sym (ap (λ (b : Bool). keep L.consistent (candidates (clauseOf b (setsIn (s .args .alts .now))) (s .args .entry))) (c .before .before .before .if1 .left)))
+    (sym (ap (λ (b : Bool). keep L.consistent (candidates (clauseOf b (setsIn (s .args .alts .now))) (s .args .entry)))
+    (after-if1 .if1 .left)))
     (c .widen-or .ensures)
 
 pub widen-spec : {M : Type 1} → statement M
 widen-spec =
     tie.close
     (tie.spec
-    widen-oneof-requires
+    (λ c κs. search needs)
     returns
-    widen-or-requires
+    (λ c κs. search needs)
     returns-2)

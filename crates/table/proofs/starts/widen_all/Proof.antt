@@ -21,8 +21,10 @@ use Rattle.table.proofs.starts.widen_all.Tie as tie
 abbrev Inv-loop : tie.InvT-loop
 Inv-loop exclusive alts trues falses count to-trues₀ to-falses₀ filled₀ i₀ to-trues to-falses filled i =
     (i ≤ count)
-    × Going (keep L.consistent (collect (candidates (clauseOf exclusive (setsIn alts))) (entriesOf count trues falses))) 0 to-trues₀ to-falses₀
-    (keep L.consistent (collect (candidates (clauseOf exclusive (setsIn alts))) (drop i (entriesOf count trues falses)))) filled to-trues to-falses
+    × Going (keep L.consistent (collect (candidates (clauseOf exclusive (setsIn alts))) (entriesOf count trues falses))) 0 to-trues₀
+    to-falses₀
+    (keep L.consistent (collect (candidates (clauseOf exclusive (setsIn alts))) (drop i (entriesOf count trues falses)))) filled to-trues
+    to-falses
 
 abbrev μ-loop : tie.MeasureT-loop
 μ-loop exclusive alts trues falses count to-trues₀ to-falses₀ filled₀ i₀ to-trues to-falses filled i = count - i
@@ -30,54 +32,49 @@ abbrev μ-loop : tie.MeasureT-loop
 loop-holds : tie.Need-loop-holds Inv-loop μ-loop
 loop-holds c = (omega arith, going-start _ _ _ _ _ refl (c .before .before .before .pre .held))
 
-mul-t13 : tie.Need-mul-t13 Inv-loop μ-loop
-mul-t13 c = omega arith
-
-shared-slice-read-t15 : tie.Need-shared-slice-read-t15 Inv-loop μ-loop
-shared-slice-read-t15 c = omega arith
-
-mul-t16 : tie.Need-mul-t16 Inv-loop μ-loop
-mul-t16 c = omega arith
-
-shared-slice-read-t18 : tie.Need-shared-slice-read-t18 Inv-loop μ-loop
-shared-slice-read-t18 c = omega arith
-
 widen-requires : tie.Need-widen-requires Inv-loop μ-loop
-widen-requires c κs = record { sets = c .before .before .before .before .before .before .before .before .before .pre .sets; held = held-own _ _ _ _ (c .before .before .before .before .before .loop .inv .1 .held) }
-
-enum-known-grown : tie.Need-enum-known-grown Inv-loop μ-loop
-enum-known-grown c = search needs
-
-enum-told : tie.Need-enum-told Inv-loop μ-loop
-enum-told c = search needs
+widen-requires c κs =
+    let at-loop = c .before .before .before .before .before in
+    let start = at-loop .before .before .before .before in
+    record { sets = start .pre .sets; held = held-own _ _ _ _ (at-loop .loop .inv .1 .held) }
 
 returns : tie.Need-returns Inv-loop μ-loop
 unfolding slot
 returns c =
-    let s = c .before .before .before .before .before .before .before .before .before .before .before .before in
-    let i = c .before .before .before .before .before .before .before .before .loop .i in
-    let q = collect-step (candidates (clauseOf (s .args .exclusive) (setsIn (s .args .alts .now)))) _ _ _ (entries-next (s .args .count) (s .args .trues .now) (s .args .falses .now) i (record { trues = getD (s .args .trues .now) i 0; falses = getD (s .args .falses .now) i 0 }) (c .before .before .before .before .before .before .before .loop-test .taken) refl) in
-    going-full _ _ _ _ _ _ _ _ _ _ _ _ _ (c .before .before .before .before .before .before .before .before .loop .inv .1) q (c .before .before .widen .ensures) (c .enum-told .given .1)
-
-add-i : tie.Need-add-i Inv-loop μ-loop
-add-i c = search needs
-
-loop-less : tie.Need-loop-less Inv-loop μ-loop
-loop-less c = search needs
+    let after-widen = c .before .before in
+    let after-loop-test = after-widen .before .before .before .before .before in
+    let at-loop = after-loop-test .before in
+    let after-12 = at-loop .before .before .before .before in
+    let s = after-12 in
+    let i = at-loop .loop .i in
+    let q = collect-step (candidates (clauseOf (s .args .exclusive) (setsIn (s .args .alts .now)))) _ _ _
+    (entries-next (s .args .count) (s .args .trues .now) (s .args .falses .now) i
+    (record { trues = getD (s .args .trues .now) i 0; falses = getD (s .args .falses .now) i 0 })
+    (after-loop-test .loop-test .taken) refl) in
+    going-full _ _ _ _ _ _ _ _ _ _ _ _ _ (at-loop .loop .inv .1) q (after-widen .widen .ensures) (c .enum-told .given .1)
 
 loop-again : tie.Need-loop-again Inv-loop μ-loop
 unfolding slot
 loop-again c =
-    let s = c .before .before .before .before .before .before .before .before .before .before .before .before .before in
-    let i = c .before .before .before .before .before .before .before .before .before .loop .i in
-    let q = collect-step (candidates (clauseOf (s .args .exclusive) (setsIn (s .args .alts .now)))) _ _ _ (entries-next (s .args .count) (s .args .trues .now) (s .args .falses .now) i (record { trues = getD (s .args .trues .now) i 0; falses = getD (s .args .falses .now) i 0 }) (c .before .before .before .before .before .before .before .before .loop-test .taken) refl) in
+    let after-widen = c .before .before .before in
+    let after-loop-test = after-widen .before .before .before .before .before in
+    let at-loop = after-loop-test .before in
+    let after-13 = at-loop .before .before .before .before in
+    let s = after-13 in
+    let i = at-loop .loop .i in
+    let q = collect-step (candidates (clauseOf (s .args .exclusive) (setsIn (s .args .alts .now)))) _ _ _
+    (entries-next (s .args .count) (s .args .trues .now) (s .args .falses .now) i
+    (record { trues = getD (s .args .trues .now) i 0; falses = getD (s .args .falses .now) i 0 })
+    (after-loop-test .loop-test .taken) refl) in
     let le : i + 1 ≤ s .args .count = omega arith in
-    (le, going-on _ _ _ _ _ _ _ _ _ _ _ _ _ (c .before .before .before .before .before .before .before .before .before .loop .inv .1) q (c .before .before .before .widen .ensures) _ (c .before .grown .given .1))
+    (le, going-on _ _ _ _ _ _ _ _ _ _ _ _ _ (at-loop .loop .inv .1) q (after-widen .widen .ensures) _ (c .before .grown .given .1))
 
 returns-2 : tie.Need-returns-2 Inv-loop μ-loop
 returns-2 c =
     let s = c .before .before .before .before .before in
-    going-end _ _ _ _ _ _ _ _ (c .before .loop .inv .1) (collect-end _ _ (entries-done (s .args .count) (s .args .trues .now) (s .args .falses .now) (c .before .loop .i) (c .loop-test .left)))
+    going-end _ _ _ _ _ _ _ _ (c .before .loop .inv .1)
+    (collect-end _ _ (entries-done (s .args .count) (s .args .trues .now) (s .args .falses .now) (c .before .loop .i)
+    (c .loop-test .left)))
 
 pub widen-all-spec : {M : Type 1} → statement M
 widen-all-spec =
@@ -86,15 +83,15 @@ widen-all-spec =
     Inv-loop
     μ-loop
     loop-holds
-    mul-t13
-    shared-slice-read-t15
-    mul-t16
-    shared-slice-read-t18
+    (λ c. omega arith)
+    (λ c. omega arith)
+    (λ c. omega arith)
+    (λ c. omega arith)
     widen-requires
-    enum-known-grown
-    enum-told
+    (λ c. search needs)
+    (λ c. search needs)
     returns
-    add-i
-    loop-less
+    (λ c. search needs)
+    (λ c. search needs)
     loop-again
     returns-2)

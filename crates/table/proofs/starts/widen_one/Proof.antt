@@ -18,52 +18,51 @@ use Rattle.table.proofs.starts.widen_one.Statement.{statement}
 use Rattle.table.proofs.starts.widen_one.Tie as tie
 
 -- the alternative is read in its slot
-picked : (laid : List ℕ) (i : ℕ) (d a w : Literals) → i < getD laid 0 0 → a ≡ setFrom (drop 1 laid) (2 * i) → w ≡ L.join d a → w ≡ L.join d (getD (setsIn laid) i L.noLiteral)
+picked : (laid : List ℕ) (i : ℕ) (d a w : Literals) → i < getD laid 0 0 → a ≡ setFrom (drop 1 laid) (2 * i) → w ≡ L.join d a
+    → w ≡ L.join d (getD (setsIn laid) i L.noLiteral)
 picked laid i d a w h q e = e ∙ ap (L.join d) (sym (alt-at laid i a h q))
-
-set-at-requires : tie.Need-set-at-requires
-set-at-requires c κs = search needs
-
-join-requires : tie.Need-join-requires
-join-requires c κs = search needs
-
-consistent-requires : tie.Need-consistent-requires
-consistent-requires c κs = search needs
 
 returns : tie.Need-returns
 returns c =
-    let s = c .before .before .before .before .before in
-    let e = picked _ _ _ _ _ (s .pre .1) (c .before .before .before .set-at .ensures) (c .before .before .join .ensures) in
-    nothing-put _ _ _ _ (cut (others (s .args .i) 0 (setsIn (s .args .alts .now))) _ (ap L.consistent (sym e) ∙ sym (c .before .consistent .ensures) ∙ not-true _ (c .if1 .taken))) (s .pre .0 .held)
-
-slice-aggregate-lay-others : tie.Need-slice-aggregate-lay-others
-slice-aggregate-lay-others c = search needs
-
-lay-others-requires : tie.Need-lay-others-requires
-lay-others-requires c κs = search needs
+    let after-join = c .before .before in
+    let after-set-at = after-join .before in
+    let after-5 = after-set-at .before .before in
+    let s = after-5 in
+    let e = picked _ _ _ _ _ (s .pre .1) (after-set-at .set-at .ensures) (after-join .join .ensures) in
+    nothing-put _ _ _ _ (cut (others (s .args .i) 0 (setsIn (s .args .alts .now))) _
+    (ap L.consistent (sym e) ∙ sym (c .before .consistent .ensures) ∙ not-true _ (c .if1 .taken))) (s .pre .0 .held)
 
 choose-requires : tie.Need-choose-requires
 choose-requires c κs =
+    let after-lay-others = c .before .before .before .before in
+    let after-if1 = after-lay-others .before .before in
+    let after-consistent = after-if1 .before in
+    let start = after-consistent .before .before .before .before in
     record {
-      room = c .before .before .before .before .lay-others .ensures .0;
-      steady = sym (c .before .before .before .before .before .before .before .consistent .ensures) ∙ not-false _ (c .before .before .before .before .before .before .if1 .left);
-      held = c .before .before .before .before .before .before .before .before .before .before .before .pre .0 .held;
+      room = after-lay-others .lay-others .ensures .0;
+      steady = sym (after-consistent .consistent .ensures) ∙ not-false _ (after-if1 .if1 .left);
+      held = start .pre .0 .held;
     }
 
 returns-2 : tie.Need-returns-2
 returns-2 c =
-    let e = picked _ _ _ _ _ (c .before .before .before .before .before .before .before .before .before .before .before .before .pre .1) (c .before .before .before .before .before .before .before .before .before .before .set-at .ensures) (c .before .before .before .before .before .before .before .before .before .join .ensures) in
-    puts-is _ _ _ _ _ _ _ _ (ap₂ (λ (x : List Literals) (d : Literals). keep L.consistent (falsify x d)) (c .before .before .before .before .before .lay-others .ensures .1) e) (c .choose .ensures)
+    let after-lay-others = c .before .before .before .before .before in
+    let after-join = after-lay-others .before .before .before .before in
+    let after-set-at = after-join .before in
+    let start = after-set-at .before .before in
+    let e = picked _ _ _ _ _ (start .pre .1) (after-set-at .set-at .ensures) (after-join .join .ensures) in
+    puts-is _ _ _ _ _ _ _ _ (ap₂ (λ (x : List Literals) (d : Literals). keep L.consistent (falsify x d))
+    (after-lay-others .lay-others .ensures .1) e) (c .choose .ensures)
 
 pub widen-one-spec : {M : Type 1} → statement M
 widen-one-spec =
     tie.close
     (tie.spec
-    set-at-requires
-    join-requires
-    consistent-requires
+    (λ c κs. search needs)
+    (λ c κs. search needs)
+    (λ c κs. search needs)
     returns
-    slice-aggregate-lay-others
-    lay-others-requires
+    (λ c. search needs)
+    (λ c κs. search needs)
     choose-requires
     returns-2)

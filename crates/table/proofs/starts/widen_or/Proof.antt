@@ -24,47 +24,41 @@ Inv-loop alts entry to-trues₀ to-falses₀ count size filled₀ i₀ to-trues 
 abbrev μ-loop : tie.MeasureT-loop
 μ-loop alts entry to-trues₀ to-falses₀ count size filled₀ i₀ to-trues to-falses filled i = size - i
 
-count-of-requires : tie.Need-count-of-requires Inv-loop μ-loop
-count-of-requires c κs = search needs
-
 loop-holds : tie.Need-loop-holds Inv-loop μ-loop
 loop-holds c = (omega arith, going-start _ _ _ _ _ refl (c .before .before .pre .held))
-
-set-at-requires : tie.Need-set-at-requires Inv-loop μ-loop
-set-at-requires c κs = search needs
-
-join-requires : tie.Need-join-requires Inv-loop μ-loop
-join-requires c κs = search needs
 
 admit-requires : tie.Need-admit-requires Inv-loop μ-loop
 admit-requires c κs = held-own _ _ _ _ (c .before .before .before .before .before .loop .inv .1 .held)
 
-enum-known-grown : tie.Need-enum-known-grown Inv-loop μ-loop
-enum-known-grown c = search needs
-
-enum-told : tie.Need-enum-told Inv-loop μ-loop
-enum-told c = search needs
-
 returns : tie.Need-returns Inv-loop μ-loop
 returns c =
-    going-full _ _ _ _ _ _ _ _ _ _ _ _ _ (c .before .before .before .before .before .before .before .before .loop .inv .1)
-    (or-step _ _ _ _ _ (alts-step _ _ _ (c .before .before .before .before .before .before .before .before .before .count-of .ensures) _ (c .before .before .before .before .before .before .before .loop-test .taken) (c .before .before .before .before .before .before .set-at .ensures)) (c .before .before .before .join .ensures)) (c .before .before .admit .ensures) (c .enum-told .given .1)
-
-add-i : tie.Need-add-i Inv-loop μ-loop
-add-i c = search needs
-
-loop-less : tie.Need-loop-less Inv-loop μ-loop
-loop-less c = search needs
+    let after-admit = c .before .before in
+    let after-join = after-admit .before in
+    let after-set-at = after-join .before .before .before in
+    let after-loop-test = after-set-at .before in
+    let at-loop = after-loop-test .before in
+    let after-count-of = at-loop .before in
+    going-full _ _ _ _ _ _ _ _ _ _ _ _ _ (at-loop .loop .inv .1)
+    (or-step _ _ _ _ _ (alts-step _ _ _ (after-count-of .count-of .ensures) _ (after-loop-test .loop-test .taken)
+    (after-set-at .set-at .ensures)) (after-join .join .ensures)) (after-admit .admit .ensures) (c .enum-told .given .1)
 
 loop-again : tie.Need-loop-again Inv-loop μ-loop
-loop-again c = (
-  omega arith,
-  going-on _ _ _ _ _ _ _ _ _ _ _ _ _ (c .before .before .before .before .before .before .before .before .before .loop .inv .1)
-      (or-step _ _ _ _ _ (alts-step _ _ _ (c .before .before .before .before .before .before .before .before .before .before .count-of .ensures) _ (c .before .before .before .before .before .before .before .before .loop-test .taken) (c .before .before .before .before .before .before .before .set-at .ensures)) (c .before .before .before .before .join .ensures)) (c .before .before .before .admit .ensures) _ (c .before .grown .given .1),
-)
+loop-again c =
+    let after-admit = c .before .before .before in
+    let after-join = after-admit .before in
+    let after-set-at = after-join .before .before .before in
+    let after-loop-test = after-set-at .before in
+    let at-loop = after-loop-test .before in
+    let after-count-of = at-loop .before in (
+      omega arith,
+      going-on _ _ _ _ _ _ _ _ _ _ _ _ _ (at-loop .loop .inv .1)
+          (or-step _ _ _ _ _ (alts-step _ _ _ (after-count-of .count-of .ensures) _ (after-loop-test .loop-test .taken)
+          (after-set-at .set-at .ensures)) (after-join .join .ensures)) (after-admit .admit .ensures) _ (c .before .grown .given .1),
+    )
 
 returns-2 : tie.Need-returns-2 Inv-loop μ-loop
-returns-2 c = going-end _ _ _ _ _ _ _ _ (c .before .loop .inv .1) (or-end _ _ (alts-end _ _ _ (c .before .before .count-of .ensures) (c .loop-test .left)))
+returns-2 c = going-end _ _ _ _ _ _ _ _ (c .before .loop .inv .1)
+    (or-end _ _ (alts-end _ _ _ (c .before .before .count-of .ensures) (c .loop-test .left)))
 
 pub widen-or-spec : {M : Type 1} → statement M
 widen-or-spec =
@@ -72,15 +66,15 @@ widen-or-spec =
     (tie.spec
     Inv-loop
     μ-loop
-    count-of-requires
+    (λ c κs. search needs)
     loop-holds
-    set-at-requires
-    join-requires
+    (λ c κs. search needs)
+    (λ c κs. search needs)
     admit-requires
-    enum-known-grown
-    enum-told
+    (λ c. search needs)
+    (λ c. search needs)
     returns
-    add-i
-    loop-less
+    (λ c. search needs)
+    (λ c. search needs)
     loop-again
     returns-2)

@@ -1,4 +1,5 @@
--- The cycle {split}: the measure is the number of conditions left. The invariant: the parts from turn t on give what is left. Assumes nothing.
+-- The cycle {split}: the measure is the number of conditions left. The invariant: the parts from turn t on give what is left. Assumes
+-- nothing.
 use mathlib.Core.Path.{_≡_, refl, sym, subst}
 use mathlib.Core.List.{_∷_, map, _++_}
 use mathlib.Core.Logic.{⊎-elim}
@@ -42,7 +43,26 @@ abbrev split-below : ℕ → In 3 split-kinds.ps
 split-below t = and 3 split-kinds.ps (falls 3 split-kinds.ps _<_ μ-split t) split.Pre
 
 abbrev claims : ℕ → split-lts.Claims
-claims t = (effect-at-reads.Asked, effect-at-reads.Learnt, minus-reads.Asked, minus-reads.Learnt, part-reads.Asked, part-reads.Learnt, carried-reads.Asked, carried-reads.Learnt, skip-decided-reads.Asked, skip-decided-reads.Learnt, split-below t, split.Post, replace-reads.Asked, replace-reads.Learnt, offer-by-newest-reads.Asked, offer-by-newest-reads.Learnt, next-reads.Asked, next-reads.Learnt)
+claims t = (
+  effect-at-reads.Asked,
+  effect-at-reads.Learnt,
+  minus-reads.Asked,
+  minus-reads.Learnt,
+  part-reads.Asked,
+  part-reads.Learnt,
+  carried-reads.Asked,
+  carried-reads.Learnt,
+  skip-decided-reads.Asked,
+  skip-decided-reads.Learnt,
+  split-below t,
+  split.Post,
+  replace-reads.Asked,
+  replace-reads.Learnt,
+  offer-by-newest-reads.Asked,
+  offer-by-newest-reads.Learnt,
+  next-reads.Asked,
+  next-reads.Learnt,
+)
 
 abbrev split-Inv-loop : split-lts.InvT-loop
 split-Inv-loop effects size piece to-trues₀ to-falses₀ count at results e condition missing next filled₀ t₀ to-trues to-falses filled t =
@@ -51,17 +71,21 @@ split-Inv-loop effects size piece to-trues₀ to-falses₀ count at results e co
     (partsFrom (effectsAt size effects) (drop next (effectsAt size effects)) condition piece missing t) filled to-trues to-falses
 
 abbrev split-μ-loop : split-lts.MeasureT-loop
-split-μ-loop effects size piece to-trues₀ to-falses₀ count at results e condition missing next filled₀ t₀ to-trues to-falses filled t = 65 - t
+split-μ-loop effects size piece to-trues₀ to-falses₀ count at results e condition missing next filled₀ t₀ to-trues to-falses filled
+    t = 65 - t
 
 -- the condition at hand is the first that is left
 here : (t : ℕ) (c : split-lts.After-effect-at (claims t) (split-at t) split.Post split-Inv-loop split-μ-loop)
     → let a = c .before .before .before .args in
     let es = effectsAt (a .size) (a .effects .now) in
     drop (a .undecided .at) es ≡ c .effect-at .result ∷ drop (a .undecided .at + 1) es
-here t c = let o = c .before .before .before in effects-step (o .args .size) (o .args .effects .now) (o .args .undecided .at) _ (o .pre .1 .below) (c .effect-at .ensures)
+here t c = let o = c .before .before .before in effects-step (o .args .size) (o .args .effects .now) (o .args .undecided .at) _
+    (o .pre .1 .below) (c .effect-at .ensures)
 
-splits : (t : ℕ) (c : split-lts.After-effect-at (claims t) (split-at t) split.Post split-Inv-loop split-μ-loop) → Splits (c .effect-at .result .condition) (c .before .before .before .args .piece)
-splits t c = let o = c .before .before .before in subst (λ (e : Effect). Splits (e .condition) (o .args .piece)) (sym (c .effect-at .ensures)) (o .pre .1 .splits)
+splits : (t : ℕ) (c : split-lts.After-effect-at (claims t) (split-at t) split.Post split-Inv-loop split-μ-loop)
+    → Splits (c .effect-at .result .condition) (c .before .before .before .args .piece)
+splits t c = let o = c .before .before .before in subst (λ (e : Effect). Splits (e .condition) (o .args .piece))
+    (sym (c .effect-at .ensures)) (o .pre .1 .splits)
 
 -- the part of this turn comes first, and then those from the next turn on
 turned : (t : ℕ) (c : split-lts.After-skip-decided (claims t) (split-at t) split.Post split-Inv-loop split-μ-loop) (n : ℕ)
@@ -71,9 +95,11 @@ turned : (t : ℕ) (c : split-lts.After-skip-decided (claims t) (split-at t) spl
     let d = c .before .before .before .before .before .before .before .effect-at .result .condition in
     let m = c .before .before .before .before .before .minus .result in
     n ≡ nextOf m (c .before .before .before .before .loop .t)
-    → partsFrom es hs d (a .piece) m (c .before .before .before .before .loop .t) ≡ map (image es) (pieces hs (c .before .before .part .result)) ++ partsFrom es hs d (a .piece) m (n + 1)
+    → partsFrom es hs d (a .piece) m (c .before .before .before .before .loop .t)
+    ≡ map (image es) (pieces hs (c .before .before .part .result)) ++ partsFrom es hs d (a .piece) m (n + 1)
 turned t c n q =
-    parts-turn _ _ _ _ _ (c .before .before .before .before .loop .t) n (c .before .before .before .loop-test .taken) (c .before .before .before .before .loop .inv .0) q _ (c .before .before .part .ensures)
+    parts-turn _ _ _ _ _ (c .before .before .before .before .loop .t) n (c .before .before .before .loop-test .taken)
+    (c .before .before .before .before .loop .inv .0) q _ (c .before .before .part .ensures)
 
 split-effect-at-requires : (t : ℕ) → split-lts.Need-effect-at-requires (claims t) (split-at t) split.Post split-Inv-loop split-μ-loop
 split-effect-at-requires t c κs = search needs
@@ -87,8 +113,12 @@ split-add-next t c = search needs
 split-loop-holds : (t : ℕ) → split-lts.Need-loop-holds (claims t) (split-at t) split.Post split-Inv-loop split-μ-loop
 split-loop-holds t c =
     let o = c .before .before .before .before .before in
-    let s = splits t (c .before .before) in
-    (turn-start _, going-start _ _ _ _ _ (parts-start (effectsAt (o .args .size) (o .args .effects .now)) _ _ _ (o .args .piece) (here t (c .before .before)) _ (rw (s .lacking, s .apart)) (c .minus .ensures)) (o .pre .1 .held))
+    let s = splits t (c .before .before) in (
+      turn-start _,
+      going-start _ _ _ _ _
+          (parts-start (effectsAt (o .args .size) (o .args .effects .now)) _ _ _ (o .args .piece) (here t (c .before .before)) _
+          (rw (s .lacking, s .apart)) (c .minus .ensures)) (o .pre .1 .held),
+    )
 
 split-part-requires : (t : ℕ) → split-lts.Need-part-requires (claims t) (split-at t) split.Post split-Inv-loop split-μ-loop
 split-part-requires t c κs = search needs
@@ -101,7 +131,9 @@ split-skip-decided-requires t c κs =
     let o = c .before .before .before .before .before .before .before .before .before in
     let v = c .before .before .before .loop in (
       o .pre .1 .effects-room,
-      past-part _ _ _ _ (here t (c .before .before .before .before .before .before)) _ _ (o .pre .1 .carried) _ (c .before .before .before .before .minus .ensures) (splits t (c .before .before .before .before .before .before) .apart) (v .t) (c .before .before .loop-test .taken) (v .inv .0) _ _ (c .before .part .ensures) (c .carried .ensures),
+      past-part _ _ _ _ (here t (c .before .before .before .before .before .before)) _ _ (o .pre .1 .carried) _
+          (c .before .before .before .before .minus .ensures) (splits t (c .before .before .before .before .before .before) .apart) (v .t)
+          (c .before .before .loop-test .taken) (v .inv .0) _ _ (c .before .part .ensures) (c .carried .ensures),
     )
 
 split-split-requires : (t : ℕ) → split-lts.Need-split-requires (claims t) (split-at t) split.Post split-Inv-loop split-μ-loop
@@ -128,13 +160,16 @@ split-enum-told t c = search needs
 split-returns : (t : ℕ) → split-lts.Need-returns (claims t) (split-at t) split.Post split-Inv-loop split-μ-loop
 split-returns t c =
     let s = c .before .before .before .before .before .before .before in
-    going-full _ _ _ _ _ _ _ _ _ _ _ _ _ (s .before .before .before .before .loop .inv .1) (turned t s _ refl) (settles-puts _ _ _ _ (s .skip-decided .ensures .0) _ _ _ _ _ _ (c .before .before .split .ensures)) (c .enum-told .given .1)
+    going-full _ _ _ _ _ _ _ _ _ _ _ _ _ (s .before .before .before .before .loop .inv .1) (turned t s _ refl)
+    (settles-puts _ _ _ _ (s .skip-decided .ensures .0) _ _ _ _ _ _ (c .before .before .split .ensures)) (c .enum-told .given .1)
 
 split-replace-requires : (t : ℕ) → split-lts.Need-replace-requires (claims t) (split-at t) split.Post split-Inv-loop split-μ-loop
 split-replace-requires t c κs = search needs
 
-split-offer-by-newest-requires : (t : ℕ) → split-lts.Need-offer-by-newest-requires (claims t) (split-at t) split.Post split-Inv-loop split-μ-loop
-split-offer-by-newest-requires t c κs = held-own _ _ _ _ (c .before .before .before .before .before .before .before .before .before .loop .inv .1 .held)
+split-offer-by-newest-requires : (t : ℕ) → split-lts.Need-offer-by-newest-requires (claims t) (split-at t) split.Post split-Inv-loop
+    split-μ-loop
+split-offer-by-newest-requires t c κs = held-own _ _ _ _
+    (c .before .before .before .before .before .before .before .before .before .loop .inv .1 .held)
 
 split-enum-known-grown-2 : (t : ℕ) → split-lts.Need-enum-known-grown-2 (claims t) (split-at t) split.Post split-Inv-loop split-μ-loop
 split-enum-known-grown-2 t c = search needs
@@ -147,13 +182,17 @@ split-returns-2 t c =
     let s = c .before .before .before .before .before .before .before .before in
     let a = s .before .before .before .before .before .before .before .before .before .before .args in
     going-full _ _ _ _ _ _ _ _ _ _ _ _ _ (s .before .before .before .before .loop .inv .1) (turned t s _ refl)
-    (settles-leaf _ _ _ _ (s .skip-decided .ensures .0) (effects-end (a .size) (a .effects .now) (s .skip-decided .result .at) (omega (arith, c .before .before .before .before .before .before .if1 .left))) _ (c .before .before .before .replace .ensures) _ _ _ _ _ _ (c .before .before .offer-by-newest .ensures)) (c .enum-told2 .given .1)
+    (settles-leaf _ _ _ _ (s .skip-decided .ensures .0)
+    (effects-end (a .size) (a .effects .now) (s .skip-decided .result .at)
+    (omega (arith, c .before .before .before .before .before .before .if1 .left))) _ (c .before .before .before .replace .ensures)
+    _ _ _ _ _ _ (c .before .before .offer-by-newest .ensures)) (c .enum-told2 .given .1)
 
 split-next-requires : (t : ℕ) → split-lts.Need-next-requires (claims t) (split-at t) split.Post split-Inv-loop split-μ-loop
 split-next-requires t c κs = search needs
 
 split-add-t : (t : ℕ) → split-lts.Need-add-t (claims t) (split-at t) split.Post split-Inv-loop split-μ-loop
-split-add-t t c = let k : c .next .result ≤ 64 = turn-most _ (c .before .before .before .before .before .before .before .loop .t) _ (c .next .ensures) (c .before .before .before .before .before .before .loop-test .taken) in omega (arith, k)
+split-add-t t c = let k : c .next .result ≤ 64 = turn-most _ (c .before .before .before .before .before .before .before .loop .t) _
+    (c .next .ensures) (c .before .before .before .before .before .before .loop-test .taken) in omega (arith, k)
 
 split-loop-less : (t : ℕ) → split-lts.Need-loop-less (claims t) (split-at t) split.Post split-Inv-loop split-μ-loop
 split-loop-less t c =
@@ -168,10 +207,13 @@ split-loop-again t c =
       turn-on _ (v .t) _ (c .next .ensures),
       ⊎-elim
           (λ x. going-at _ _ _ _ _ _ _ _ _ _ _ (x .9) (x .7) (x .8)
-          (going-on _ _ _ _ _ _ _ _ _ _ _ _ _ (v .inv .1) (turned t s _ (c .next .ensures)) (settles-puts _ _ _ _ (s .skip-decided .ensures .0) _ _ _ _ _ _ (x .3 .ensures)) _ (x .5 .given .1)))
+          (going-on _ _ _ _ _ _ _ _ _ _ _ _ _ (v .inv .1) (turned t s _ (c .next .ensures))
+          (settles-puts _ _ _ _ (s .skip-decided .ensures .0) _ _ _ _ _ _ (x .3 .ensures)) _ (x .5 .given .1)))
           (λ x. going-at _ _ _ _ _ _ _ _ _ _ _ (x .10) (x .8) (x .9)
           (going-on _ _ _ _ _ _ _ _ _ _ _ _ _ (v .inv .1) (turned t s _ (c .next .ensures))
-          (settles-leaf _ _ _ _ (s .skip-decided .ensures .0) (effects-end (a .size) (a .effects .now) (s .skip-decided .result .at) (omega (arith, x .0 .left))) _ (x .3 .ensures) _ _ _ _ _ _ (x .4 .ensures)) _ (x .6 .given .1)))
+          (settles-leaf _ _ _ _ (s .skip-decided .ensures .0)
+          (effects-end (a .size) (a .effects .now) (s .skip-decided .result .at) (omega (arith, x .0 .left))) _ (x .3 .ensures) _ _ _ _
+          _ _ (x .4 .ensures)) _ (x .6 .given .1)))
           (c .before .if1 .came),
     )
 

@@ -15,7 +15,8 @@ use Rattle.table.proofs.steps.admitted.Tie as tie
 
 abbrev Inv-loop : tie.InvT-loop
 Inv-loop c trues falses count found₀ i₀ found i =
-    (i ≤ count) × (anyOf (λ d. consistent (join d c)) (entriesOf count trues falses) ≡ (found || anyOf (λ d. consistent (join d c)) (drop i (entriesOf count trues falses))))
+    (i ≤ count) × (anyOf (λ d. consistent (join d c)) (entriesOf count trues falses)
+    ≡ (found || anyOf (λ d. consistent (join d c)) (drop i (entriesOf count trues falses))))
 
 abbrev μ-loop : tie.MeasureT-loop
 μ-loop c trues falses count found₀ i₀ found i = count - i
@@ -23,38 +24,32 @@ abbrev μ-loop : tie.MeasureT-loop
 loop-holds : tie.Need-loop-holds Inv-loop μ-loop
 loop-holds c = (omega arith, refl)
 
-entry-at-requires : tie.Need-entry-at-requires Inv-loop μ-loop
-entry-at-requires c κs = search needs
-
-join-requires : tie.Need-join-requires Inv-loop μ-loop
-join-requires c κs = search needs
-
-consistent-requires : tie.Need-consistent-requires Inv-loop μ-loop
-consistent-requires c κs = search needs
-
-add-i : tie.Need-add-i Inv-loop μ-loop
-add-i c = omega arith
-
-loop-less : tie.Need-loop-less Inv-loop μ-loop
-loop-less c = omega arith
-
 loop-again : tie.Need-loop-again Inv-loop μ-loop
 loop-again c =
-    let a = c .before .before .before .before .before .before .before .before .args in
-    let g = c .before .before .before .before .before .loop in
-    let q = entries-next (a .count) (a .trues .now) (a .falses .now) (g .i) _ (omega arith) (c .before .before .before .entry-at .ensures) in
-    let w = c .before .consistent .ensures ∙ ap consistent (c .before .before .join .ensures) in (
+    let after-join = c .before .before in
+    let after-entry-at = after-join .before in
+    let at-loop = after-entry-at .before .before in
+    let start = at-loop .before .before .before in
+    let a = start .args in
+    let g = at-loop .loop in
+    let q = entries-next (a .count) (a .trues .now) (a .falses .now) (g .i) _ (omega arith) (after-entry-at .entry-at .ensures) in
+    let w = c .before .consistent .ensures ∙ ap consistent (after-join .join .ensures) in (
       omega arith,
       ⊎-elim
-          (λ v. g .inv .1 ∙ any-mark (λ d. consistent (join d (a .c))) _ _ _ _ q w (g .found) (v .0 .taken) ∙ sym (ap (λ (t : Bool). t || anyOf (λ d. consistent (join d (a .c))) (drop (g .i + 1) (entriesOf (a .count) (a .trues .now) (a .falses .now)))) (v .1)))
-          (λ v. g .inv .1 ∙ any-keep (λ d. consistent (join d (a .c))) _ _ _ _ q w (g .found) (v .0 .left) ∙ sym (ap (λ (t : Bool). t || anyOf (λ d. consistent (join d (a .c))) (drop (g .i + 1) (entriesOf (a .count) (a .trues .now) (a .falses .now)))) (v .1)))
+          (λ v. g .inv .1 ∙ any-mark (λ d. consistent (join d (a .c))) _ _ _ _ q w (g .found) (v .0 .taken)
+          ∙ sym (ap (λ (t : Bool). t || anyOf (λ d. consistent (join d (a .c)))
+          (drop (g .i + 1) (entriesOf (a .count) (a .trues .now) (a .falses .now)))) (v .1)))
+          (λ v. g .inv .1 ∙ any-keep (λ d. consistent (join d (a .c))) _ _ _ _ q w (g .found) (v .0 .left)
+          ∙ sym (ap (λ (t : Bool). t || anyOf (λ d. consistent (join d (a .c)))
+          (drop (g .i + 1) (entriesOf (a .count) (a .trues .now) (a .falses .now)))) (v .1)))
           (c .if1 .came),
     )
 
 returns : tie.Need-returns Inv-loop μ-loop
 returns c =
     let a = c .before .before .before .before .args in
-    sym (c .before .loop .inv .1 ∙ any-end (λ d. consistent (join d (a .c))) _ _ (entries-done (a .count) (a .trues .now) (a .falses .now) (c .before .loop .i) (omega arith)))
+    sym (c .before .loop .inv .1 ∙ any-end (λ d. consistent (join d (a .c))) _ _
+    (entries-done (a .count) (a .trues .now) (a .falses .now) (c .before .loop .i) (omega arith)))
 
 pub admitted-spec : {M : Type 1} → statement M
 admitted-spec =
@@ -63,10 +58,10 @@ admitted-spec =
     Inv-loop
     μ-loop
     loop-holds
-    entry-at-requires
-    join-requires
-    consistent-requires
-    add-i
-    loop-less
+    (λ c κs. search needs)
+    (λ c κs. search needs)
+    (λ c κs. search needs)
+    (λ c. omega arith)
+    (λ c. omega arith)
     loop-again
     returns)

@@ -12,25 +12,25 @@ skip-decided-requires c κs = let o = c .before in (o .pre .effects-room, carrie
 
 split-requires : tie.Need-split-requires
 split-requires c κs =
-    let o = c .before .before .before .before .before .before in
-    let s = c .before .before .before .before .skip-decided .ensures in
-    let h : c .before .before .before .before .skip-decided .result .at < o .args .size = omega arith in
+    let after-skip-decided = c .before .before .before .before in
+    let after-6 = after-skip-decided .before .before in
+    let o = after-6 in
+    let s = after-skip-decided .skip-decided .ensures in
+    let h : after-skip-decided .skip-decided .result .at < o .args .size = omega arith in
     record { effects-room = o .pre .effects-room; below = h; splits = s .1 h; carried = s .0 .carried; held = o .pre .held }
 
 returns : tie.Need-returns
 returns c = settles-puts _ 0 _ _ (c .before .before .before .before .before .skip-decided .ensures .0) _ _ _ _ _ _ (c .split .ensures)
 
-replace-requires : tie.Need-replace-requires
-replace-requires c κs = search needs
-
-offer-requires : tie.Need-offer-requires
-offer-requires c κs = search needs
-
 returns-2 : tie.Need-returns-2
 returns-2 c =
-    let a = c .before .before .before .before .before .before .before .before .args in
-    let s = c .before .before .before .before .before .before .skip-decided in
-    settles-leaf _ 0 _ _ (s .ensures .0) (effects-end (a .size) (a .effects .now) (s .result .at) (omega (arith, c .before .before .before .before .if1 .left))) _ (c .before .replace .ensures) _ _ _ _ _ _ (c .offer .ensures)
+    let after-if1 = c .before .before .before .before in
+    let after-skip-decided = after-if1 .before .before in
+    let start = after-skip-decided .before .before in
+    let a = start .args in
+    let s = after-skip-decided .skip-decided in
+    settles-leaf _ 0 _ _ (s .ensures .0) (effects-end (a .size) (a .effects .now) (s .result .at) (omega (arith, after-if1 .if1 .left))) _
+    (c .before .replace .ensures) _ _ _ _ _ _ (c .offer .ensures)
 
 pub branch-spec : {M : Type 1} → statement M
 branch-spec =
@@ -39,6 +39,6 @@ branch-spec =
     skip-decided-requires
     split-requires
     returns
-    replace-requires
-    offer-requires
+    (λ c κs. search needs)
+    (λ c κs. search needs)
     returns-2)

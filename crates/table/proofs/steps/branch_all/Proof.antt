@@ -23,8 +23,10 @@ use Rattle.table.proofs.steps.branch_all.Tie as tie
 abbrev Inv-loop : tie.InvT-loop
 Inv-loop effects size trues falses count to-trues₀ to-falses₀ filled₀ i₀ to-trues to-falses filled i =
     (i ≤ count)
-    × Going (map (image (effectsAt size effects)) (collect (pieces (effectsAt size effects)) (entriesOf count trues falses))) 0 to-trues₀ to-falses₀
-    (map (image (effectsAt size effects)) (collect (pieces (effectsAt size effects)) (drop i (entriesOf count trues falses)))) filled to-trues to-falses
+    × Going (map (image (effectsAt size effects)) (collect (pieces (effectsAt size effects)) (entriesOf count trues falses))) 0 to-trues₀
+    to-falses₀
+    (map (image (effectsAt size effects)) (collect (pieces (effectsAt size effects)) (drop i (entriesOf count trues falses)))) filled
+    to-trues to-falses
 
 abbrev μ-loop : tie.MeasureT-loop
 μ-loop effects size trues falses count to-trues₀ to-falses₀ filled₀ i₀ to-trues to-falses filled i = count - i
@@ -32,56 +34,60 @@ abbrev μ-loop : tie.MeasureT-loop
 loop-holds : tie.Need-loop-holds Inv-loop μ-loop
 loop-holds c = (omega arith, going-start _ _ _ _ _ refl (c .before .before .before .pre .held))
 
-entry-at-requires : tie.Need-entry-at-requires Inv-loop μ-loop
-entry-at-requires c κs = search needs
-
 branch-requires : tie.Need-branch-requires Inv-loop μ-loop
 branch-requires c κs =
-    let o = c .before .before .before .before .before .before .before .before in
+    let after-entry-at = c .before .before in
+    let after-loop-test = after-entry-at .before in
+    let at-loop = after-loop-test .before in
+    let after-8 = at-loop .before .before .before .before in
+    let o = after-8 in
     let a = o .args in
-    let v = c .before .before .before .before .loop in
+    let v = at-loop .loop in
     record {
       effects-room = o .pre .effects-room;
       steady = o .pre .steady;
-      entry-steady = all-here (λ d. consistent d ≡ true) _ _ (v .i) _ (entries-next (a .count) (a .trues .now) (a .falses .now) (v .i) _ (c .before .before .before .loop-test .taken) (c .before .before .entry-at .ensures)) (o .pre .entries-steady);
+      entry-steady = all-here (λ d. consistent d ≡ true) _ _ (v .i) _
+          (entries-next (a .count) (a .trues .now) (a .falses .now) (v .i) _ (after-loop-test .loop-test .taken)
+          (after-entry-at .entry-at .ensures)) (o .pre .entries-steady);
       held = held-own _ _ _ _ (v .inv .1 .held);
     }
 
-enum-known-grown : tie.Need-enum-known-grown Inv-loop μ-loop
-enum-known-grown c = search needs
-
-enum-told : tie.Need-enum-told Inv-loop μ-loop
-enum-told c = search needs
-
 returns : tie.Need-returns Inv-loop μ-loop
 returns c =
-    let a = c .before .before .before .before .before .before .before .before .before .before .before .args in
-    going-full _ _ _ _ _ _ _ _ _ _ _ _ _ (c .before .before .before .before .before .before .before .loop .inv .1)
+    let after-branch = c .before .before in
+    let after-entry-at = after-branch .before .before .before in
+    let after-loop-test = after-entry-at .before in
+    let at-loop = after-loop-test .before in
+    let start = at-loop .before .before .before .before in
+    let a = start .args in
+    going-full _ _ _ _ _ _ _ _ _ _ _ _ _ (at-loop .loop .inv .1)
     (entries-ways (effectsAt (a .size) (a .effects .now)) _ _ _
-    (entries-next (a .count) (a .trues .now) (a .falses .now) (c .before .before .before .before .before .before .before .loop .i) (c .before .before .before .before .before .entry-at .result) (c .before .before .before .before .before .before .loop-test .taken) (c .before .before .before .before .before .entry-at .ensures)))
-    (c .before .before .branch .ensures) (c .enum-told .given .1)
-
-add-i : tie.Need-add-i Inv-loop μ-loop
-add-i c = search needs
-
-loop-less : tie.Need-loop-less Inv-loop μ-loop
-loop-less c = search needs
+    (entries-next (a .count) (a .trues .now) (a .falses .now) (at-loop .loop .i) (after-entry-at .entry-at .result)
+    (after-loop-test .loop-test .taken) (after-entry-at .entry-at .ensures)))
+    (after-branch .branch .ensures) (c .enum-told .given .1)
 
 loop-again : tie.Need-loop-again Inv-loop μ-loop
 loop-again c =
-    let a = c .before .before .before .before .before .before .before .before .before .before .before .before .args in (
+    let after-branch = c .before .before .before in
+    let after-entry-at = after-branch .before .before .before in
+    let after-loop-test = after-entry-at .before in
+    let at-loop = after-loop-test .before in
+    let start = at-loop .before .before .before .before in
+    let a = start .args in (
       omega arith,
-      going-on _ _ _ _ _ _ _ _ _ _ _ _ _ (c .before .before .before .before .before .before .before .before .loop .inv .1)
+      going-on _ _ _ _ _ _ _ _ _ _ _ _ _ (at-loop .loop .inv .1)
           (entries-ways (effectsAt (a .size) (a .effects .now)) _ _ _
-          (entries-next (a .count) (a .trues .now) (a .falses .now) (c .before .before .before .before .before .before .before .before .loop .i) (c .before .before .before .before .before .before .entry-at .result) (c .before .before .before .before .before .before .before .loop-test .taken) (c .before .before .before .before .before .before .entry-at .ensures)))
-          (c .before .before .before .branch .ensures) _ (c .before .grown .given .1),
+          (entries-next (a .count) (a .trues .now) (a .falses .now) (at-loop .loop .i) (after-entry-at .entry-at .result)
+          (after-loop-test .loop-test .taken) (after-entry-at .entry-at .ensures)))
+          (after-branch .branch .ensures) _ (c .before .grown .given .1),
     )
 
 returns-2 : tie.Need-returns-2 Inv-loop μ-loop
 returns-2 c =
     let a = c .before .before .before .before .before .args in
     going-end _ _ _ _ _ _ _ _ (c .before .loop .inv .1)
-    (ap (λ (x : List Literals). map (image (effectsAt (a .size) (a .effects .now))) (collect (pieces (effectsAt (a .size) (a .effects .now))) x))
+    (ap (λ (x : List Literals). map (image (effectsAt (a .size) (a .effects .now)))
+    (collect (pieces (effectsAt (a .size) (a .effects .now))) x))
     (entries-done (a .count) (a .trues .now) (a .falses .now) (c .before .loop .i) (c .loop-test .left)))
 
 pub branch-all-spec : {M : Type 1} → statement M
@@ -91,12 +97,12 @@ branch-all-spec =
     Inv-loop
     μ-loop
     loop-holds
-    entry-at-requires
+    (λ c κs. search needs)
     branch-requires
-    enum-known-grown
-    enum-told
+    (λ c. search needs)
+    (λ c. search needs)
     returns
-    add-i
-    loop-less
+    (λ c. search needs)
+    (λ c. search needs)
     loop-again
     returns-2)

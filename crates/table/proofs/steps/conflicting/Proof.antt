@@ -14,7 +14,8 @@ use Rattle.table.proofs.steps.conflicting.Tie as tie
 
 abbrev Inv-loop : tie.InvT-loop
 Inv-loop effects size trues falses count i₀ i =
-    anyOf (λ d. contradicts (effectsAt size effects) d) (entriesOf count trues falses) ≡ anyOf (λ d. contradicts (drop i (effectsAt size effects)) d) (entriesOf count trues falses)
+    anyOf (λ d. contradicts (effectsAt size effects) d) (entriesOf count trues falses)
+    ≡ anyOf (λ d. contradicts (drop i (effectsAt size effects)) d) (entriesOf count trues falses)
 
 abbrev μ-loop : tie.MeasureT-loop
 μ-loop effects size trues falses count i₀ i = size - i
@@ -22,39 +23,35 @@ abbrev μ-loop : tie.MeasureT-loop
 loop-holds : tie.Need-loop-holds Inv-loop μ-loop
 loop-holds c = refl
 
-effect-at-requires : tie.Need-effect-at-requires Inv-loop μ-loop
-effect-at-requires c κs = search needs
-
-add-opposes : tie.Need-add-opposes Inv-loop μ-loop
-add-opposes c = search needs
-
-opposes-requires : tie.Need-opposes-requires Inv-loop μ-loop
-opposes-requires c κs = search needs
-
 returns : tie.Need-returns Inv-loop μ-loop
 returns c =
-    let o = c .before .before .before .before in
+    let after-effect-at = c .before .before in
+    let after-loop-test = after-effect-at .before in
+    let after-4 = after-loop-test .before in
+    let o = after-4 in
     let a = o .before .before .before .before .args in
     sym (o .loop .inv
-    ∙ pairs-turn _ (entriesOf (a .count) (a .trues .now) (a .falses .now)) _ _ _ _ (effects-step (a .size) (a .effects .now) (o .loop .i) _ (c .before .before .before .loop-test .taken) (c .before .before .effect-at .ensures)) (c .before .opposes .ensures) (c .if1 .taken))
-
-add-i : tie.Need-add-i Inv-loop μ-loop
-add-i c = search needs
-
-loop-less : tie.Need-loop-less Inv-loop μ-loop
-loop-less c = search needs
+    ∙ pairs-turn _ (entriesOf (a .count) (a .trues .now) (a .falses .now)) _ _ _ _
+    (effects-step (a .size) (a .effects .now) (o .loop .i) _ (after-loop-test .loop-test .taken) (after-effect-at .effect-at .ensures))
+    (c .before .opposes .ensures) (c .if1 .taken))
 
 loop-again : tie.Need-loop-again Inv-loop μ-loop
 loop-again c =
-    let o = c .before .before .before .before in
+    let after-effect-at = c .before .before in
+    let after-loop-test = after-effect-at .before in
+    let after-4 = after-loop-test .before in
+    let o = after-4 in
     let a = o .before .before .before .before .args in
     o .loop .inv
-    ∙ pairs-turn _ (entriesOf (a .count) (a .trues .now) (a .falses .now)) _ _ _ _ (effects-step (a .size) (a .effects .now) (o .loop .i) _ (c .before .before .before .loop-test .taken) (c .before .before .effect-at .ensures)) (c .before .opposes .ensures) (c .if1 .left)
+    ∙ pairs-turn _ (entriesOf (a .count) (a .trues .now) (a .falses .now)) _ _ _ _
+    (effects-step (a .size) (a .effects .now) (o .loop .i) _ (after-loop-test .loop-test .taken) (after-effect-at .effect-at .ensures))
+    (c .before .opposes .ensures) (c .if1 .left)
 
 returns-2 : tie.Need-returns-2 Inv-loop μ-loop
 returns-2 c =
     let a = c .before .before .before .before .before .args in
-    sym (c .before .loop .inv ∙ pairs-end _ (entriesOf (a .count) (a .trues .now) (a .falses .now)) (effects-end (a .size) (a .effects .now) (c .before .loop .i) (c .loop-test .left)))
+    sym (c .before .loop .inv ∙ pairs-end _ (entriesOf (a .count) (a .trues .now) (a .falses .now))
+    (effects-end (a .size) (a .effects .now) (c .before .loop .i) (c .loop-test .left)))
 
 pub conflicting-spec : {M : Type 1} → statement M
 conflicting-spec =
@@ -63,11 +60,11 @@ conflicting-spec =
     Inv-loop
     μ-loop
     loop-holds
-    effect-at-requires
-    add-opposes
-    opposes-requires
+    (λ c κs. search needs)
+    (λ c. search needs)
+    (λ c κs. search needs)
     returns
-    add-i
-    loop-less
+    (λ c. search needs)
+    (λ c. search needs)
     loop-again
     returns-2)

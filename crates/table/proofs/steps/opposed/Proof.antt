@@ -6,29 +6,25 @@ use Rattle.table.proofs.laws.steps.PairScan.{clashing, agreeing}
 use Rattle.table.proofs.steps.opposed.Statement.{statement}
 use Rattle.table.proofs.steps.opposed.Tie as tie
 
-clash-requires : tie.Need-clash-requires
-clash-requires c κs = search needs
-
-join-requires : tie.Need-join-requires
-join-requires c κs = search needs
-
-admitted-requires : tie.Need-admitted-requires
-admitted-requires c κs = search needs
-
 returns : tie.Need-returns
 returns c =
-    let a = c .before .before .before .before .before .before .args in
-    clashing (a .e) (a .f) (entriesOf (a .count) (a .trues .now) (a .falses .now)) _ _ (sym (c .before .before .before .clash .ensures) ∙ c .before .before .if1 .taken) (c .before .join .ensures) (c .admitted .ensures)
+    let after-if1 = c .before .before in
+    let after-clash = after-if1 .before in
+    let start = after-clash .before .before .before in
+    let a = start .args in
+    clashing (a .e) (a .f) (entriesOf (a .count) (a .trues .now) (a .falses .now)) _ _
+    (sym (after-clash .clash .ensures) ∙ after-if1 .if1 .taken) (c .before .join .ensures) (c .admitted .ensures)
 
 returns-2 : tie.Need-returns-2
-returns-2 c = let a = c .before .before .before .before .args in agreeing (a .e) (a .f) (entriesOf (a .count) (a .trues .now) (a .falses .now)) (sym (c .before .clash .ensures) ∙ c .if1 .left)
+returns-2 c = let a = c .before .before .before .before .args in agreeing (a .e) (a .f)
+    (entriesOf (a .count) (a .trues .now) (a .falses .now)) (sym (c .before .clash .ensures) ∙ c .if1 .left)
 
 pub opposed-spec : {M : Type 1} → statement M
 opposed-spec =
     tie.close
     (tie.spec
-    clash-requires
-    join-requires
-    admitted-requires
+    (λ c κs. search needs)
+    (λ c κs. search needs)
+    (λ c κs. search needs)
     returns
     returns-2)

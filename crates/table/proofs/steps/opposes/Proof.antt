@@ -22,7 +22,8 @@ against e t f = anyOf (λ d. opposedBy e d f) t
 
 abbrev Inv-loop : tie.InvT-loop
 Inv-loop effects size e from trues falses count j₀ j =
-    anyOf (against e (entriesOf count trues falses)) (drop from (effectsAt size effects)) ≡ anyOf (against e (entriesOf count trues falses)) (drop j (effectsAt size effects))
+    anyOf (against e (entriesOf count trues falses)) (drop from (effectsAt size effects))
+    ≡ anyOf (against e (entriesOf count trues falses)) (drop j (effectsAt size effects))
 
 abbrev μ-loop : tie.MeasureT-loop
 μ-loop effects size e from trues falses count j₀ j = size - j
@@ -30,38 +31,37 @@ abbrev μ-loop : tie.MeasureT-loop
 loop-holds : tie.Need-loop-holds Inv-loop μ-loop
 loop-holds c = refl
 
-effect-at-requires : tie.Need-effect-at-requires Inv-loop μ-loop
-effect-at-requires c κs = search needs
-
-opposed-requires : tie.Need-opposed-requires Inv-loop μ-loop
-opposed-requires c κs = search needs
-
 returns : tie.Need-returns Inv-loop μ-loop
 returns c =
-    let a = c .before .before .before .before .before .before .before .before .args in
+    let after-effect-at = c .before .before in
+    let after-loop-test = after-effect-at .before in
+    let at-loop = after-loop-test .before in
+    let start = at-loop .before .before .before .before in
+    let a = start .args in
     any-stop (against (a .e) (entriesOf (a .count) (a .trues .now) (a .falses .now))) _ _ _ _
-    (effects-step (a .size) (a .effects .now) (c .before .before .before .before .loop .j) _ (c .before .before .before .loop-test .taken) (c .before .before .effect-at .ensures))
+    (effects-step (a .size) (a .effects .now) (at-loop .loop .j) _ (after-loop-test .loop-test .taken)
+    (after-effect-at .effect-at .ensures))
     (c .before .opposed .ensures) (c .if1 .taken)
-    ∙ sym (c .before .before .before .before .loop .inv)
-
-add-j : tie.Need-add-j Inv-loop μ-loop
-add-j c = search needs
-
-loop-less : tie.Need-loop-less Inv-loop μ-loop
-loop-less c = search needs
+    ∙ sym (at-loop .loop .inv)
 
 loop-again : tie.Need-loop-again Inv-loop μ-loop
 loop-again c =
-    let a = c .before .before .before .before .before .before .before .before .args in
-    c .before .before .before .before .loop .inv
+    let after-effect-at = c .before .before in
+    let after-loop-test = after-effect-at .before in
+    let at-loop = after-loop-test .before in
+    let start = at-loop .before .before .before .before in
+    let a = start .args in
+    at-loop .loop .inv
     ∙ any-on (against (a .e) (entriesOf (a .count) (a .trues .now) (a .falses .now))) _ _ _ _
-    (effects-step (a .size) (a .effects .now) (c .before .before .before .before .loop .j) _ (c .before .before .before .loop-test .taken) (c .before .before .effect-at .ensures))
+    (effects-step (a .size) (a .effects .now) (at-loop .loop .j) _ (after-loop-test .loop-test .taken)
+    (after-effect-at .effect-at .ensures))
     (c .before .opposed .ensures) (c .if1 .left)
 
 returns-2 : tie.Need-returns-2 Inv-loop μ-loop
 returns-2 c =
     let a = c .before .before .before .before .before .args in
-    sym (c .before .loop .inv ∙ ap (anyOf (against (a .e) (entriesOf (a .count) (a .trues .now) (a .falses .now)))) (effects-end (a .size) (a .effects .now) (c .before .loop .j) (c .loop-test .left)))
+    sym (c .before .loop .inv ∙ ap (anyOf (against (a .e) (entriesOf (a .count) (a .trues .now) (a .falses .now))))
+    (effects-end (a .size) (a .effects .now) (c .before .loop .j) (c .loop-test .left)))
 
 pub opposes-spec : {M : Type 1} → statement M
 opposes-spec =
@@ -70,10 +70,10 @@ opposes-spec =
     Inv-loop
     μ-loop
     loop-holds
-    effect-at-requires
-    opposed-requires
+    (λ c κs. search needs)
+    (λ c κs. search needs)
     returns
-    add-j
-    loop-less
+    (λ c. search needs)
+    (λ c. search needs)
     loop-again
     returns-2)

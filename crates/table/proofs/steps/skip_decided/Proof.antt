@@ -22,39 +22,30 @@ abbrev μ-loop : tie.MeasureT-loop
 loop-holds : tie.Need-loop-holds Inv-loop μ-loop
 loop-holds c = settles-start _ _ _ _ (c .before .pre .1)
 
-effect-at-requires : tie.Need-effect-at-requires Inv-loop μ-loop
-effect-at-requires c κs = search needs
-
-within-requires : tie.Need-within-requires Inv-loop μ-loop
-within-requires c κs = search needs
-
-join-requires : tie.Need-join-requires Inv-loop μ-loop
-join-requires c κs = search needs
-
-clash-requires : tie.Need-clash-requires Inv-loop μ-loop
-clash-requires c κs = search needs
-
 returns : tie.Need-returns Inv-loop μ-loop
-returns c = (
-  c .before .before .before .before .before .before .loop .inv,
-  λ h. subst (λ (e : Effect). Splits (e .condition) (c .before .before .before .before .before .before .before .before .args .piece)) (c .before .before .before .before .effect-at .ensures)
-      (record {
-        lacking = sym (c .before .before .before .within .ensures) ∙ c .before .before .if1 .left;
-        apart = sym (c .before .clash .ensures) ∙ not-true _ (c .if2 .taken);
-      }),
-)
-
-add-i : tie.Need-add-i Inv-loop μ-loop
-add-i c = search needs
-
-loop-less : tie.Need-loop-less Inv-loop μ-loop
-loop-less c = search needs
+returns c =
+    let after-if1 = c .before .before in
+    let after-within = after-if1 .before in
+    let after-effect-at = after-within .before in
+    let at-loop = after-effect-at .before .before in
+    let start = at-loop .before .before in (
+      at-loop .loop .inv,
+      λ h. subst (λ (e : Effect). Splits (e .condition) (start .args .piece)) (after-effect-at .effect-at .ensures)
+          (record {
+            lacking = sym (after-within .within .ensures) ∙ after-if1 .if1 .left;
+            apart = sym (c .before .clash .ensures) ∙ not-true _ (c .if2 .taken);
+          }),
+    )
 
 loop-again : tie.Need-loop-again Inv-loop μ-loop
 loop-again c =
-    let a = c .before .before .before .before .before .before .args in
-    let o = c .before .before .before .before .loop in
-    let q = effects-step (a .size) (a .effects .now) (o .i) _ (c .before .before .before .loop-test .taken) (c .before .before .effect-at .ensures) in
+    let after-effect-at = c .before .before in
+    let after-loop-test = after-effect-at .before in
+    let at-loop = after-loop-test .before in
+    let start = at-loop .before .before in
+    let a = start .args in
+    let o = at-loop .loop in
+    let q = effects-step (a .size) (a .effects .now) (o .i) _ (after-loop-test .loop-test .taken) (after-effect-at .effect-at .ensures) in
     ⊎-elim (λ v. on-within _ _ _ _ (o .inv) _ q _ (sym (c .before .within .ensures) ∙ v .0 .taken) (v .2 ∙ v .1 .ensures))
     (λ v. on-clash _ _ _ _ (o .inv) _ q _ (sym (v .1 .ensures) ∙ not-false _ (v .2 .left)) (v .3))
     (c .if1 .came)
@@ -69,12 +60,12 @@ skip-decided-spec =
     Inv-loop
     μ-loop
     loop-holds
-    effect-at-requires
-    within-requires
-    join-requires
-    clash-requires
+    (λ c κs. search needs)
+    (λ c κs. search needs)
+    (λ c κs. search needs)
+    (λ c κs. search needs)
     returns
-    add-i
-    loop-less
+    (λ c. search needs)
+    (λ c. search needs)
     loop-again
     returns-2)

@@ -14,127 +14,114 @@ use Rattle.table.proofs.steps.step_at.Tie as tie
 
 -- what was read is the move
 its-move : (c : tie.After-wide) → let a = c .before .before .before .before .before .before .before .before .args in
-    actionBy (c .before .before .set-from .result) (c .wide .result) (take 32 (drop 3 (take (a .index * 35 + 35 - a .index * 35) (drop (a .index * 35) (movesIn (a .packed .now))))))
+    actionBy (c .before .before .set-from .result) (c .wide .result)
+    (take 32 (drop 3 (take (a .index * 35 + 35 - a .index * 35) (drop (a .index * 35) (movesIn (a .packed .now))))))
     ≡ actionOf (movesIn (a .packed .now)) (a .index)
-its-move c = let a = c .before .before .before .before .before .before .before .before .args in action-is (movesIn (a .packed .now)) (a .index) _ _ _ (item-lent 35 (a .index) (movesIn (a .packed .now))) (c .before .before .set-from .ensures) (c .wide .ensures)
+its-move c =
+    let after-set-from = c .before .before in
+    let start = after-set-from .before .before .before .before .before .before in
+    let a = start .args in action-is (movesIn (a .packed .now)) (a .index) _ _ _ (item-lent 35 (a .index) (movesIn (a .packed .now)))
+    (after-set-from .set-from .ensures) (c .wide .ensures)
 
 -- its effects are within its numbers
 its-effects : (c : tie.After-wide) → let a = c .before .before .before .before .before .before .before .before .args in
-    4 * c .wide .result ≤ length (take 32 (drop 3 (take (a .index * 35 + 35 - a .index * 35) (drop (a .index * 35) (movesIn (a .packed .now))))))
+    4 * c .wide .result ≤ length
+    (take 32 (drop 3 (take (a .index * 35 + 35 - a .index * 35) (drop (a .index * 35) (movesIn (a .packed .now))))))
 its-effects c =
-    let a = c .before .before .before .before .before .before .before .before .args in
+    let start = c .before .before .before .before .before .before .before .before in
+    let a = start .args in
     let moves = movesIn (a .packed .now) in
-    let room = part-long 289 1120 (a .packed .now) (omega (arith, c .before .before .before .before .before .before .before .before .pre .move .long)) in
-    let e = ap (λ (x : List ℕ). length (part 3 32 x)) (item-lent 35 (a .index) moves) ∙ effects-room (a .index) moves (omega (arith, room, c .before .before .before .before .before .before .before .before .pre .move .move-most)) in
-    omega (arith, e, c .before .before .before .before .before .before .before .before .pre .move .effects-few, c .wide .ensures ∙ ap countIn (item-lent 35 (a .index) moves))
-
-sub-moves : tie.Need-sub-moves
-sub-moves c = search needs
-
-part-moves-start : tie.Need-part-moves-start
-part-moves-start c = search needs
-
-part-moves-end : tie.Need-part-moves-end
-part-moves-end c = search needs
-
-mul-at : tie.Need-mul-at
-mul-at c = search needs
-
-add-item : tie.Need-add-item
-add-item c = search needs
-
-mul-item : tie.Need-mul-item
-mul-item c = search needs
-
-sub-item : tie.Need-sub-item
-sub-item c = search needs
-
-part-item-start : tie.Need-part-item-start
-part-item-start c = search needs
-
-part-item-end : tie.Need-part-item-end
-part-item-end c = search needs
-
-set-from-requires : tie.Need-set-from-requires
-set-from-requires c κs = search needs
-
-shared-slice-read-wide : tie.Need-shared-slice-read-wide
-shared-slice-read-wide c = search needs
-
-wide-requires : tie.Need-wide-requires
-wide-requires c κs = search needs
-
-sub-effects : tie.Need-sub-effects
-sub-effects c = search needs
-
-part-effects-start : tie.Need-part-effects-start
-part-effects-start c = search needs
-
-part-effects-end : tie.Need-part-effects-end
-part-effects-end c = search needs
-
-sure-requires : tie.Need-sure-requires
-sure-requires c κs = search needs
+    let room = part-long 289 1120 (a .packed .now) (omega (arith, start .pre .move .long)) in
+    let e = ap (λ (x : List ℕ). length (part 3 32 x)) (item-lent 35 (a .index) moves)
+    ∙ effects-room (a .index) moves (omega (arith, room, start .pre .move .move-most)) in
+    omega (arith, e, start .pre .move .effects-few, c .wide .ensures ∙ ap countIn (item-lent 35 (a .index) moves))
 
 returns : tie.Need-returns
-returns c = lent-unsure _ _ _ _ (c .before .before .before .before .before .before .before .before .before .before .before .pre .move .fits) _ (its-move (c .before .before .before)) (sym (c .before .sure .ensures) ∙ not-true _ (c .if1 .taken))
+returns c =
+    let after-3 = c .before .before .before in
+    let start = after-3 .before .before .before .before .before .before .before .before in
+    lent-unsure _ _ _ _ (start .pre .move .fits) _ (its-move (after-3)) (sym (c .before .sure .ensures) ∙ not-true _ (c .if1 .taken))
 
 conflicting-requires : tie.Need-conflicting-requires
-conflicting-requires c κs = (its-effects (c .before .before .before), c .before .before .before .before .before .before .before .before .before .before .before .pre .room)
+conflicting-requires c κs =
+    let after-3 = c .before .before .before in
+    let start = after-3 .before .before .before .before .before .before .before .before in
+    (its-effects (after-3), start .pre .room)
 
 returns-2 : tie.Need-returns-2
-returns-2 c = lent-conflicting _ _ _ _ (c .before .before .before .before .before .before .before .before .before .before .before .before .before .pre .move .fits) _ (its-move (c .before .before .before .before .before)) (sym (c .before .before .before .sure .ensures) ∙ not-false _ (c .before .before .if1 .left)) (sym (c .before .conflicting .ensures) ∙ c .if2 .taken)
+returns-2 c =
+    let after-if1 = c .before .before in
+    let after-sure = after-if1 .before in
+    let after-5 = after-sure .before .before in
+    let start = after-5 .before .before .before .before .before .before .before .before in
+    lent-conflicting _ _ _ _ (start .pre .move .fits) _ (its-move (after-5))
+    (sym (after-sure .sure .ensures) ∙ not-false _ (after-if1 .if1 .left)) (sym (c .before .conflicting .ensures) ∙ c .if2 .taken)
 
 branch-all-requires : tie.Need-branch-all-requires
 branch-all-requires c κs =
-    let is = its-move (c .before .before .before .before .before .before .before) in
+    let after-7 = c .before .before .before .before .before .before .before in
+    let start = after-7 .before .before .before .before .before .before .before .before in
+    let is = its-move (after-7) in
     record {
-      effects-room = its-effects (c .before .before .before .before .before .before .before);
-      steady = effects-steady _ _ _ _ (c .before .before .before .before .before .before .before .before .before .before .before .before .before .before .before .pre .move .fits) _ is;
-      room = c .before .before .before .before .before .before .before .before .before .before .before .before .before .before .before .pre .room;
-      entries-steady = entries-steady _ _ _ _ (c .before .before .before .before .before .before .before .before .before .before .before .before .before .before .before .pre .move .fits) _ is;
-      held = fresh-held _ _ (c .before .before .before .before .before .before .before .before .before .before .before .before .before .before .before .pre .fresh);
+      effects-room = its-effects (after-7);
+      steady = effects-steady _ _ _ _ (start .pre .move .fits) _ is;
+      room = start .pre .room;
+      entries-steady = entries-steady _ _ _ _ (start .pre .move .fits) _ is;
+      held = fresh-held _ _ (start .pre .fresh);
     }
-
-enum-known-filled : tie.Need-enum-known-filled
-enum-known-filled c = search needs
-
-enum-told : tie.Need-enum-told
-enum-told c = search needs
 
 returns-3 : tie.Need-returns-3
 returns-3 c =
-    lent-to _ _ _ _ (c .before .before .before .before .before .before .before .before .before .before .before .before .before .before .before .before .before .before .before .pre .move .fits) _ (its-move (c .before .before .before .before .before .before .before .before .before .before .before)) (sym (c .before .before .before .before .before .before .before .before .before .sure .ensures) ∙ not-false _ (c .before .before .before .before .before .before .before .before .if1 .left)) (sym (c .before .before .before .before .before .before .before .conflicting .ensures) ∙ c .before .before .before .before .before .before .if2 .left) _ _ (c .before .before .before .before .before .before .before .before .before .before .before .before .before .before .before .before .before .before .before .pre .fresh) _ _ _ (c .before .before .before .branch-all .ensures) _ (c .before .filled .given .1)
+    let after-branch-all = c .before .before .before in
+    let after-if2 = after-branch-all .before .before .before in
+    let after-conflicting = after-if2 .before in
+    let after-if1 = after-conflicting .before in
+    let after-sure = after-if1 .before in
+    let after-11 = after-sure .before .before in
+    let start = after-11 .before .before .before .before .before .before .before .before in
+    lent-to _ _ _ _ (start .pre .move .fits) _ (its-move (after-11)) (sym (after-sure .sure .ensures) ∙ not-false _ (after-if1 .if1 .left))
+    (sym (after-conflicting .conflicting .ensures) ∙ after-if2 .if2 .left) _ _ (start .pre .fresh) _ _ _
+    (after-branch-all .branch-all .ensures) _ (c .before .filled .given .1)
 
 returns-4 : tie.Need-returns-4
 returns-4 c =
-    lent-full _ _ _ _ (c .before .before .before .before .before .before .before .before .before .before .before .before .before .before .before .before .before .before .pre .move .fits) _ (its-move (c .before .before .before .before .before .before .before .before .before .before)) (sym (c .before .before .before .before .before .before .before .before .sure .ensures) ∙ not-false _ (c .before .before .before .before .before .before .before .if1 .left)) (sym (c .before .before .before .before .before .before .conflicting .ensures) ∙ c .before .before .before .before .before .if2 .left) _ _ (c .before .before .before .before .before .before .before .before .before .before .before .before .before .before .before .before .before .before .pre .fresh) _ _ _ (c .before .before .branch-all .ensures) (c .enum-told .given .1)
+    let after-branch-all = c .before .before in
+    let after-if2 = after-branch-all .before .before .before in
+    let after-conflicting = after-if2 .before in
+    let after-if1 = after-conflicting .before in
+    let after-sure = after-if1 .before in
+    let after-10 = after-sure .before .before in
+    let start = after-10 .before .before .before .before .before .before .before .before in
+    lent-full _ _ _ _ (start .pre .move .fits) _ (its-move (after-10))
+    (sym (after-sure .sure .ensures) ∙ not-false _ (after-if1 .if1 .left))
+    (sym (after-conflicting .conflicting .ensures) ∙ after-if2 .if2 .left) _ _ (start .pre .fresh) _ _ _
+    (after-branch-all .branch-all .ensures) (c .enum-told .given .1)
 
 pub step-at-spec : {M : Type 1} → statement M
 step-at-spec =
     tie.close
     (tie.spec
-    sub-moves
-    part-moves-start
-    part-moves-end
-    mul-at
-    add-item
-    mul-item
-    sub-item
-    part-item-start
-    part-item-end
-    set-from-requires
-    shared-slice-read-wide
-    wide-requires
-    sub-effects
-    part-effects-start
-    part-effects-end
-    sure-requires
+    (λ c. search needs)
+    (λ c. search needs)
+    (λ c. search needs)
+    (λ c. search needs)
+    (λ c. search needs)
+    (λ c. search needs)
+    (λ c. search needs)
+    (λ c. search needs)
+    (λ c. search needs)
+    (λ c κs. search needs)
+    (λ c. search needs)
+    (λ c κs. search needs)
+    (λ c. search needs)
+    (λ c. search needs)
+    (λ c. search needs)
+    (λ c κs. search needs)
     returns
     conflicting-requires
     returns-2
     branch-all-requires
-    enum-known-filled
-    enum-told
+    (λ c. search needs)
+    (λ c. search needs)
     returns-3
     returns-4)

@@ -14,7 +14,8 @@ use Rattle.table.proofs.steps.sure.Tie as tie
 
 abbrev Inv-loop : tie.InvT-loop
 Inv-loop precondition trues falses count i₀ i =
-    (i ≤ count) × (allOf (λ d. within precondition d) (entriesOf count trues falses) ≡ allOf (λ d. within precondition d) (drop i (entriesOf count trues falses)))
+    (i ≤ count) × (allOf (λ d. within precondition d) (entriesOf count trues falses)
+    ≡ allOf (λ d. within precondition d) (drop i (entriesOf count trues falses)))
 
 abbrev μ-loop : tie.MeasureT-loop
 μ-loop precondition trues falses count i₀ i = count - i
@@ -22,40 +23,39 @@ abbrev μ-loop : tie.MeasureT-loop
 loop-holds : tie.Need-loop-holds Inv-loop μ-loop
 loop-holds c = (omega arith, refl)
 
-entry-at-requires : tie.Need-entry-at-requires Inv-loop μ-loop
-entry-at-requires c κs = search needs
-
-within-requires : tie.Need-within-requires Inv-loop μ-loop
-within-requires c κs = search needs
-
 returns : tie.Need-returns Inv-loop μ-loop
 returns c =
-    let a = c .before .before .before .before .before .before .before .args in
+    let after-entry-at = c .before .before in
+    let after-loop-test = after-entry-at .before in
+    let at-loop = after-loop-test .before in
+    let start = at-loop .before .before .before in
+    let a = start .args in
     all-stop (λ d. within (a .precondition) d) _ _ _ _
-    (entries-next (a .count) (a .trues .now) (a .falses .now) (c .before .before .before .before .loop .i) (c .before .before .entry-at .result) (c .before .before .before .loop-test .taken) (c .before .before .entry-at .ensures))
+    (entries-next (a .count) (a .trues .now) (a .falses .now) (at-loop .loop .i) (after-entry-at .entry-at .result)
+    (after-loop-test .loop-test .taken) (after-entry-at .entry-at .ensures))
     (c .before .within .ensures) (not-true (c .before .within .result) (c .if1 .taken))
-    ∙ sym (c .before .before .before .before .loop .inv .1)
-
-add-i : tie.Need-add-i Inv-loop μ-loop
-add-i c = search needs
-
-loop-less : tie.Need-loop-less Inv-loop μ-loop
-loop-less c = search needs
+    ∙ sym (at-loop .loop .inv .1)
 
 loop-again : tie.Need-loop-again Inv-loop μ-loop
 loop-again c =
-    let a = c .before .before .before .before .before .before .before .args in (
+    let after-entry-at = c .before .before in
+    let after-loop-test = after-entry-at .before in
+    let at-loop = after-loop-test .before in
+    let start = at-loop .before .before .before in
+    let a = start .args in (
       omega arith,
-      c .before .before .before .before .loop .inv .1
+      at-loop .loop .inv .1
           ∙ all-on (λ d. within (a .precondition) d) _ _ _ _
-          (entries-next (a .count) (a .trues .now) (a .falses .now) (c .before .before .before .before .loop .i) (c .before .before .entry-at .result) (c .before .before .before .loop-test .taken) (c .before .before .entry-at .ensures))
+          (entries-next (a .count) (a .trues .now) (a .falses .now) (at-loop .loop .i) (after-entry-at .entry-at .result)
+          (after-loop-test .loop-test .taken) (after-entry-at .entry-at .ensures))
           (c .before .within .ensures) (not-false (c .before .within .result) (c .if1 .left)),
     )
 
 returns-2 : tie.Need-returns-2 Inv-loop μ-loop
 returns-2 c =
     let a = c .before .before .before .before .args in
-    sym (c .before .loop .inv .1 ∙ ap (allOf (λ d. within (a .precondition) d)) (entries-done (a .count) (a .trues .now) (a .falses .now) (c .before .loop .i) (c .loop-test .left)))
+    sym (c .before .loop .inv .1 ∙ ap (allOf (λ d. within (a .precondition) d))
+    (entries-done (a .count) (a .trues .now) (a .falses .now) (c .before .loop .i) (c .loop-test .left)))
 
 pub sure-spec : {M : Type 1} → statement M
 sure-spec =
@@ -64,10 +64,10 @@ sure-spec =
     Inv-loop
     μ-loop
     loop-holds
-    entry-at-requires
-    within-requires
+    (λ c κs. search needs)
+    (λ c κs. search needs)
     returns
-    add-i
-    loop-less
+    (λ c. search needs)
+    (λ c. search needs)
     loop-again
     returns-2)

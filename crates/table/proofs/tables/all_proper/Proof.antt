@@ -22,40 +22,39 @@ abbrev μ-loop : tie.MeasureT-loop
 loop-holds : tie.Need-loop-holds Inv-loop μ-loop
 loop-holds c = (omega arith, refl)
 
-entry-at-requires : tie.Need-entry-at-requires Inv-loop μ-loop
-entry-at-requires c κs = search needs
-
-proper-requires : tie.Need-proper-requires Inv-loop μ-loop
-proper-requires c κs = search needs
-
 returns : tie.Need-returns Inv-loop μ-loop
 returns c =
-    let a = c .before .before .before .before .before .before .before .args in
+    let after-entry-at = c .before .before in
+    let after-loop-test = after-entry-at .before in
+    let at-loop = after-loop-test .before in
+    let start = at-loop .before .before .before in
+    let a = start .args in
     all-stop (proper (a .n)) _ _ _ _
-    (entries-next (a .count) (a .trues .now) (a .falses .now) (c .before .before .before .before .loop .i) (c .before .before .entry-at .result) (c .before .before .before .loop-test .taken) (c .before .before .entry-at .ensures))
+    (entries-next (a .count) (a .trues .now) (a .falses .now) (at-loop .loop .i) (after-entry-at .entry-at .result)
+    (after-loop-test .loop-test .taken) (after-entry-at .entry-at .ensures))
     (c .before .proper .ensures) (not-true (c .before .proper .result) (c .if1 .taken))
-    ∙ sym (c .before .before .before .before .loop .inv .1)
-
-add-i : tie.Need-add-i Inv-loop μ-loop
-add-i c = search needs
-
-loop-less : tie.Need-loop-less Inv-loop μ-loop
-loop-less c = search needs
+    ∙ sym (at-loop .loop .inv .1)
 
 loop-again : tie.Need-loop-again Inv-loop μ-loop
 loop-again c =
-    let a = c .before .before .before .before .before .before .before .args in (
+    let after-entry-at = c .before .before in
+    let after-loop-test = after-entry-at .before in
+    let at-loop = after-loop-test .before in
+    let start = at-loop .before .before .before in
+    let a = start .args in (
       omega arith,
-      c .before .before .before .before .loop .inv .1
+      at-loop .loop .inv .1
           ∙ all-on (proper (a .n)) _ _ _ _
-          (entries-next (a .count) (a .trues .now) (a .falses .now) (c .before .before .before .before .loop .i) (c .before .before .entry-at .result) (c .before .before .before .loop-test .taken) (c .before .before .entry-at .ensures))
+          (entries-next (a .count) (a .trues .now) (a .falses .now) (at-loop .loop .i) (after-entry-at .entry-at .result)
+          (after-loop-test .loop-test .taken) (after-entry-at .entry-at .ensures))
           (c .before .proper .ensures) (not-false (c .before .proper .result) (c .if1 .left)),
     )
 
 returns-2 : tie.Need-returns-2 Inv-loop μ-loop
 returns-2 c =
     let a = c .before .before .before .before .args in
-    sym (c .before .loop .inv .1 ∙ ap (allOf (proper (a .n))) (entries-done (a .count) (a .trues .now) (a .falses .now) (c .before .loop .i) (c .loop-test .left)))
+    sym (c .before .loop .inv .1 ∙ ap (allOf (proper (a .n)))
+    (entries-done (a .count) (a .trues .now) (a .falses .now) (c .before .loop .i) (c .loop-test .left)))
 
 pub all-proper-spec : {M : Type 1} → statement M
 all-proper-spec =
@@ -64,10 +63,10 @@ all-proper-spec =
     Inv-loop
     μ-loop
     loop-holds
-    entry-at-requires
-    proper-requires
+    (λ c κs. search needs)
+    (λ c κs. search needs)
     returns
-    add-i
-    loop-less
+    (λ c. search needs)
+    (λ c. search needs)
     loop-again
     returns-2)

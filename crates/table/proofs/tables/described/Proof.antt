@@ -58,9 +58,12 @@ is-antichain-requires c κs = search needs
 
 returns-4 : tie.Need-returns-4
 returns-4 c =
+    let after-all-proper = c .before .before in
+    let after-if2 = after-all-proper .before in
+    let after-if1 = after-if2 .before in
     c .is-antichain .ensures
-    ∙ last-test _ _ _ _ (c .before .before .before .before .if1 .left) (c .before .before .before .if2 .left)
-    (sym (c .before .before .all-proper .ensures) ∙ not-false (c .before .before .all-proper .result) (c .before .if3 .left))
+    ∙ last-test _ _ _ _ (after-if1 .if1 .left) (after-if2 .if2 .left)
+    (sym (after-all-proper .all-proper .ensures) ∙ not-false (after-all-proper .all-proper .result) (c .before .if3 .left))
 
 pub described-spec : {M : Type 1} → statement M
 described-spec =

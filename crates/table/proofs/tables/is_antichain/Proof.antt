@@ -16,7 +16,8 @@ abbrev Inv-loop : tie.InvT-loop
 Inv-loop trues falses count apart₀ i a j₀ apart j =
     (j ≤ count)
     × (apart ≡ true)
-    × (antichain (entriesOf count trues falses) ≡ (apartOf a (drop j (entriesOf count trues falses)) && antichain (drop (i + 1) (entriesOf count trues falses))))
+    × (antichain (entriesOf count trues falses)
+    ≡ (apartOf a (drop j (entriesOf count trues falses)) && antichain (drop (i + 1) (entriesOf count trues falses))))
 
 abbrev μ-loop : tie.MeasureT-loop
 μ-loop trues falses count apart₀ i a j₀ apart j = count - j
@@ -31,12 +32,6 @@ abbrev μ-pairs : tie.MeasureT-pairs
 pairs-holds : tie.Need-pairs-holds Inv-loop μ-loop Inv-pairs μ-pairs
 pairs-holds c = (omega arith, refl, refl)
 
-entry-at-requires : tie.Need-entry-at-requires Inv-loop μ-loop Inv-pairs μ-pairs
-entry-at-requires c κs = search needs
-
-add-j : tie.Need-add-j Inv-loop μ-loop Inv-pairs μ-pairs
-add-j c = search needs
-
 loop-holds : tie.Need-loop-holds Inv-loop μ-loop Inv-pairs μ-pairs
 loop-holds c =
     let o = c .before .before in
@@ -45,25 +40,15 @@ loop-holds c =
       o .pairs .inv .1,
       o .pairs .inv .2
           ∙ antichain-turn _ _ _
-          (entries-next (a .count) (a .trues .now) (a .falses .now) (o .pairs .i) (c .entry-at .result) (c .before .pairs-test .taken) (c .entry-at .ensures)),
+          (entries-next (a .count) (a .trues .now) (a .falses .now) (o .pairs .i) (c .entry-at .result) (c .before .pairs-test .taken)
+          (c .entry-at .ensures)),
     )
-
-entry-at-requires-2 : tie.Need-entry-at-requires-2 Inv-loop μ-loop Inv-pairs μ-pairs
-entry-at-requires-2 c κs = search needs
-
-nested-requires : tie.Need-nested-requires Inv-loop μ-loop Inv-pairs μ-pairs
-nested-requires c κs = search needs
-
-add-j-2 : tie.Need-add-j-2 Inv-loop μ-loop Inv-pairs μ-pairs
-add-j-2 c = search needs
-
-loop-less : tie.Need-loop-less Inv-loop μ-loop Inv-pairs μ-pairs
-loop-less c = search needs
 
 turn : (c : tie.After-nested Inv-loop μ-loop Inv-pairs μ-pairs)
     → let o = c .before .before .before in let p = o .before .before .before in let a = p .before .before .before .args in
     let es = entriesOf (a .count) (a .trues .now) (a .falses .now) in
-    antichain es ≡ (not (c .nested .result) && apartOf (o .before .entry-at .result) (drop (o .loop .j + 1) es) && antichain (drop (p .pairs .i + 1) es))
+    antichain es ≡ (not (c .nested .result) && apartOf (o .before .entry-at .result) (drop (o .loop .j + 1) es)
+    && antichain (drop (p .pairs .i + 1) es))
 turn c =
     let o = c .before .before .before in
     let p = o .before .before .before in
@@ -73,7 +58,8 @@ turn c =
     o .loop .inv .2
     ∙ ap (λ (b : Bool). b && antichain (drop (p .pairs .i + 1) es))
     (apart-turn _ _ _
-    (entries-next (a .count) (a .trues .now) (a .falses .now) (o .loop .j) (c .before .entry-at2 .result) (c .before .before .loop-test .taken) (c .before .entry-at2 .ensures)) e
+    (entries-next (a .count) (a .trues .now) (a .falses .now) (o .loop .j) (c .before .entry-at2 .result)
+    (c .before .before .loop-test .taken) (c .before .entry-at2 .ensures)) e
     ∙ ap (λ (b : Bool). not b && apartOf e (drop (o .loop .j + 1) es)) (sym (c .nested .ensures)))
 
 loop-again : tie.Need-loop-again Inv-loop μ-loop Inv-pairs μ-pairs
@@ -85,14 +71,9 @@ loop-again c =
       omega arith,
       o .loop .inv .1,
       turn (c .before)
-          ∙ ap (λ (b : Bool). not b && apartOf (o .before .entry-at .result) (drop (o .loop .j + 1) es) && antichain (drop (p .pairs .i + 1) es)) (c .if1 .left),
+          ∙ ap (λ (b : Bool). not b && apartOf (o .before .entry-at .result) (drop (o .loop .j + 1) es)
+          && antichain (drop (p .pairs .i + 1) es)) (c .if1 .left),
     )
-
-add-i : tie.Need-add-i Inv-loop μ-loop Inv-pairs μ-pairs
-add-i c = search needs
-
-pairs-less : tie.Need-pairs-less Inv-loop μ-loop Inv-pairs μ-pairs
-pairs-less c = search needs
 
 pairs-again : tie.Need-pairs-again Inv-loop μ-loop Inv-pairs μ-pairs
 unfolding apartOf
@@ -103,7 +84,8 @@ pairs-again c =
       omega arith,
       o .loop .inv .1,
       o .loop .inv .2
-          ∙ ap (λ r. apartOf (o .before .entry-at .result) r && antichain (drop (p .pairs .i + 1) (entriesOf (a .count) (a .trues .now) (a .falses .now))))
+          ∙ ap (λ r. apartOf (o .before .entry-at .result) r
+          && antichain (drop (p .pairs .i + 1) (entriesOf (a .count) (a .trues .now) (a .falses .now))))
           (entries-done (a .count) (a .trues .now) (a .falses .now) (o .loop .j) (c .loop-test .left)),
     )
 
@@ -122,7 +104,8 @@ returns-2 c =
     let a = p .before .before .before .args in
     let es = entriesOf (a .count) (a .trues .now) (a .falses .now) in
     sym (turn (c .before)
-    ∙ ap (λ (b : Bool). not b && apartOf (o .before .entry-at .result) (drop (o .loop .j + 1) es) && antichain (drop (p .pairs .i + 1) es)) (c .if1 .taken))
+    ∙ ap (λ (b : Bool). not b && apartOf (o .before .entry-at .result) (drop (o .loop .j + 1) es) && antichain (drop (p .pairs .i + 1) es))
+    (c .if1 .taken))
 
 pub is-antichain-spec : {M : Type 1} → statement M
 is-antichain-spec =
@@ -133,16 +116,16 @@ is-antichain-spec =
     Inv-pairs
     μ-pairs
     pairs-holds
-    entry-at-requires
-    add-j
+    (λ c κs. search needs)
+    (λ c. search needs)
     loop-holds
-    entry-at-requires-2
-    nested-requires
-    add-j-2
-    loop-less
+    (λ c κs. search needs)
+    (λ c κs. search needs)
+    (λ c. search needs)
+    (λ c. search needs)
     loop-again
-    add-i
-    pairs-less
+    (λ c. search needs)
+    (λ c. search needs)
     pairs-again
     returns
     returns-2)

@@ -20,7 +20,8 @@ within-requires-2 c κs = search needs
 returns-2 : tie.Need-returns-2
 returns-2 c =
     let a = c .before .before .before .args in
-    c .within2 .ensures ∙ sym (ap (λ (t : Bool). t || within (a .b) (a .a)) (sym (c .before .before .within .ensures) ∙ c .before .if1 .left))
+    c .within2 .ensures ∙ sym
+    (ap (λ (t : Bool). t || within (a .b) (a .a)) (sym (c .before .before .within .ensures) ∙ c .before .if1 .left))
 
 pub nested-spec : {M : Type 1} → statement M
 nested-spec = tie.close (tie.spec within-requires returns within-requires-2 returns-2)

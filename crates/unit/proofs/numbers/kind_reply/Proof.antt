@@ -8,18 +8,6 @@ use Rattle.unit.specs.Numbers.{ifAccepted, searchKind, kindReply}
 use Rattle.unit.proofs.numbers.kind_reply.Statement.{statement}
 use Rattle.unit.proofs.numbers.kind_reply.Tie as tie
 
-enum-told : tie.Need-enum-told
-enum-told c = search needs
-
-enum-known-kind : tie.Need-enum-known-kind
-enum-known-kind c = search needs
-
-enum-told-2 : tie.Need-enum-told-2
-enum-told-2 c = search needs
-
-enum-known-kind-2 : tie.Need-enum-known-kind-2
-enum-known-kind-2 c = search needs
-
 returns : tie.Need-returns
 unfolding numberOf positionOf ifAccepted kindAnswer kindPlace searchKind
 returns c = ap (λ (k : Kind). kindReply k (c .before .before .args .size)) (sym (c .enum-told .given .1))
@@ -40,10 +28,10 @@ pub kind-reply-spec : {M : Type 1} → statement M
 kind-reply-spec =
     tie.close
     (tie.spec
-    enum-told
-    enum-known-kind
-    enum-told-2
-    enum-known-kind-2
+    (λ c. search needs)
+    (λ c. search needs)
+    (λ c. search needs)
+    (λ c. search needs)
     returns
     returns-2
     returns-3

@@ -7,24 +7,6 @@ use Rattle.unit.specs.Numbers.{verdictKind, verdictReply}
 use Rattle.unit.proofs.numbers.verdict_reply.Statement.{statement}
 use Rattle.unit.proofs.numbers.verdict_reply.Tie as tie
 
-enum-told : tie.Need-enum-told
-enum-told c = search needs
-
-enum-told-2 : tie.Need-enum-told-2
-enum-told-2 c = search needs
-
-enum-known-verdict : tie.Need-enum-known-verdict
-enum-known-verdict c = search needs
-
-cast-reply : tie.Need-cast-reply
-cast-reply c = search needs
-
-enum-known-verdict-2 : tie.Need-enum-known-verdict-2
-enum-known-verdict-2 c = search needs
-
-enum-known-verdict-3 : tie.Need-enum-known-verdict-3
-enum-known-verdict-3 c = search needs
-
 returns : tie.Need-returns
 unfolding numberOf positionOf verdictAnswer verdictPlace verdictNumber verdictKind
 returns c = ap verdictReply (sym (c .enum-told .given .1))
@@ -49,12 +31,12 @@ pub verdict-reply-spec : {M : Type 1} → statement M
 verdict-reply-spec =
     tie.close
     (tie.spec
-    enum-told
-    enum-told-2
-    enum-known-verdict
-    cast-reply
-    enum-known-verdict-2
-    enum-known-verdict-3
+    (λ c. search needs)
+    (λ c. search needs)
+    (λ c. search needs)
+    (λ c. search needs)
+    (λ c. search needs)
+    (λ c. search needs)
     returns
     returns-2
     returns-3

@@ -6,20 +6,11 @@ use Rattle.unit.proofs.StoredNumbers.{info-stores}
 use Rattle.unit.proofs.numbers.write_info.Statement.{statement}
 use Rattle.unit.proofs.numbers.write_info.Tie as tie
 
-slice-write-info : tie.Need-slice-write-info
-slice-write-info c = search needs
-
 slice-write-info-2 : tie.Need-slice-write-info-2
 slice-write-info-2 c = simp length-set (omega arith)
 
 slice-write-info-3 : tie.Need-slice-write-info-3
 slice-write-info-3 c = simp length-set (omega arith)
-
-slice-write-info-4 : tie.Need-slice-write-info-4
-slice-write-info-4 c = search needs
-
-same-length : tie.Need-same-length
-same-length c = search needs
 
 returns : tie.Need-returns
 returns c = info-stores _ _ (c .pre)
@@ -28,9 +19,9 @@ pub write-info-spec : {M : Type 1} → statement M
 write-info-spec =
     tie.close
     (tie.spec
-    slice-write-info
+    (λ c. search needs)
     slice-write-info-2
     slice-write-info-3
-    slice-write-info-4
-    same-length
+    (λ c. search needs)
+    (λ c. search needs)
     returns)

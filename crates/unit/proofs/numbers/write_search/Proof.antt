@@ -9,36 +9,29 @@ use Rattle.unit.specs.Numbers.{infoOf}
 use Rattle.unit.proofs.numbers.write_search.Statement.{statement}
 use Rattle.unit.proofs.numbers.write_search.Tie as tie
 
-kind-reply-requires : tie.Need-kind-reply-requires
-kind-reply-requires c κs = search needs
-
-copy-bytes-requires : tie.Need-copy-bytes-requires
-copy-bytes-requires c κs = search needs
-
-write-info-requires : tie.Need-write-info-requires
-write-info-requires c κs = search needs
-
-same-length : tie.Need-same-length
-same-length c = search needs
-
-same-length-2 : tie.Need-same-length-2
-same-length-2 c = search needs
-
 returns : tie.Need-returns
 returns c =
-    let k = c .before .before .before .before .before .before .before .before .before .before .before in
+    let after-write-info = c .before .before in
+    let after-copy-bytes = after-write-info .before .before .before .before in
+    let after-11 = after-copy-bytes .before .before .before .before .before in
+    let k = after-11 in
     let a = k .before .before .before .args in
     let told = k .kind-reply .ensures in
-    let n : length (a .t3 .plan) ≡ 8 = search needs in
-    (ap (λ (x : Reply). x .answer) told, (c .before .before .before .before .before .before .copy-bytes .ensures ∙ ap (λ (i : ℕ). a .t3 .plan ++ drop i (a .plan .now)) n, c .before .before .write-info .ensures ∙ ap (λ (x : Reply). infoOf x (a .info .now)) told))
+    let n : length (a .t3 .plan) ≡ 8 = search needs in (
+      ap (λ (x : Reply). x .answer) told,
+      (
+        after-copy-bytes .copy-bytes .ensures ∙ ap (λ (i : ℕ). a .t3 .plan ++ drop i (a .plan .now)) n,
+        after-write-info .write-info .ensures ∙ ap (λ (x : Reply). infoOf x (a .info .now)) told,
+      ),
+    )
 
 pub write-search-spec : {M : Type 1} → statement M
 write-search-spec =
     tie.close
     (tie.spec
-    kind-reply-requires
-    copy-bytes-requires
-    write-info-requires
-    same-length
-    same-length-2
+    (λ c κs. search needs)
+    (λ c κs. search needs)
+    (λ c κs. search needs)
+    (λ c. search needs)
+    (λ c. search needs)
     returns)

@@ -10,47 +10,54 @@ use borrow.Author.Needs.{needs}
 use Rattle.unit.proofs.numbers.write_start.Statement.{statement}
 use Rattle.unit.proofs.numbers.write_start.Tie as tie
 
-enum-known-started : tie.Need-enum-known-started
-enum-known-started c = search needs
-
 write-entries-requires : tie.Need-write-entries-requires
 write-entries-requires c κs =
-    let s = c .before .before .before .before .before .before .before in
-    (s .pre .0, count-by (λ (x : Started). startAnswer x (s .args .trues .now) (s .args .falses .now)) (c .before .before .before .before .started .given .1) (s .pre .1))
-
-enum-known-started-2 : tie.Need-enum-known-started-2
-enum-known-started-2 c = search needs
+    let after-started = c .before .before .before .before in
+    let after-7 = after-started .before .before .before in
+    let s = after-7 in (
+      s .pre .0,
+      count-by (λ (x : Started). startAnswer x (s .args .trues .now) (s .args .falses .now)) (after-started .started .given .1)
+          (s .pre .1),
+    )
 
 write-entries-requires-2 : tie.Need-write-entries-requires-2
-write-entries-requires-2 c κs = (c .before .before .before .before .before .before .before .before .before .pre .0, omega arith)
-
-same-length : tie.Need-same-length
-same-length c = search needs
+write-entries-requires-2 c κs =
+    let start = c .before .before .before .before .before .before .before .before .before in
+    (start .pre .0, omega arith)
 
 returns : tie.Need-returns
 returns c =
-    let s = c .before .before .before .before .before .before .before .before .before .before in
-    let e = c .before .before .before .before .before .before .before .started .given .1 in
-    (answer-by (λ (x : Started). startAnswer x (s .args .trues .now) (s .args .falses .now)) e, table-by (λ (x : Started). startAnswer x (s .args .trues .now) (s .args .falses .now)) e (s .args .numbers .now) _ (c .before .before .write-entries .ensures))
-
-same-length-2 : tie.Need-same-length-2
-same-length-2 c = search needs
+    let after-write-entries = c .before .before in
+    let after-started = after-write-entries .before .before .before .before .before in
+    let after-10 = after-started .before .before .before in
+    let s = after-10 in
+    let e = after-started .started .given .1 in (
+      answer-by (λ (x : Started). startAnswer x (s .args .trues .now) (s .args .falses .now)) e,
+      table-by (λ (x : Started). startAnswer x (s .args .trues .now) (s .args .falses .now)) e (s .args .numbers .now) _
+          (after-write-entries .write-entries .ensures),
+    )
 
 returns-2 : tie.Need-returns-2
 returns-2 c =
-    let s = c .before .before .before .before .before .before .before .before .before .before .before .before in
-    let e = c .before .before .before .before .before .before .before .before .before .started2 .given .1 in
-    (answer-by (λ (x : Started). startAnswer x (s .args .trues .now) (s .args .falses .now)) e, table-by (λ (x : Started). startAnswer x (s .args .trues .now) (s .args .falses .now)) e (s .args .numbers .now) _ (c .before .before .write-entries2 .ensures ∙ ap (λ (t : Table). tableOut t (s .args .numbers .now)) zeros-table))
+    let after-write-entries2 = c .before .before in
+    let after-started2 = after-write-entries2 .before .before .before .before .before .before .before in
+    let after-12 = after-started2 .before .before .before in
+    let s = after-12 in
+    let e = after-started2 .started2 .given .1 in (
+      answer-by (λ (x : Started). startAnswer x (s .args .trues .now) (s .args .falses .now)) e,
+      table-by (λ (x : Started). startAnswer x (s .args .trues .now) (s .args .falses .now)) e (s .args .numbers .now) _
+          (after-write-entries2 .write-entries2 .ensures ∙ ap (λ (t : Table). tableOut t (s .args .numbers .now)) zeros-table),
+    )
 
 pub write-start-spec : {M : Type 1} → statement M
 write-start-spec =
     tie.close
     (tie.spec
-    enum-known-started
+    (λ c. search needs)
     write-entries-requires
-    enum-known-started-2
+    (λ c. search needs)
     write-entries-requires-2
-    same-length
+    (λ c. search needs)
     returns
-    same-length-2
+    (λ c. search needs)
     returns-2)
