@@ -27,24 +27,28 @@ returns-2 c =
 step-at-requires : tie.Need-step-at-requires
 unfolding entries
 step-at-requires c κs =
-    let after-if2 = c .before .before .before .before in
-    let after-described = after-if2 .before in
-    let after-if1 = after-described .before in
-    let after-enum-told = after-if1 .before .before .before in
-    let after-decode = after-enum-told .before .before in
-    let start = after-decode .before .before .before .before .before in
-    let t = lent (start .args .count) (start .args .trues .now) (start .args .falses .now) in
-    let e = after-decode .decode .ensures .0 in
-    let a = after-enum-told .enum-told .given .1 in
-    let lt = after-if1 .if1 .left in
-    let f = its-fits _ _ _ e t _ a lt (sym (after-described .described .ensures) ∙ not-false _ (after-if2 .if2 .left)) in
+    let t = lent (c .before .before .before .before .before .before .before .before .before .before .before .before .before .before .before .before .args .count) (c .before .before .before .before .before .before .before .before .before .before .before .before .before .before .before .before .args .trues .now) (c .before .before .before .before .before .before .before .before .before .before .before .before .before .before .before .before .args .falses .now) in
+    let e = c .before .before .before .before .before .before .before .before .before .before .before .decode .ensures .0 in
+    let a = c .before .before .before .before .before .before .before .before .before .enum-told .given .1 in
+    let lt = c .before .before .before .before .before .before .if1 .left in
+    let f = its-fits _ _ _ e t _ a lt
+    (sym (c .before .before .before .before .before .described .ensures)
+    ∙ not-false _ (c .before .before .before .before .if2 .left)) in
     record {
       move = record { long = search needs; move-most = its-most _ _ _ e t _ a lt; effects-few = its-count _ _ _ e t _ a lt; fits = f };
       room = record {
-        trues = omega (arith, f .entries-most, start .pre .0 .trues);
-        falses = omega (arith, f .entries-most, start .pre .0 .falses);
+        trues = omega (
+          arith,
+          f .entries-most,
+          c .before .before .before .before .before .before .before .before .before .before .before .before .before .before .before .before .pre .0 .trues,
+        );
+        falses = omega (
+          arith,
+          f .entries-most,
+          c .before .before .before .before .before .before .before .before .before .before .before .before .before .before .before .before .pre .0 .falses,
+        );
       };
-      fresh = start .pre .1;
+      fresh = c .before .before .before .before .before .before .before .before .before .before .before .before .before .before .before .before .pre .1;
     }
 
 returns-3 : tie.Need-returns-3
