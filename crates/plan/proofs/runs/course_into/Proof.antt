@@ -21,13 +21,11 @@ returns c =
 
 run-sheet-requires : tie.Need-run-sheet-requires
 run-sheet-requires c κs =
-    let after-enum-told = c .before .before .before .before .before .before .before .before in
-    let after-decode = after-enum-told .before .before in
-    let start = after-decode .before .before .before in
     record {
-      filled = filled _ _ _ (after-decode .decode .ensures) (after-enum-told .enum-told .given .1) (search needs);
-      fresh = start .pre .0;
-      fresh-rows = start .pre .1;
+      filled = filled _ _ _ (c .before .before .before .before .before .before .before .before .before .before .decode .ensures)
+          (c .before .before .before .before .before .before .before .before .enum-told .given .1) (search needs);
+      fresh = c .before .before .before .before .before .before .before .before .before .before .before .before .before .pre .0;
+      fresh-rows = c .before .before .before .before .before .before .before .before .before .before .before .before .before .pre .1;
     }
 
 returns-2 : tie.Need-returns-2
