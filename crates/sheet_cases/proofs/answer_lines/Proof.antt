@@ -1,5 +1,6 @@
 -- `sheet_cases::answer_lines` is safe and ends. The measure is what is left of the text. Assumes nothing.
 use Prim.Native.Nat.{_-_}
+use mathlib.Core.Path.{_≡_}
 use native.Mathlib.Omega.{arith}
 use lib.ListN.{length}
 use borrow.Author.Needs.{needs}
@@ -7,37 +8,46 @@ use Rattle.sheet_cases.proofs.answer_lines.Statement.{statement}
 use Rattle.sheet_cases.proofs.answer_lines.Tie as tie
 
 abbrev Inv-loop : tie.InvT-loop
-Inv-loop text at₀ at = Unit {0}
+Inv-loop text bytes₀ at₀ bytes at = length bytes ≡ 8192
 
 abbrev μ-loop : tie.MeasureT-loop
-μ-loop text at₀ at = length text - at
+μ-loop text bytes₀ at₀ bytes at = length text - at
+
+room-requires : tie.Need-room-requires Inv-loop μ-loop
+room-requires c κs = search needs
 
 loop-holds : tie.Need-loop-holds Inv-loop μ-loop
-loop-holds c = tt
+loop-holds c = omega arith
 
-line-end-requires : tie.Need-line-end-requires Inv-loop μ-loop
-line-end-requires c κs = search needs
+slice-aggregate-next-line : tie.Need-slice-aggregate-next-line Inv-loop μ-loop
+slice-aggregate-next-line c = search needs
 
-sub-answer-line : tie.Need-sub-answer-line Inv-loop μ-loop
-sub-answer-line c = omega arith
+next-line-requires : tie.Need-next-line-requires Inv-loop μ-loop
+next-line-requires c κs = search needs
 
-part-answer-line-start : tie.Need-part-answer-line-start Inv-loop μ-loop
-part-answer-line-start c = search needs
+array-share-prefix-bytes : tie.Need-array-share-prefix-bytes Inv-loop μ-loop
+array-share-prefix-bytes c = search needs
 
-part-answer-line-end : tie.Need-part-answer-line-end Inv-loop μ-loop
-part-answer-line-end c = search needs
+slice-aggregate-judge : tie.Need-slice-aggregate-judge Inv-loop μ-loop
+slice-aggregate-judge c = search needs
 
-answer-line-requires : tie.Need-answer-line-requires Inv-loop μ-loop
-answer-line-requires c κs = tt
+judge-requires : tie.Need-judge-requires Inv-loop μ-loop
+judge-requires c κs = search needs
 
-add-at : tie.Need-add-at Inv-loop μ-loop
-add-at c = omega arith
+write-answer-requires : tie.Need-write-answer-requires Inv-loop μ-loop
+write-answer-requires c κs = search needs
 
 loop-less : tie.Need-loop-less Inv-loop μ-loop
 loop-less c = omega arith
 
 loop-again : tie.Need-loop-again Inv-loop μ-loop
-loop-again c = tt
+loop-again c = omega arith
+
+loop-less-2 : tie.Need-loop-less-2 Inv-loop μ-loop
+loop-less-2 c = omega arith
+
+loop-again-2 : tie.Need-loop-again-2 Inv-loop μ-loop
+loop-again-2 c = omega arith
 
 returns : tie.Need-returns Inv-loop μ-loop
 returns c = tt
@@ -48,13 +58,16 @@ answer-lines-spec =
     (tie.spec
     Inv-loop
     μ-loop
+    room-requires
     loop-holds
-    line-end-requires
-    sub-answer-line
-    part-answer-line-start
-    part-answer-line-end
-    answer-line-requires
-    add-at
+    slice-aggregate-next-line
+    next-line-requires
+    array-share-prefix-bytes
+    slice-aggregate-judge
+    judge-requires
+    write-answer-requires
     loop-less
     loop-again
+    loop-less-2
+    loop-again-2
     returns)
