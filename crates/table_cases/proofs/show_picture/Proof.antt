@@ -13,7 +13,8 @@ array-borrow-prefix-room : tie.Need-array-borrow-prefix-room
 array-borrow-prefix-room c = search needs
 
 slice-aggregate-drawn : tie.Need-slice-aggregate-drawn
-slice-aggregate-drawn c = sym (length-take-le (c .before .before .before .args .size) (c .before .buffer .result) (omega (arith, c .before .buffer .ensures)))
+slice-aggregate-drawn c = sym (length-take-le (c .before .before .before .args .size) (c .before .buffer .result)
+    (omega (arith, c .before .buffer .ensures)))
 
 drawn-requires : tie.Need-drawn-requires
 drawn-requires c κs = search needs
