@@ -15,8 +15,8 @@ pub struct Line {
     pub count: usize,
 }
 
-// What a line gives that is a case for the current sheet: where the next line starts, the length of the current sheet, and how many
-// bytes the case has. A line that is no case (a heading, a sheet, nothing) has none.
+// A line that was read as a case for the current sheet: where the next line starts, the length of the current sheet, and how many
+// bytes the case has. A line that is no case (a heading, a sheet, an empty line) has none.
 pub struct Case {
     pub next: usize,
     pub size: usize,

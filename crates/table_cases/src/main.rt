@@ -15,7 +15,8 @@ ghost use mathlib.Core.Path.{_≡_};
 ghost use Prim.Native.Nat.{_≤_};
 ghost use lib.ListN.{length};
 
-fn empty() -> Table {
+// A table with no entries.
+fn empty_table() -> Table {
     Table {
         count: 0,
         trues: [0u32; 128],
@@ -37,7 +38,7 @@ fn covered(t: Table, w: u32) -> bool {
 }
 
 // How many worlds of n propositions a table stands for, counted one by one.
-fn worlds(t: Table, n: u8) -> u64
+fn count_worlds(t: Table, n: u8) -> u64
     requires { ⌜ n ≤ 10 ⌝ }
 {
     let mut found: u64 = 0;
@@ -52,8 +53,8 @@ fn worlds(t: Table, n: u8) -> u64
     found
 }
 
-// What a call on tables gave, and the table that came back.
-fn told(sheet: &[u8], r: TableAnswer) -> Table {
+// What a call on tables gave, written; the table that came back.
+fn show_table(sheet: &[u8], r: TableAnswer) -> Table {
     let answer = r.answer;
     cases::write_answer(answer);
     let t = r.table;
@@ -62,7 +63,7 @@ fn told(sheet: &[u8], r: TableAnswer) -> Table {
         if 0 < sheet.len() {
             let n = sheet[0];
             if n <= 10 {
-                cases::write_number(b"worlds ", worlds(t, n));
+                cases::write_number(b"worlds ", count_worlds(t, n));
             }
         }
     }
@@ -71,7 +72,7 @@ fn told(sheet: &[u8], r: TableAnswer) -> Table {
 
 // The table of a line.
 fn table_of(bytes: &[u8]) -> Table {
-    let mut t = empty();
+    let mut t = empty_table();
     t.count = cases::number(bytes, 1, 8) as usize;
     let mut i: usize = 0;
     while i < 128 {
@@ -83,14 +84,14 @@ fn table_of(bytes: &[u8]) -> Table {
 }
 
 // Room for a picture.
-fn buffer() -> [u8; 4096]
+fn picture_room() -> [u8; 4096]
     ensures { λ r. ⌜ 4096 ≡ length r ⌝ }
 {
     [170u8; 4096]
 }
 
-// The picture in a buffer, and what the buffer then holds.
-fn drawn(sheet: &[u8], t: Table, buffer: &mut [u8]) {
+// The picture in a buffer, its answer and a digest of the buffer written.
+fn show_picture_in(sheet: &[u8], t: Table, buffer: &mut [u8]) {
     let r = table::picture(sheet, t, buffer);
     let answer = r.answer;
     cases::write_answer(answer);
@@ -106,12 +107,12 @@ fn drawn(sheet: &[u8], t: Table, buffer: &mut [u8]) {
 fn show_picture(sheet: &[u8], t: Table, size: usize)
     requires { ⌜ size ≤ 4096 ⌝ }
 {
-    let mut room = buffer();
-    drawn(sheet, t, &mut room[..size]);
+    let mut room = picture_room();
+    show_picture_in(sheet, t, &mut room[..size]);
 }
 
 // The size of a buffer, in two bytes.
-fn size_in(bytes: &[u8]) -> usize
+fn buffer_size(bytes: &[u8]) -> usize
     ensures { λ r. ⌜ r ≤ 4096 ⌝ }
 {
     (cases::number(bytes, 1, 2) % 4097) as usize
@@ -124,14 +125,14 @@ fn act(sheet: &[u8], t: Table, bytes: &[u8]) -> Table {
     }
     let what = bytes[0];
     match what {
-        1 => told(sheet, table::start(sheet)),
-        2 => told(
+        1 => show_table(sheet, table::start(sheet)),
+        2 => show_table(
             sheet,
             table::step(sheet, t, cases::number(bytes, 1, 8) as usize),
         ),
         3 => table_of(bytes),
         _ => {
-            show_picture(sheet, t, size_in(bytes));
+            show_picture(sheet, t, buffer_size(bytes));
             t
         }
     }
@@ -142,7 +143,7 @@ fn answer_lines(text: &[u8]) {
     let mut sheet = cases::room();
     let mut bytes = cases::room();
     let mut size: usize = 0;
-    let mut t = empty();
+    let mut t = empty_table();
     let mut at: usize = 0;
     while at < text.len() {
         let case = cases::next_case(text, at, &mut sheet, size, &mut bytes);

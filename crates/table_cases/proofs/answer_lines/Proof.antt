@@ -20,8 +20,8 @@ room-requires c κs = search needs
 room-requires-2 : tie.Need-room-requires-2 Inv-loop μ-loop
 room-requires-2 c κs = search needs
 
-empty-requires : tie.Need-empty-requires Inv-loop μ-loop
-empty-requires c κs = search needs
+empty-table-requires : tie.Need-empty-table-requires Inv-loop μ-loop
+empty-table-requires c κs = search needs
 
 loop-holds : tie.Need-loop-holds Inv-loop μ-loop
 loop-holds c = search needs
@@ -67,7 +67,7 @@ answer-lines-spec =
     μ-loop
     room-requires
     room-requires-2
-    empty-requires
+    empty-table-requires
     loop-holds
     slice-aggregate-next-case
     slice-aggregate-next-case-2

@@ -6,18 +6,18 @@ use borrow.Author.Needs.{needs}
 use Rattle.table_cases.proofs.show_picture.Statement.{statement}
 use Rattle.table_cases.proofs.show_picture.Tie as tie
 
-buffer-requires : tie.Need-buffer-requires
-buffer-requires c κs = search needs
+picture-room-requires : tie.Need-picture-room-requires
+picture-room-requires c κs = search needs
 
 array-borrow-prefix-room : tie.Need-array-borrow-prefix-room
 array-borrow-prefix-room c = search needs
 
-slice-aggregate-drawn : tie.Need-slice-aggregate-drawn
-slice-aggregate-drawn c = sym (length-take-le (c .before .before .before .args .size) (c .before .buffer .result)
-    (omega (arith, c .before .buffer .ensures)))
+slice-aggregate-show-picture-in : tie.Need-slice-aggregate-show-picture-in
+slice-aggregate-show-picture-in c = sym (length-take-le (c .before .before .before .args .size) (c .before .picture-room .result)
+    (omega (arith, c .before .picture-room .ensures)))
 
-drawn-requires : tie.Need-drawn-requires
-drawn-requires c κs = search needs
+show-picture-in-requires : tie.Need-show-picture-in-requires
+show-picture-in-requires c κs = search needs
 
 returns : tie.Need-returns
 returns c = search needs
@@ -26,8 +26,8 @@ pub show-picture-spec : {M : Type 1} → statement M
 show-picture-spec =
     tie.close
     (tie.spec
-    buffer-requires
+    picture-room-requires
     array-borrow-prefix-room
-    slice-aggregate-drawn
-    drawn-requires
+    slice-aggregate-show-picture-in
+    show-picture-in-requires
     returns)

@@ -11,8 +11,8 @@ Inv-loop bytes t₀ i₀ t i = i ≤ 128
 abbrev μ-loop : tie.MeasureT-loop
 μ-loop bytes t₀ i₀ t i = 128 - i
 
-empty-requires : tie.Need-empty-requires Inv-loop μ-loop
-empty-requires c κs = search needs
+empty-table-requires : tie.Need-empty-table-requires Inv-loop μ-loop
+empty-table-requires c κs = search needs
 
 number-requires : tie.Need-number-requires Inv-loop μ-loop
 number-requires c κs = search needs
@@ -74,7 +74,7 @@ table-of-spec =
     (tie.spec
     Inv-loop
     μ-loop
-    empty-requires
+    empty-table-requires
     number-requires
     loop-holds
     mul-number

@@ -1,10 +1,10 @@
--- `table_cases::worlds` is safe and ends. Assumes nothing.
+-- `table_cases::count_worlds` is safe and ends. Assumes nothing.
 use Prim.Native.Nat.{_<_, _-_}
 use native.Mathlib.Omega.{arith}
 use borrow.Author.Needs.{needs}
 use mathlib.Core.Logic.{⊎-elim}
-use Rattle.table_cases.proofs.worlds.Statement.{statement}
-use Rattle.table_cases.proofs.worlds.Tie as tie
+use Rattle.table_cases.proofs.count_worlds.Statement.{statement}
+use Rattle.table_cases.proofs.count_worlds.Tie as tie
 
 abbrev Inv-loop : tie.InvT-loop
 Inv-loop t n found₀ limit w₀ found w = found < 2048
@@ -36,8 +36,8 @@ loop-again c = ⊎-elim (λ w. omega arith) (λ w. omega arith) (c .if1 .came)
 returns : tie.Need-returns Inv-loop μ-loop
 returns c = tt
 
-pub worlds-spec : {M : Type 1} → statement M
-worlds-spec =
+pub count-worlds-spec : {M : Type 1} → statement M
+count-worlds-spec =
     tie.close
     (tie.spec
     Inv-loop
