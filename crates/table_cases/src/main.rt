@@ -5,7 +5,7 @@
 //   01              start; the table it gives is the current one from here on
 //   02 NUMBER       step the current table by the move of this number (8 bytes), and go on with the table that comes back
 //   03 COUNT MASKS  the current table: its count (8 bytes), then 128 pairs of masks (4 bytes each), zeros where the line ends before
-//   04 SIZE         the picture of the current table in a buffer of so many bytes (2 bytes), each 170 before the call
+//   04 SIZE         the picture of the current table in a buffer of so many bytes (2 bytes, at most 4096), each 170 before
 // Written: the answer; for 01 and 02 the count and a digest of all slots of the table that comes back and, where it is accepted and n
 // is at most 10, how many worlds the table stands for; for 04 the number of clauses and a digest of the buffer.
 use libc::STDIN_FILENO;
