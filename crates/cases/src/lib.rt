@@ -1,11 +1,27 @@
-// Cases as lines of text, for the programs that run vectors: a line that starts with '#' is a heading; any other is bytes in
-// hexadecimal, two digits for each byte, one space between bytes.
+// Lines of cases, shared by the programs that run vectors: reading them, writing what the calls give, and digests.
+// A line that starts with '#' is a heading, which is written as it is; any other is bytes in hexadecimal, two digits for each byte,
+// one space between bytes.
 use libc::STDOUT_FILENO;
 use sheet::Answer;
 ghost use mathlib.Core.Path.{_≡_};
 ghost use Prim.Native.Nat.{_≤_, _<_};
 ghost use lib.ListN.{length};
 ghost use Rattle.io.specs.Counts.{Counts};
+
+// A line that was read: where the next one starts, whether it is a heading, and how many bytes it has (a heading has none).
+pub struct Line {
+    pub next: usize,
+    pub heading: bool,
+    pub count: usize,
+}
+
+// A line that was read as a case for the current sheet: where the next line starts, the length of the current sheet, and how many
+// bytes the case has. A line that is no case (a heading, a sheet, an empty line) has none.
+pub struct Case {
+    pub next: usize,
+    pub size: usize,
+    pub count: usize,
+}
 
 // Room for the whole input.
 pub fn input() -> [u8; 262144]
@@ -22,7 +38,7 @@ pub fn room() -> [u8; 8192]
 }
 
 // Where the line that starts at `from` ends: at its line feed, or at the end of the text.
-pub fn line_end(text: &[u8], from: usize) -> usize
+fn line_end(text: &[u8], from: usize) -> usize
     requires { ⌜ from ≤ length (now text) ⌝ }
     ensures { λ r. ⌜ (from ≤ r) × (r ≤ length (now (text .entry))) ⌝ }
 {
@@ -53,7 +69,7 @@ fn byte(high: u8, low: u8) -> u8 {
 }
 
 // Puts the bytes of a line into `out`, as many as fit, and answers how many there are.
-pub fn decode(line: &[u8], out: &mut [u8]) -> usize
+fn decode(line: &[u8], out: &mut [u8]) -> usize
     ensures { λ r. ⌜ Counts r (now (out .exit)) ⌝ }
 {
     let mut n = 0;
@@ -71,55 +87,72 @@ pub fn decode(line: &[u8], out: &mut [u8]) -> usize
 }
 
 // Whether a line starts with '#'.
-pub fn is_heading(line: &[u8]) -> bool {
+fn is_heading(line: &[u8]) -> bool {
     if line.len() == 0 {
         return false;
     }
     line[0] == b'#'
 }
 
-// A line as it is.
-pub fn write_line(line: &[u8]) {
-    io::write_all(STDOUT_FILENO, line);
-    io::write_all(STDOUT_FILENO, b"\n");
-}
-
-// `refused N at P`
-fn write_refusal(number: u8, position: usize) {
-    io::write_all(STDOUT_FILENO, b"refused ");
-    io::print_decimal(STDOUT_FILENO, number as u64);
-    io::write_all(STDOUT_FILENO, b" at ");
-    io::print_decimal(STDOUT_FILENO, position as u64);
-    io::write_all(STDOUT_FILENO, b"\n");
-}
-
-// An answer, as a line.
-pub fn write_answer(answer: Answer) {
-    match answer {
-        Answer::Accepted => {
-            io::write_all(STDOUT_FILENO, b"accepted\n");
-        }
-        Answer::Refused(number, position) => write_refusal(number, position),
+// The line that starts at `at`, read: a heading is written, the bytes of any other are put into `bytes`.
+pub fn next_line(text: &[u8], at: usize, bytes: &mut [u8]) -> Line
+    requires { ⌜ at < length (now text) ⌝ }
+    ensures { λ r. ⌜ (at < r .next) × Counts (r .count) (now (bytes .exit)) ⌝ }
+{
+    let end = line_end(text, at);
+    let line = &text[at..end];
+    if is_heading(line) {
+        write_line(line);
+        return Line {
+            next: end + 1,
+            heading: true,
+            count: 0,
+        };
+    }
+    let count = decode(line, bytes);
+    Line {
+        next: end + 1,
+        heading: false,
+        count,
     }
 }
 
-// Two words, each with a number, as a line.
-pub fn write_pair(first: &[u8], a: u64, second: &[u8], b: u64) {
-    io::write_all(STDOUT_FILENO, first);
-    io::print_decimal(STDOUT_FILENO, a);
-    io::write_all(STDOUT_FILENO, second);
-    io::print_decimal(STDOUT_FILENO, b);
-    io::write_all(STDOUT_FILENO, b"\n");
+// The first `count` bytes but the very first, kept as the current sheet: its length.
+fn keep(bytes: &[u8], count: usize, sheet: &mut [u8]) -> usize
+    requires { ⌜ count ≤ length (now bytes) ⌝ }
+    ensures { λ r. ⌜ Counts r (now (sheet .exit)) ⌝ }
+{
+    let mut n: usize = 0;
+    while n < sheet.len() {
+        let from = n + 1;
+        if count <= from {
+            return n;
+        }
+        sheet[n] = bytes[from];
+        n += 1;
+    }
+    n
 }
 
-// A byte as a wider number.
-pub fn wide(x: u8) -> u64 {
-    x as u64
-}
-
-// A mask as a wider number.
-pub fn wide_mask(x: u32) -> u64 {
-    x as u64
+// The line that starts at `at`, read, where a first byte 0 says that the current sheet follows: that sheet is kept.
+pub fn next_case(text: &[u8], at: usize, sheet: &mut [u8], size: usize, bytes: &mut [u8]) -> Case
+    requires { ⌜ (at < length (now text)) × Counts size (now sheet) ⌝ }
+    ensures { λ r. ⌜ (at < r .next) × Counts (r .size) (now (sheet .exit)) × Counts (r .count) (now (bytes .exit)) ⌝ }
+{
+    let line = next_line(text, at, bytes);
+    let next = line.next;
+    let count = line.count;
+    if 0 < count {
+        if bytes[0] == 0 {
+            let kept = keep(bytes, count, sheet);
+            return Case {
+                next,
+                size: kept,
+                count: 0,
+            };
+        }
+    }
+    Case { next, size, count }
 }
 
 // The number in the `size` bytes from `at` on, high byte first; bytes past the end are 0.
@@ -140,9 +173,84 @@ pub fn number(bytes: &[u8], at: usize, size: usize) -> u64
     value
 }
 
+// A line as it is.
+pub fn write_line(line: &[u8]) {
+    io::write_all(STDOUT_FILENO, line);
+    io::write_all(STDOUT_FILENO, b"\n");
+}
+
+// A word with a number, as a line.
+pub fn write_number(word: &[u8], number: u64) {
+    io::write_all(STDOUT_FILENO, word);
+    io::print_decimal(STDOUT_FILENO, number);
+    io::write_all(STDOUT_FILENO, b"\n");
+}
+
+// Two words, each with a number, as a line.
+pub fn write_pair(first: &[u8], a: u64, second: &[u8], b: u64) {
+    io::write_all(STDOUT_FILENO, first);
+    io::print_decimal(STDOUT_FILENO, a);
+    write_number(second, b);
+}
+
+// `refused N at P`, as a line.
+pub fn write_refusal(number: u8, position: usize) {
+    write_pair(b"refused ", number as u64, b" at ", position as u64);
+}
+
+// An answer, as a line.
+pub fn write_answer(answer: Answer) {
+    match answer {
+        Answer::Accepted => write_line(b"accepted"),
+        Answer::Refused(number, position) => write_refusal(number, position),
+    }
+}
+
+// How many entries a table has, and a digest of all its slots, as a line.
+pub fn write_table<'a>(count: usize, trues: &'a [u32; 128], falses: &'a [u32; 128]) {
+    write_pair(
+        b"count ",
+        count as u64,
+        b" slots ",
+        digest_slots(trues, falses),
+    );
+}
+
+// A byte as a wider number.
+fn wide(x: u8) -> u64 {
+    x as u64
+}
+
 // One number more in a digest.
 pub fn mixed(digest: u64, number: u64) -> u64
     ensures { λ r. ⌜ r < 4294967296 ⌝ }
 {
     (digest % 4294967296 * 31 + number % 4294967296) % 4294967296
+}
+
+// Two masks more in a digest.
+fn mixed_masks(digest: u64, trues: u32, falses: u32) -> u64 {
+    mixed(mixed(digest, trues as u64), falses as u64)
+}
+
+// A digest of some bytes.
+pub fn digest_bytes(bytes: &[u8]) -> u64 {
+    let mut value: u64 = 0;
+    let mut i: usize = 0;
+    while i < bytes.len() {
+        value = mixed(value, wide(bytes[i]));
+        i += 1;
+    }
+    value
+}
+
+// A digest of all slots of a table.
+fn digest_slots<'a>(trues: &'a [u32; 128], falses: &'a [u32; 128]) -> u64 {
+    let mut value: u64 = 0;
+    let mut i: usize = 0;
+    while i < 128 {
+        value = mixed_masks(value, trues[i], falses[i]);
+        i += 1;
+    }
+    value
 }

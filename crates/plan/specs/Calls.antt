@@ -21,8 +21,7 @@ use Rattle.plan.specs.Search.{Answer, found, fullAt, nothing, firstOf, p
 use Rattle.plan.specs.Cases.{RunEnd, verdictCase, SearchEnd, kindCase}
 
 -- ---- run: a fault of the sheet; 23 for fewer than 65 rows; 20 or 21 of the start; then the plan. Refused: a table with count 0 and all
--- slots zero, and no row written
--- how a run that was not refused ended
+-- slots zero, and no row written how a run that was not refused ended
 unfoldable pub verdictOf : Verdict → case.Verdict
 verdictOf v = verdictCase (RunEnd.ended v)
 

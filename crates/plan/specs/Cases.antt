@@ -11,8 +11,7 @@ use Rattle.plan.specs.Search.{Answer, found, fullAt, nothing}
 
 -- ---- from document 01's words to the enum
 -- how a run ends: a verdict, or a refusal with its number and position ("a start's 20 or 21 refuses the run or search", after a fault of
--- the
--- sheet and 23 for rows)
+-- the sheet and 23 for rows)
 pub data RunEnd : Type 0 where
   ended : Verdict → RunEnd
   refused : ℕ → ℕ → RunEnd

@@ -79,8 +79,8 @@ clausesOr Accepted clauses = clauses
 clausesOr (Refused number position) clauses = 257
 
 -- "A run's final picture is what the picture call writes for the table that the run returns: the two bytes of count and the clauses,
--- nothing
--- after them": none if that call gives 21, or the run is refused (on an accepted sheet its table is then empty, and the call gives 22)
+-- nothing after them": none if that call gives 21, or the run is refused (on an accepted sheet its table is then empty, and the call gives
+-- 22)
 unfoldable pub finalOf : List ℕ → ℕ → Option (List ℕ)
 finalOf s rows =
     let t = runOf (sheetOf s) rows .table in

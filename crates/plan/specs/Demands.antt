@@ -1,17 +1,13 @@
 -- The three demands, sentence by sentence, and after them the request W2 of document 02: statements only, over the calls' own definitions
 -- (`judgeOf`, `startOf`, `stepOf`, `pictureOf`, `bufferOf`, `runOf`, `rowsAfter`, `searchOf` on what the bytes say, `sheetOf s`) and over
--- worlds
--- (`Starting`, `stepWorld`, `runWorld`, `InGoal`); where document 01 states a working order, also over that (the form of a sheet,
--- `growAll`,
--- `putImages`, `picture`).
+-- worlds (`Starting`, `stepWorld`, `runWorld`, `InGoal`); where document 01 states a working order, also over that (the form of a sheet,
+-- `growAll`, `putImages`, `picture`).
 -- A demand is a record; its fields are the sentences, put in groups, one record to a call, so that what a group speaks of is said once: the
 -- bytes s, which say x (`Says s x`: they are accepted as the sheet of x), a table t, a move m, rows, a limit. These are any; a field says
--- what
--- else it takes. Proved in proofs/Demands.
--- Words, in reading order: sheet/specs/Lists, Literals, Problem, Form, Format, Encoding, Calls, Faults; table/specs/Worlds, Minimal, Slots,
--- Start, Step, Picture, Prime, Calls, PictureCalls, CallWords; beside this page Run, Search, Cases, Calls, Meaning, Order, Exchange,
--- Demand3,
--- DemandWords.
+-- what else it takes. Proved in proofs/Demands.
+-- Words, in reading order: sheet/specs/Lists, Literals, Problem, Form, Format, Encoding, Calls, Faults; table/specs/Worlds, Minimal,
+-- Entries, Start, Step, Picture, Prime, Calls, PictureCalls, CallWords; beside this page Run, Search, Cases, Calls, Meaning, Order,
+-- Exchange, Demand3, DemandWords.
 -- The program `check` prints what `report` writes (specs/Text), by the same run; of it the page has only the output that document 01 shows.
 use mathlib.Core.Path.{_≡_}
 use mathlib.Core.Bool.{Bool, true, false, not, _&&_, _||_}
@@ -272,9 +268,8 @@ pub record Demand1 : Type 0 where
   pub output : outputOf (sheetOf printed) ≡ ascii "place entries clauses\n0 3 4\n1 2 3\n2 1 3\nreached\n"
 
 -- ==== Demand 2: "A move turns a table into one for exactly the worlds got by stepping each world alone, as To, Son and Pontelli define it,
--- and
--- is undefined exactly when some world can't take it; else it fails only where the new table fills. On a sheet with a starting world, a run
--- that fills no table is "reached" exactly when every starting world takes every move and ends in the goal. The search gives the first
+-- and is undefined exactly when some world can't take it; else it fails only where the new table fills. On a sheet with a starting world, a
+-- run that fills no table is "reached" exactly when every starting world takes every move and ends in the goal. The search gives the first
 -- shortest such run, or "none" exactly when there is none within its limit, unless an earlier run fills the table, which it names. … the
 -- published definition must carry this and not our turret."
 
@@ -306,8 +301,7 @@ pub record TableWorlds (s : List ℕ) (x : Statement) : Type 0 where
       → (stepOf (sheetOf s) t index .answer ≡ Accepted) ⊎
       ((stepOf (sheetOf s) t index .answer ≡ Refused 21 0) × (putImages x t index ≡ none))
   -- for tables: the new entries are min of the images of the pieces, as in source 001, Definition 4; but the pieces are document 01's,
-  -- without
-  -- the min that 001 takes between conditions
+  -- without the min that 001 takes between conditions
   pub step-least : (t : Table) (index : ℕ) → stepOf (sheetOf s) t index .answer ≡ Accepted → (d : Literals)
       → List·Memᴰ d (entries (stepOf (sheetOf s) t index .table)) ↔ Least (images x t index) d
   -- the first table stands for exactly the starting worlds
@@ -360,8 +354,7 @@ pub record SearchFinds (s : List ℕ) (x : Statement) : Type 0 where
   pub full-at-end : (limit : ℕ) → limit ≤ 8 → (k : ℕ) → searchOf (sheetOf s) limit .kind ≡ kind.Full k
       → k ≡ searchOf (sheetOf s) limit .length
   -- the same by worlds: the plan found is the first within the limit that takes every starting world to the goal; each earlier one fails
-  -- for
-  -- some; there is a starting world, and no run up to that plan is full
+  -- for some; there is a starting world, and no run up to that plan is full
   pub reached-worlds : (limit : ℕ) → limit ≤ 8 → (q : List ℕ)
       → ((searchOf (sheetOf s) limit .kind ≡ kind.Reached) × (planFound (searchOf (sheetOf s) limit) ≡ q))
       ↔ (((w : ℕ) × Starts (x .problem) w) × PlanOf (length (x .problem .actions)) limit q × (runFull (runWith (x .problem) q) ≡ false)
@@ -384,22 +377,16 @@ pub record Demand2 : Type 0 where
   pub searches : (s : List ℕ) (x : Statement) → Says s x → SearchFinds s x
 
 -- ==== Demand 3: "Take any sheet with a starting world, any plan on it, and any list of exchanges of neighbouring moves, each made in the
--- plan
--- that the one before left, and changing nothing where the two touch. Whatever the plans between meet, if neither the first plan's run nor
--- the
--- last one's is full, both are reached, both short or both stopped, place and number aside. Unless stopped, their final pictures, if
--- neither
--- is full, are the same byte for byte. And for every two plans on that sheet, however their runs end, final pictures that aren't full are
--- the
--- same byte for byte exactly when two sets of worlds are the same: what its starting worlds become, each stepped alone through the moves
--- that
--- one run took, and through those that the other took."
+-- plan that the one before left, and changing nothing where the two touch. Whatever the plans between meet, if neither the first plan's run
+-- nor the last one's is full, both are reached, both short or both stopped, place and number aside. Unless stopped, their final pictures,
+-- if neither is full, are the same byte for byte. And for every two plans on that sheet, however their runs end, final pictures that aren't
+-- full are the same byte for byte exactly when two sets of worlds are the same: what its starting worlds become, each stepped alone through
+-- the moves that one run took, and through those that the other took."
 
 -- ---- touching moves and exchanges, for any moves f by their numbers
 pub record ExchangeDemand (f : ℕ → Action) : Type 0 where
   -- document 02, W2, in the place of document 01's wording: "two moves touch if a result of one has its complement among the other's
-  -- results,
-  -- or if a proposition in a result of one is named in the other's precondition or conditions"
+  -- results, or if a proposition in a result of one is named in the other's precondition or conditions"
   pub touching : (a b : Action) → (touch a b ≡ true) ↔ ((q : ℕ) × TouchesAt a b q)
   -- "An exchange is a number k from 1. It swaps moves k and k + 1 of the plan it gets"
   pub swaps : (k a b : ℕ) (first rest : List ℕ) → k ≡ length first + 1 → touch (f a) (f b) ≡ false
@@ -429,8 +416,7 @@ pub record FinalDemand (s : List ℕ) (x : Statement) : Type 0 where
 -- ---- two plans on one sheet
 pub record TwoPlans (s₁ s₂ : List ℕ) (x y : Statement) : Type 0 where
   -- "Take any sheet with a starting world, any plan on it, and any list of exchanges …. Whatever the plans between meet, if neither the
-  -- first
-  -- plan's run nor the last one's is full, both are reached, both short or both stopped, place and number aside."
+  -- first plan's run nor the last one's is full, both are reached, both short or both stopped, place and number aside."
   pub class : (w : ℕ) → Starts (x .problem) w → (ks : List ℕ) → y .plan ≡ exchanges (actionAt (x .problem)) ks (x .plan)
       → (rows₁ rows₂ : ℕ) → 65 ≤ rows₁ → 65 ≤ rows₂ → runFull (runOf (sheetOf s₁) rows₁) ≡ false
       → runFull (runOf (sheetOf s₂) rows₂) ≡ false

@@ -15,19 +15,7 @@ use Rattle.sheet.specs.Faults.{Says}
 use Rattle.sheet.proofs.laws.format.Judgements as J
 use Rattle.sheet.proofs.laws.format.Encodings as E
 use Rattle.sheet.proofs.laws.format.FaultNumbers as F
-pub use Rattle.sheet.proofs.laws.format.FaultNumbers.{
-  judge-says,
-  judge-refuses,
-  judge-refused,
-  judge-numbers,
-  judge-1,
-  judge-2,
-  judge-3,
-  judge-4,
-  judge-5,
-  judge-6,
-  judge-7,
-}
+pub use Rattle.sheet.proofs.laws.format.FaultNumbers.{judge-says, judge-refuses, judge-refused, judge-numbers, judge-1, judge-2, judge-3, judge-4, judge-5, judge-6, judge-7}
 pub use Rattle.sheet.proofs.laws.format.AlikeSheets.{alike}
 pub use Rattle.sheet.proofs.laws.literals.LiteralTests.{within-iff, consistent-iff, meets-iff, state-iff}
 

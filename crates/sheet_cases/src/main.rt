@@ -1,27 +1,19 @@
-// Judges each sheet of the standard input and writes the answers. The input and what is due are made by tests/vectors/sheets.py.
+// Judges each sheet of the standard input and writes the answers. What is due stands in stdout, made by tests/vectors/make.
+// A line that starts with '#' is a heading. Any other line is the bytes of a sheet in hexadecimal; an empty line is a sheet of none.
+// Written: the answer of each sheet.
 use libc::STDIN_FILENO;
-ghost use mathlib.Core.Path.{_≡_};
-ghost use Prim.Native.Nat.{_≤_, _<_};
-ghost use lib.ListN.{length};
 
-// A heading as it is, or the answer to a sheet.
-fn answer_line(line: &[u8]) {
-    if cases::is_heading(line) {
-        cases::write_line(line);
-        return;
-    }
-    let mut bytes = cases::room();
-    let n = cases::decode(line, &mut bytes);
-    cases::write_answer(sheet::judge(&bytes[..n]));
-}
-
-// The lines in turn, each without its line feed.
+// The lines in turn.
 fn answer_lines(text: &[u8]) {
-    let mut at = 0;
+    let mut bytes = cases::room();
+    let mut at: usize = 0;
     while at < text.len() {
-        let end = cases::line_end(text, at);
-        answer_line(&text[at..end]);
-        at = end + 1;
+        let line = cases::next_line(text, at, &mut bytes);
+        let count = line.count;
+        if !line.heading {
+            cases::write_answer(sheet::judge(&bytes[..count]));
+        }
+        at = line.next;
     }
 }
 

@@ -32,34 +32,9 @@ use Rattle.table.proofs.laws.steps.StepWorlds as stepping
 use Rattle.table.proofs.laws.starts.StartWorlds as starting
 use Rattle.table.proofs.laws.slots.DescribedTables as describing
 use Rattle.table.proofs.laws.steps.OpposedPairs as pairs
-pub use Rattle.table.proofs.laws.answers.StartStepAnswers.{
-  start-fault,
-  start-number,
-  start-accepted,
-  start-back,
-  step-fault,
-  step-7,
-  step-22,
-  step-number,
-  step-accepted,
-  step-back,
-}
-pub use Rattle.table.proofs.laws.answers.PictureAnswers.{
-  picture-fault,
-  picture-22,
-  picture-21,
-  picture-23,
-  picture-accepted,
-  picture-back,
-}
-pub use Rattle.table.proofs.laws.pictures.PictureWorlds.{
-  union-primes,
-  picture-primes,
-  picture-ascending,
-  picture-worlds,
-  prime-unique,
-  bytes-worlds,
-}
+pub use Rattle.table.proofs.laws.answers.StartStepAnswers.{start-fault, start-number, start-accepted, start-back, step-fault, step-7, step-22, step-number, step-accepted, step-back}
+pub use Rattle.table.proofs.laws.answers.PictureAnswers.{picture-fault, picture-22, picture-21, picture-23, picture-accepted, picture-back}
+pub use Rattle.table.proofs.laws.pictures.PictureWorlds.{union-primes, picture-primes, picture-ascending, picture-worlds, prime-unique, bytes-worlds}
 
 -- ---- a table is as described exactly if its test passes
 pub described-iff : (cap n : ℕ) (t : List Literals) → (described cap n t ≡ true) ↔ Described cap n t

@@ -1,5 +1,5 @@
 -- The requests of document 02 about tables, sentence by sentence: statements only, proved in proofs/Demands.
--- Words, in reading order: sheet/specs/Literals (`within`), Lists; beside this page Minimal (`put`), Slots.
+-- Words, in reading order: sheet/specs/Literals (`within`), Lists; beside this page Minimal (`put`), Fates (`lastWithin`, `fateOf`).
 use mathlib.Core.Path.{_≡_}
 use mathlib.Core.Bool.{not}
 use mathlib.Core.List.{List, [], _∷_, _++_}
@@ -17,8 +17,8 @@ use Rattle.table.specs.Minimal.{put}
 use Rattle.table.specs.Fates.{lastWithin, left, fateOf}
 
 -- ---- W3: "a candidate is tested against the table from the last entry to the first, and this test gets a promise of its own":
--- `last_within`
--- answers `lastWithin t c`. Any list t and any candidate c: t may be empty, longer than a table, and its entries may lie in each other.
+-- `last_within` answers `lastWithin t c`. Any list t and any candidate c: t may be empty, longer than a table, and its entries may lie in
+-- each other.
 pub record RequestW3 (t : List Literals) (c : Literals) : Type 0 where
   -- "the last entry whose literals all lie in the candidate": the entry at i lies in it, none after it does
   pub last-within : (i : ℕ) → (lastWithin t c ≡ At i)

@@ -26,8 +26,7 @@ unfoldable pub split : Literals → Literals → List Literals
 split c d = splitBy (within c d || clash c d) c d
 
 -- the pieces of d by the conditions of the effects in order, as document 01 splits them: pieces of a piece come before the next piece. (exp
--- of
--- 001 takes min after each condition too, and so can have fewer.)
+-- of 001 takes min after each condition too, and so can have fewer.)
 abbrev pub pieces : List Effect → Literals → List Literals
 pieces [] d = d ∷ []
 pieces (e ∷ es) d = collect (pieces es) (split (e .condition) d)

@@ -1,5 +1,7 @@
--- searches
+-- Searches: the order of plans, the first answer, what is remembered (src/searches.rt, memory.rt).
+-- ---- may be cited from above
 pub mod PlanOrder
+-- ---- for this crate alone
 pub mod SearchRuns
 pub mod FirstAnswers
 pub mod Pruning

@@ -1,3 +1,5 @@
--- text
-pub mod TextBytes
+-- The text of `check` (src/text.rt, the call report).
+-- ---- may be cited from above
 pub mod Reports
+-- ---- for this crate alone
+pub mod TextBytes

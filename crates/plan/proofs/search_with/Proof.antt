@@ -45,14 +45,5 @@ returns-3 c =
 pub search-with-spec : {M : Type 1} → statement M
 search-with-spec =
     tie.close
-    (tie.spec
-    (λ c κs. search needs)
-    (λ c. search needs)
-    (λ c κs. search needs)
-    (λ c. search needs)
-    (λ c κs. search needs)
-    returns
-    search-sheet-requires
-    returns-2
-    (λ c. search needs)
-    returns-3)
+    (tie.spec (λ c κs. search needs) (λ c. search needs) (λ c κs. search needs) (λ c. search needs) (λ c κs. search needs) returns
+    search-sheet-requires returns-2 (λ c. search needs) returns-3)

@@ -1,4 +1,5 @@
--- General laws, of no one crate: tests as propositions, lists, padding, copies.
+-- General laws, of no one crate.
+-- ---- may be cited from above
 pub mod Bools
 pub mod ListFacts
 pub mod Prefixes

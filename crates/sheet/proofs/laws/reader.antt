@@ -1,6 +1,8 @@
--- What the functions of the reader give: marks and values, lists, sections, the packed array, a sheet that was read.
-pub mod ReadMarks
-pub mod ReadLists
+-- What the functions of src/reader.rt give: marks and values, lists, sections, the packed array, a sheet that was read.
+-- ---- may be cited from above
 pub mod PackedParts
 pub mod ReadSheets
+-- ---- for this crate alone
+pub mod ReadMarks
+pub mod ReadLists
 pub mod ReadSections

@@ -1,4 +1,6 @@
--- arrays
+-- Arrays of masks that hold lists, and loops over them.
+-- ---- may be cited from above
 pub mod HeldLists
 pub mod EntryLoops
+-- ---- for this crate alone
 pub mod Compaction

@@ -1,7 +1,9 @@
--- slots
+-- Putting a candidate: on lists, by worlds, and in slots (src/slots.rt, tables.rt).
+-- ---- may be cited from above
+pub mod PutLaws
+-- ---- for this crate alone
 pub mod LastWithin
 pub mod PutSlots
 pub mod PutLoops
-pub mod PutLaws
 pub mod AbsorbedCandidates
 pub mod DescribedTables

@@ -1,7 +1,9 @@
--- starts
+-- The start: the candidates of a clause by worlds and by choices, the first table over arrays (src/starts.rt).
+-- ---- may be cited from above
+pub mod StartArrays
+-- ---- for this crate alone
 pub mod LackedLiterals
 pub mod Choosing
 pub mod PackedClauses
-pub mod StartArrays
 pub mod ClauseCandidates
 pub mod StartWorlds

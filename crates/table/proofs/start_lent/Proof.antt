@@ -29,10 +29,4 @@ returns-2 c =
 pub start-lent-spec : {M : Type 1} → statement M
 start-lent-spec =
     tie.close
-    (tie.spec
-    (λ c κs. search needs)
-    (λ c. search needs)
-    (λ c. search needs)
-    first-into-requires
-    returns
-    returns-2)
+    (tie.spec (λ c κs. search needs) (λ c. search needs) (λ c. search needs) first-into-requires returns returns-2)

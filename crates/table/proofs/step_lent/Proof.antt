@@ -69,13 +69,5 @@ returns-4 c =
 pub step-lent-spec : {M : Type 1} → statement M
 step-lent-spec =
     tie.close
-    (tie.spec
-    (λ c κs. search needs)
-    (λ c. search needs)
-    (λ c. search needs)
-    returns
-    (λ c κs. search needs)
-    returns-2
-    step-at-requires
-    returns-3
-    returns-4)
+    (tie.spec (λ c κs. search needs) (λ c. search needs) (λ c. search needs) returns (λ c κs. search needs) returns-2 step-at-requires
+    returns-3 returns-4)

@@ -60,15 +60,5 @@ returns-3 c =
 pub krepuskilo-run-spec : {M : Type 1} → statement M
 krepuskilo-run-spec =
     tie.close
-    (tie.spec
-    returns
-    returns-2
-    (λ c κs. search needs)
-    (λ c κs. search needs)
-    write-row-numbers-requires
-    write-entries-requires
-    (λ c κs. search needs)
-    (λ c. search needs)
-    (λ c. search needs)
-    (λ c. search needs)
-    returns-3)
+    (tie.spec returns returns-2 (λ c κs. search needs) (λ c κs. search needs) write-row-numbers-requires write-entries-requires
+    (λ c κs. search needs) (λ c. search needs) (λ c. search needs) (λ c. search needs) returns-3)

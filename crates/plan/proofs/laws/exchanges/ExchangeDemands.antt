@@ -1,6 +1,5 @@
 -- Demand 3: exchanged plans are plans on the sheet; the final picture by the picture call and by its clauses; two plans on one sheet, one
--- what a
--- list of exchanges makes of the other, or any two. Assumes nothing.
+-- what a list of exchanges makes of the other, or any two. Assumes nothing.
 use mathlib.Core.Path.{_≡_, refl, sym, ap, subst, _∙_}
 use mathlib.Core.Bool.{Bool, true, false, cond}
 use mathlib.Core.List.{List, [], _++_}

@@ -1,6 +1,5 @@
 -- The call run on an accepted sheet: its verdicts read back, the moves taken, what a run that is not refused has, and the run of any plan
--- on
--- the sheet that carries it. Assumes nothing.
+-- on the sheet that carries it. Assumes nothing.
 use mathlib.Core.Path.{_≡_, refl, sym, ap, _∙_}
 use mathlib.Core.Bool.{Bool, true, false, true≢false}
 use mathlib.Core.List.{List}

@@ -75,15 +75,5 @@ returns c = λ packed count.
 pub forget-spec : {M : Type 1} → statement M
 forget-spec =
     tie.close
-    (tie.spec
-    Inv-loop
-    μ-loop
-    loop-holds
-    mul-memory
-    mul-memory-2
-    slice-write-memory
-    add-j
-    (λ c. omega arith)
-    loop-again
-    same-length
+    (tie.spec Inv-loop μ-loop loop-holds mul-memory mul-memory-2 slice-write-memory add-j (λ c. omega arith) loop-again same-length
     returns)

@@ -51,13 +51,5 @@ returns-3 c =
 pub course-into-spec : {M : Type 1} → statement M
 course-into-spec =
     tie.close
-    (tie.spec
-    (λ c κs. search needs)
-    (λ c. search needs)
-    (λ c κs. search needs)
-    (λ c. search needs)
-    (λ c κs. search needs)
-    returns
-    run-sheet-requires
-    returns-2
-    returns-3)
+    (tie.spec (λ c κs. search needs) (λ c. search needs) (λ c κs. search needs) (λ c. search needs) (λ c κs. search needs) returns
+    run-sheet-requires returns-2 returns-3)

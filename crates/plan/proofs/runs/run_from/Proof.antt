@@ -121,26 +121,6 @@ returns-2 c =
 pub run-from-spec : {M : Type 1} → statement M
 run-from-spec =
     tie.close
-    (tie.spec
-    Inv-loop
-    μ-loop
-    loop-holds
-    note-requires
-    add-place
-    element-copy-out-index
-    cast-index
-    step-here-requires
-    (λ c. search needs)
-    (λ c. search needs)
-    (λ c κs. search needs)
-    returns
-    add-i
-    (λ c. search needs)
-    loop-again
-    note-requires-2
-    (λ c. search needs)
-    (λ c. search needs)
-    part-goal-end
-    end-requires
-    add-t40
-    returns-2)
+    (tie.spec Inv-loop μ-loop loop-holds note-requires add-place element-copy-out-index cast-index step-here-requires
+    (λ c. search needs) (λ c. search needs) (λ c κs. search needs) returns add-i (λ c. search needs) loop-again note-requires-2
+    (λ c. search needs) (λ c. search needs) part-goal-end end-requires add-t40 returns-2)

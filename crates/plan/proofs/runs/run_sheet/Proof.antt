@@ -47,11 +47,4 @@ returns-2 c =
 pub run-sheet-spec : {M : Type 1} → statement M
 run-sheet-spec =
     tie.close
-    (tie.spec
-    first-into-requires
-    (λ c. search needs)
-    run-from-requires
-    (λ c. search needs)
-    (λ c κs. search needs)
-    returns
-    returns-2)
+    (tie.spec first-into-requires (λ c. search needs) run-from-requires (λ c. search needs) (λ c κs. search needs) returns returns-2)

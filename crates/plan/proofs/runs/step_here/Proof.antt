@@ -28,9 +28,4 @@ returns-2 c = step-as _ _ _ (c .before .before .before .step-at .ensures) (c .be
 pub step-here-spec : {M : Type 1} → statement M
 step-here-spec =
     tie.close
-    (tie.spec
-    step-at-requires
-    (λ c. search needs)
-    (λ c. search needs)
-    returns
-    returns-2)
+    (tie.spec step-at-requires (λ c. search needs) (λ c. search needs) returns returns-2)

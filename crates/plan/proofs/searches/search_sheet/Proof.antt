@@ -57,14 +57,5 @@ returns-2 c =
 pub search-sheet-spec : {M : Type 1} → statement M
 search-sheet-spec =
     tie.close
-    (tie.spec
-    first-into-requires
-    (λ c. search needs)
-    slice-aggregate-lengths
-    slice-aggregate-lengths-2
-    lengths-requires
-    (λ c. search needs)
-    (λ c κs. search needs)
-    (λ c. search needs)
-    returns
-    returns-2)
+    (tie.spec first-into-requires (λ c. search needs) slice-aggregate-lengths slice-aggregate-lengths-2 lengths-requires
+    (λ c. search needs) (λ c κs. search needs) (λ c. search needs) returns returns-2)

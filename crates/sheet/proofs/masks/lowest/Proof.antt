@@ -54,15 +54,5 @@ returns-4 c =
 pub lowest-spec : {M : Type 1} → statement M
 lowest-spec =
     tie.close
-    (tie.spec
-    returns
-    (λ c. search needs)
-    (λ c. search needs)
-    returns-2
-    cast-l
-    add-l
-    mul-l
-    (λ c κs. search needs)
-    returns-3
-    add-result
+    (tie.spec returns (λ c. search needs) (λ c. search needs) returns-2 cast-l add-l mul-l (λ c κs. search needs) returns-3 add-result
     returns-4)

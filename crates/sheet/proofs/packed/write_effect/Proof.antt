@@ -21,17 +21,5 @@ returns c = four-stores _ _ _ (c .before .before .pre)
 pub write-effect-spec : {M : Type 1} → statement M
 write-effect-spec =
     tie.close
-    (tie.spec
-    (λ c. search needs)
-    (λ c. search needs)
-    (λ c. search needs)
-    (λ c. search needs)
-    slice-write-effects-2
-    (λ c. search needs)
-    (λ c. search needs)
-    slice-write-effects-3
-    (λ c. search needs)
-    (λ c. search needs)
-    slice-write-effects-4
-    (λ c. search needs)
-    returns)
+    (tie.spec (λ c. search needs) (λ c. search needs) (λ c. search needs) (λ c. search needs) slice-write-effects-2 (λ c. search needs)
+    (λ c. search needs) slice-write-effects-3 (λ c. search needs) (λ c. search needs) slice-write-effects-4 (λ c. search needs) returns)

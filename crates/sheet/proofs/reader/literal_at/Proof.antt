@@ -23,12 +23,4 @@ returns-3 c = gave-item same _
 pub literal-at-spec : {M : Type 1} → statement M
 literal-at-spec =
     tie.close
-    (tie.spec
-    (λ c κs. search needs)
-    returns
-    (λ c. search needs)
-    (λ c. search needs)
-    cast-b
-    (λ c κs. search needs)
-    returns-2
-    returns-3)
+    (tie.spec (λ c κs. search needs) returns (λ c. search needs) (λ c. search needs) cast-b (λ c κs. search needs) returns-2 returns-3)

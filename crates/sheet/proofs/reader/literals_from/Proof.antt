@@ -51,18 +51,5 @@ returns-2 c = ahead-all _ _ _ _ _ _ _ _ (c .before .loop .inv) (c .loop-test .le
 pub literals-from-spec : {M : Type 1} → statement M
 literals-from-spec =
     tie.close
-    (tie.spec
-    Inv-loop
-    μ-loop
-    loop-holds
-    (λ c κs. search needs)
-    (λ c. search needs)
-    (λ c. search needs)
-    returns
-    literal-requires
-    (λ c κs. search needs)
-    add-floor
-    (λ c. omega arith)
-    (λ c. omega arith)
-    loop-again
-    returns-2)
+    (tie.spec Inv-loop μ-loop loop-holds (λ c κs. search needs) (λ c. search needs) (λ c. search needs) returns literal-requires
+    (λ c κs. search needs) add-floor (λ c. omega arith) (λ c. omega arith) loop-again returns-2)

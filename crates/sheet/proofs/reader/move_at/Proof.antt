@@ -70,22 +70,6 @@ returns-3 c =
 pub move-at-spec : {M : Type 1} → statement M
 move-at-spec =
     tie.close
-    (tie.spec
-    (λ c κs. search needs)
-    (λ c. search needs)
-    (λ c. search needs)
-    returns
-    (λ c κs. search needs)
-    (λ c. search needs)
-    (λ c. search needs)
-    returns-2
-    (λ c. search needs)
-    (λ c. search needs)
-    cast-item
-    slice-write-item-3
-    (λ c. search needs)
-    (λ c. search needs)
-    part-effects-from-end
-    effects-from-requires
-    same-length
-    returns-3)
+    (tie.spec (λ c κs. search needs) (λ c. search needs) (λ c. search needs) returns (λ c κs. search needs) (λ c. search needs)
+    (λ c. search needs) returns-2 (λ c. search needs) (λ c. search needs) cast-item slice-write-item-3 (λ c. search needs)
+    (λ c. search needs) part-effects-from-end effects-from-requires same-length returns-3)

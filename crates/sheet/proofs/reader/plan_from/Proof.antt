@@ -55,17 +55,5 @@ returns-2 c =
 pub plan-from-spec : {M : Type 1} → statement M
 plan-from-spec =
     tie.close
-    (tie.spec
-    Inv-loop
-    μ-loop
-    loop-holds
-    (λ c κs. search needs)
-    (λ c. search needs)
-    (λ c. search needs)
-    returns
-    cast-numbers
-    (λ c. omega arith)
-    (λ c. omega arith)
-    (λ c. omega arith)
-    loop-again
-    returns-2)
+    (tie.spec Inv-loop μ-loop loop-holds (λ c κs. search needs) (λ c. search needs) (λ c. search needs) returns cast-numbers
+    (λ c. omega arith) (λ c. omega arith) (λ c. omega arith) loop-again returns-2)

@@ -49,16 +49,5 @@ returns-2 c =
 pub sets-at-spec : {M : Type 1} → statement M
 sets-at-spec =
     tie.close
-    (tie.spec
-    (λ c κs. search needs)
-    (λ c. search needs)
-    (λ c. search needs)
-    returns
-    cast-item
-    (λ c. search needs)
-    (λ c. search needs)
-    (λ c. search needs)
-    part-sets-from-end
-    sets-from-requires
-    same-length
-    returns-2)
+    (tie.spec (λ c κs. search needs) (λ c. search needs) (λ c. search needs) returns cast-item (λ c. search needs) (λ c. search needs)
+    (λ c. search needs) part-sets-from-end sets-from-requires same-length returns-2)

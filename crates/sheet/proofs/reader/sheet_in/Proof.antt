@@ -188,39 +188,9 @@ returns-6 c =
 pub sheet-in-spec : {M : Type 1} → statement M
 sheet-in-spec =
     tie.close
-    (tie.spec
-    (λ c κs. search needs)
-    (λ c. search needs)
-    (λ c. search needs)
-    (λ c κs. search needs)
-    (λ c. search needs)
-    returns
-    (λ c. search needs)
-    (λ c. search needs)
-    (λ c. search needs)
-    (λ c κs. search needs)
-    (λ c. search needs)
-    (λ c. search needs)
-    (λ c κs. search needs)
-    (λ c. search needs)
-    returns-2
-    (λ c. search needs)
-    (λ c. search needs)
-    (λ c. search needs)
-    (λ c κs. search needs)
-    (λ c. search needs)
-    (λ c. search needs)
-    (λ c κs. search needs)
-    same-length-3
-    returns-3
-    plan-at-requires
-    (λ c. search needs)
-    (λ c. search needs)
-    (λ c κs. search needs)
-    same-length-4
-    returns-4
-    (λ c κs. search needs)
-    same-length-5
-    returns-5
-    same-length-6
-    returns-6)
+    (tie.spec (λ c κs. search needs) (λ c. search needs) (λ c. search needs) (λ c κs. search needs) (λ c. search needs) returns
+    (λ c. search needs) (λ c. search needs) (λ c. search needs) (λ c κs. search needs) (λ c. search needs) (λ c. search needs)
+    (λ c κs. search needs) (λ c. search needs) returns-2 (λ c. search needs) (λ c. search needs) (λ c. search needs)
+    (λ c κs. search needs) (λ c. search needs) (λ c. search needs) (λ c κs. search needs) same-length-3 returns-3 plan-at-requires
+    (λ c. search needs) (λ c. search needs) (λ c κs. search needs) same-length-4 returns-4 (λ c κs. search needs) same-length-5
+    returns-5 same-length-6 returns-6)

@@ -56,17 +56,5 @@ returns-4 c =
 pub draw-spec : {M : Type 1} → statement M
 draw-spec =
     tie.close
-    (tie.spec
-    (λ c κs. search needs)
-    (λ c κs. search needs)
-    returns
-    sorted-clauses-requires
-    (λ c κs. search needs)
-    returns-2
-    mul-if3
-    add-if3
-    (λ c κs. search needs)
-    returns-3
-    (λ c κs. search needs)
-    (λ c. search needs)
-    returns-4)
+    (tie.spec (λ c κs. search needs) (λ c κs. search needs) returns sorted-clauses-requires (λ c κs. search needs) returns-2 mul-if3
+    add-if3 (λ c κs. search needs) returns-3 (λ c κs. search needs) (λ c. search needs) returns-4)

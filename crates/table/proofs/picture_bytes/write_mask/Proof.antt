@@ -23,17 +23,5 @@ returns c = four-stores _ _ _ (c .pre)
 pub write-mask-spec : {M : Type 1} → statement M
 write-mask-spec =
     tie.close
-    (tie.spec
-    (λ c. omega arith)
-    (λ c. omega arith)
-    (λ c. omega arith)
-    (λ c. omega arith)
-    slice-write-buffer-2
-    (λ c. omega arith)
-    (λ c. omega arith)
-    slice-write-buffer-3
-    (λ c. omega arith)
-    (λ c. omega arith)
-    slice-write-buffer-4
-    same-length
-    returns)
+    (tie.spec (λ c. omega arith) (λ c. omega arith) (λ c. omega arith) (λ c. omega arith) slice-write-buffer-2 (λ c. omega arith)
+    (λ c. omega arith) slice-write-buffer-3 (λ c. omega arith) (λ c. omega arith) slice-write-buffer-4 same-length returns)

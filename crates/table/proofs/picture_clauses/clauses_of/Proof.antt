@@ -61,28 +61,7 @@ returns-2 c = folds-end _ _ _ _ _ _ _ _ (c .before .loop .inv) (c .loop-test .le
 pub clauses-of-spec : {M : Type 1} → statement M
 clauses-of-spec =
     tie.close
-    (tie.spec
-    Inv-loop
-    μ-loop
-    (λ c. omega arith)
-    (λ c. omega arith)
-    (λ c. search needs)
-    (λ c. search needs)
-    units-requires
-    loop-holds
-    (λ c. omega arith)
-    (λ c. omega arith)
-    (λ c. omega arith)
-    (λ c. omega arith)
-    slice-aggregate-fold
-    slice-aggregate-fold-2
-    (λ c. search needs)
-    (λ c. search needs)
-    fold-requires
-    (λ c. search needs)
-    (λ c. search needs)
-    returns
-    (λ c. omega arith)
-    (λ c. omega arith)
-    loop-again
-    returns-2)
+    (tie.spec Inv-loop μ-loop (λ c. omega arith) (λ c. omega arith) (λ c. search needs) (λ c. search needs) units-requires loop-holds
+    (λ c. omega arith) (λ c. omega arith) (λ c. omega arith) (λ c. omega arith) slice-aggregate-fold slice-aggregate-fold-2
+    (λ c. search needs) (λ c. search needs) fold-requires (λ c. search needs) (λ c. search needs) returns (λ c. omega arith)
+    (λ c. omega arith) loop-again returns-2)

@@ -33,13 +33,5 @@ returns c =
 pub fold-spec : {M : Type 1} → statement M
 fold-spec =
     tie.close
-    (tie.spec
-    (λ c. search needs)
-    (λ c. search needs)
-    units-requires
-    (λ c. search needs)
-    (λ c. search needs)
-    join-lists-requires
-    (λ c. search needs)
-    (λ c. search needs)
-    returns)
+    (tie.spec (λ c. search needs) (λ c. search needs) units-requires (λ c. search needs) (λ c. search needs) join-lists-requires
+    (λ c. search needs) (λ c. search needs) returns)

@@ -78,23 +78,6 @@ returns-2 c = going-end _ _ _ _ _ _ _ _ (c .before .loop .inv .1) (unions-end _ 
 pub join-lists-spec : {M : Type 1} → statement M
 join-lists-spec =
     tie.close
-    (tie.spec
-    Inv-loop
-    μ-loop
-    loop-holds
-    (λ c. omega arith)
-    (λ c. omega arith)
-    (λ c. omega arith)
-    (λ c. omega arith)
-    distribute-requires
-    (λ c. search needs)
-    (λ c. search needs)
-    same-length
-    same-length-2
-    returns
-    (λ c. omega arith)
-    (λ c. omega arith)
-    loop-again
-    same-length-3
-    same-length-4
-    returns-2)
+    (tie.spec Inv-loop μ-loop loop-holds (λ c. omega arith) (λ c. omega arith) (λ c. omega arith) (λ c. omega arith) distribute-requires
+    (λ c. search needs) (λ c. search needs) same-length same-length-2 returns (λ c. omega arith) (λ c. omega arith) loop-again
+    same-length-3 same-length-4 returns-2)

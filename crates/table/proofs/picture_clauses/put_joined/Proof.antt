@@ -81,24 +81,6 @@ returns-2 c = going-end _ _ _ _ _ _ _ _ (c .before .loop .inv .1) (put-joined-en
 pub put-joined-spec : {M : Type 1} → statement M
 put-joined-spec =
     tie.close
-    (tie.spec
-    Inv-loop
-    μ-loop
-    loop-holds
-    (λ c. omega arith)
-    (λ c. omega arith)
-    (λ c. omega arith)
-    (λ c. omega arith)
-    (λ c κs. search needs)
-    admit-requires
-    (λ c. search needs)
-    (λ c. search needs)
-    same-length
-    same-length-2
-    returns
-    (λ c. omega arith)
-    (λ c. omega arith)
-    loop-again
-    same-length-3
-    same-length-4
-    returns-2)
+    (tie.spec Inv-loop μ-loop loop-holds (λ c. omega arith) (λ c. omega arith) (λ c. omega arith) (λ c. omega arith)
+    (λ c κs. search needs) admit-requires (λ c. search needs) (λ c. search needs) same-length same-length-2 returns (λ c. omega arith)
+    (λ c. omega arith) loop-again same-length-3 same-length-4 returns-2)

@@ -49,21 +49,6 @@ returns c = listed-end _ _ _ _ _ _ (c .before .loop .inv) (c .loop-test .left)
 pub units-spec : {M : Type 1} → statement M
 units-spec =
     tie.close
-    (tie.spec
-    Inv-loop
-    μ-loop
-    (λ c κs. search needs)
-    loop-holds
-    (λ c κs. search needs)
-    (λ c. omega arith)
-    (λ c. omega arith)
-    (λ c. omega arith)
-    slice-write-to-falses
-    (λ c. omega arith)
-    (λ c. omega arith)
-    (λ c κs. search needs)
-    loop-less
-    loop-again
-    same-length
-    same-length-2
-    returns)
+    (tie.spec Inv-loop μ-loop (λ c κs. search needs) loop-holds (λ c κs. search needs) (λ c. omega arith) (λ c. omega arith)
+    (λ c. omega arith) slice-write-to-falses (λ c. omega arith) (λ c. omega arith) (λ c κs. search needs) loop-less loop-again
+    same-length same-length-2 returns)

@@ -48,14 +48,5 @@ returns-2 c = sym (none-left _ _ _ (c .before .loop .i) (omega arith)) ∙ c .be
 pub last-singly-spec : {M : Type 1} → statement M
 last-singly-spec =
     tie.close
-    (tie.spec
-    Inv-loop
-    μ-loop
-    loop-holds
-    (λ c. search needs)
-    (λ c κs. search needs)
-    (λ c κs. search needs)
-    returns
-    (λ c. omega arith)
-    loop-again
-    returns-2)
+    (tie.spec Inv-loop μ-loop loop-holds (λ c. search needs) (λ c κs. search needs) (λ c κs. search needs) returns (λ c. omega arith)
+    loop-again returns-2)

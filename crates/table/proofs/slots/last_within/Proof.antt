@@ -47,14 +47,5 @@ returns-2 c = c .last-singly .ensures ∙ c .before .before .loop .inv .1
 pub last-within-spec : {M : Type 1} → statement M
 last-within-spec =
     tie.close
-    (tie.spec
-    Inv-loop
-    μ-loop
-    loop-holds
-    (λ c κs. search needs)
-    last-of-four-requires
-    returns
-    (λ c. omega arith)
-    loop-again
-    (λ c κs. search needs)
-    returns-2)
+    (tie.spec Inv-loop μ-loop loop-holds (λ c κs. search needs) last-of-four-requires returns (λ c. omega arith) loop-again
+    (λ c κs. search needs) returns-2)

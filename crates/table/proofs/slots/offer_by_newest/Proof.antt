@@ -29,14 +29,5 @@ returns c =
 pub offer-by-newest-spec : {M : Type 1} → statement M
 offer-by-newest-spec =
     tie.close
-    (tie.spec
-    (λ c. search needs)
-    entry-at-requires
-    (λ c κs. search needs)
-    (λ c. search needs)
-    (λ c. search needs)
-    returns
-    (λ c κs. search needs)
-    (λ c. search needs)
-    (λ c. search needs)
-    (λ c. search needs))
+    (tie.spec (λ c. search needs) entry-at-requires (λ c κs. search needs) (λ c. search needs) (λ c. search needs) returns
+    (λ c κs. search needs) (λ c. search needs) (λ c. search needs) (λ c. search needs))

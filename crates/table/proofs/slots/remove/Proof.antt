@@ -80,32 +80,7 @@ returns-2 c =
 pub remove-spec : {M : Type 1} → statement M
 remove-spec =
     tie.close
-    (tie.spec
-    Inv-loop
-    μ-loop
-    some-above-requires
-    (λ c. search needs)
-    (λ c. search needs)
-    returns
-    first-above-requires
-    loop-holds
-    (λ c. omega arith)
-    (λ c. omega arith)
-    (λ c. omega arith)
-    (λ c. omega arith)
-    (λ c. omega arith)
-    (λ c. omega arith)
-    (λ c. omega arith)
-    (λ c. omega arith)
-    (λ c κs. search needs)
-    (λ c. omega arith)
-    slice-write-trues-2
-    (λ c. omega arith)
-    slice-write-falses-2
-    (λ c. omega arith)
-    (λ c. omega arith)
-    (λ c. omega arith)
-    loop-again
-    same-length-3
-    same-length-4
-    returns-2)
+    (tie.spec Inv-loop μ-loop some-above-requires (λ c. search needs) (λ c. search needs) returns first-above-requires loop-holds
+    (λ c. omega arith) (λ c. omega arith) (λ c. omega arith) (λ c. omega arith) (λ c. omega arith) (λ c. omega arith) (λ c. omega arith)
+    (λ c. omega arith) (λ c κs. search needs) (λ c. omega arith) slice-write-trues-2 (λ c. omega arith) slice-write-falses-2
+    (λ c. omega arith) (λ c. omega arith) (λ c. omega arith) loop-again same-length-3 same-length-4 returns-2)

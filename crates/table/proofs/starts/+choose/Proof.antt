@@ -1,6 +1,5 @@
 -- The cycle {choose}: the measure is the number of alternatives left. The invariant: the literals that are left give the whole, and the
--- piece
--- has none of them. Assumes nothing.
+-- piece has none of them. Assumes nothing.
 use mathlib.Core.Path.{_≡_, refl, sym, ap, _∙_}
 use mathlib.Core.Logic.{⊎-elim}
 use Prim.Native.Nat.{ℕ, _<_, _+_, _-_}

@@ -57,18 +57,6 @@ returns-2 c =
 pub first-into-spec : {M : Type 1} → statement M
 first-into-spec =
     tie.close
-    (tie.spec
-    (λ c. search needs)
-    (λ c. search needs)
-    (λ c. search needs)
-    (λ c. search needs)
-    (λ c. search needs)
-    grow-all-requires
-    (λ c. search needs)
-    (λ c. search needs)
-    (λ c. search needs)
-    (λ c. search needs)
-    grow-all-requires-2
-    (λ c. search needs)
-    returns
+    (tie.spec (λ c. search needs) (λ c. search needs) (λ c. search needs) (λ c. search needs) (λ c. search needs) grow-all-requires
+    (λ c. search needs) (λ c. search needs) (λ c. search needs) (λ c. search needs) grow-all-requires-2 (λ c. search needs) returns
     returns-2)

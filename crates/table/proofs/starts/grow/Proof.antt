@@ -31,10 +31,4 @@ returns-3 c = right-refused _ 21 [] [] (grown-full _ _ _ _ _ (c .before .before 
 pub grow-spec : {M : Type 1} → statement M
 grow-spec =
     tie.close
-    (tie.spec
-    widen-all-requires
-    (λ c. search needs)
-    returns
-    (λ c. search needs)
-    returns-2
-    returns-3)
+    (tie.spec widen-all-requires (λ c. search needs) returns (λ c. search needs) returns-2 returns-3)

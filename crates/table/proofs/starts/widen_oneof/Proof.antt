@@ -57,16 +57,5 @@ returns-2 c = going-end _ _ _ _ _ _ _ _ (c .before .loop .inv .1)
 pub widen-oneof-spec : {M : Type 1} → statement M
 widen-oneof-spec =
     tie.close
-    (tie.spec
-    Inv-loop
-    μ-loop
-    (λ c κs. search needs)
-    loop-holds
-    widen-one-requires
-    (λ c. search needs)
-    (λ c. search needs)
-    returns
-    (λ c. search needs)
-    (λ c. search needs)
-    loop-again
-    returns-2)
+    (tie.spec Inv-loop μ-loop (λ c κs. search needs) loop-holds widen-one-requires (λ c. search needs) (λ c. search needs) returns
+    (λ c. search needs) (λ c. search needs) loop-again returns-2)

@@ -35,10 +35,4 @@ returns-2 c =
 pub branch-spec : {M : Type 1} → statement M
 branch-spec =
     tie.close
-    (tie.spec
-    skip-decided-requires
-    split-requires
-    returns
-    (λ c κs. search needs)
-    (λ c κs. search needs)
-    returns-2)
+    (tie.spec skip-decided-requires split-requires returns (λ c κs. search needs) (λ c κs. search needs) returns-2)

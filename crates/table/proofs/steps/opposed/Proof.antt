@@ -22,9 +22,4 @@ returns-2 c = let a = c .before .before .before .before .args in agreeing (a .e)
 pub opposed-spec : {M : Type 1} → statement M
 opposed-spec =
     tie.close
-    (tie.spec
-    (λ c κs. search needs)
-    (λ c κs. search needs)
-    (λ c κs. search needs)
-    returns
-    returns-2)
+    (tie.spec (λ c κs. search needs) (λ c κs. search needs) (λ c κs. search needs) returns returns-2)

@@ -110,22 +110,6 @@ returns-2 c =
 pub is-antichain-spec : {M : Type 1} → statement M
 is-antichain-spec =
     tie.close
-    (tie.spec
-    Inv-loop
-    μ-loop
-    Inv-pairs
-    μ-pairs
-    pairs-holds
-    (λ c κs. search needs)
-    (λ c. search needs)
-    loop-holds
-    (λ c κs. search needs)
-    (λ c κs. search needs)
-    (λ c. search needs)
-    (λ c. search needs)
-    loop-again
-    (λ c. search needs)
-    (λ c. search needs)
-    pairs-again
-    returns
-    returns-2)
+    (tie.spec Inv-loop μ-loop Inv-pairs μ-pairs pairs-holds (λ c κs. search needs) (λ c. search needs) loop-holds (λ c κs. search needs)
+    (λ c κs. search needs) (λ c. search needs) (λ c. search needs) loop-again (λ c. search needs) (λ c. search needs) pairs-again
+    returns returns-2)

@@ -27,12 +27,4 @@ returns-4 c = ap (λ (k : Kind). kindReply k (c .before .before .before .args .s
 pub kind-reply-spec : {M : Type 1} → statement M
 kind-reply-spec =
     tie.close
-    (tie.spec
-    (λ c. search needs)
-    (λ c. search needs)
-    (λ c. search needs)
-    (λ c. search needs)
-    returns
-    returns-2
-    returns-3
-    returns-4)
+    (tie.spec (λ c. search needs) (λ c. search needs) (λ c. search needs) (λ c. search needs) returns returns-2 returns-3 returns-4)

@@ -46,10 +46,4 @@ returns c =
 pub write-entries-spec : {M : Type 1} → statement M
 write-entries-spec =
     tie.close
-    (tie.spec
-    (λ c. search needs)
-    (λ c. search needs)
-    copy-masks-requires
-    copy-masks-requires-2
-    same-length
-    returns)
+    (tie.spec (λ c. search needs) (λ c. search needs) copy-masks-requires copy-masks-requires-2 same-length returns)

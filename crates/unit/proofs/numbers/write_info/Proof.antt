@@ -18,10 +18,4 @@ returns c = info-stores _ _ (c .pre)
 pub write-info-spec : {M : Type 1} → statement M
 write-info-spec =
     tie.close
-    (tie.spec
-    (λ c. search needs)
-    slice-write-info-2
-    slice-write-info-3
-    (λ c. search needs)
-    (λ c. search needs)
-    returns)
+    (tie.spec (λ c. search needs) slice-write-info-2 slice-write-info-3 (λ c. search needs) (λ c. search needs) returns)

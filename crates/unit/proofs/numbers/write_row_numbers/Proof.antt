@@ -37,22 +37,6 @@ returns c = rowed-end _ _ _ _ (c .before .loop .inv) (c .loop-test .left)
 pub write-row-numbers-spec : {M : Type 1} → statement M
 write-row-numbers-spec =
     tie.close
-    (tie.spec
-    Inv-loop
-    μ-loop
-    loop-holds
-    (λ c. omega arith)
-    row-at-requires
-    (λ c. omega arith)
-    (λ c. omega arith)
-    (λ c. omega arith)
-    (λ c. omega arith)
-    slice-write-rows-2
-    (λ c. omega arith)
-    (λ c. omega arith)
-    slice-write-rows-3
-    (λ c. omega arith)
-    (λ c. omega arith)
-    loop-again
-    same-length
-    returns)
+    (tie.spec Inv-loop μ-loop loop-holds (λ c. omega arith) row-at-requires (λ c. omega arith) (λ c. omega arith) (λ c. omega arith)
+    (λ c. omega arith) slice-write-rows-2 (λ c. omega arith) (λ c. omega arith) slice-write-rows-3 (λ c. omega arith) (λ c. omega arith)
+    loop-again same-length returns)

@@ -52,12 +52,5 @@ returns-2 c =
 pub write-start-spec : {M : Type 1} → statement M
 write-start-spec =
     tie.close
-    (tie.spec
-    (λ c. search needs)
-    write-entries-requires
-    (λ c. search needs)
-    write-entries-requires-2
-    (λ c. search needs)
-    returns
-    (λ c. search needs)
-    returns-2)
+    (tie.spec (λ c. search needs) write-entries-requires (λ c. search needs) write-entries-requires-2 (λ c. search needs) returns
+    (λ c. search needs) returns-2)

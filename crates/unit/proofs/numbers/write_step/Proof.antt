@@ -41,10 +41,4 @@ returns-2 c =
 pub write-step-spec : {M : Type 1} → statement M
 write-step-spec =
     tie.close
-    (tie.spec
-    (λ c. search needs)
-    write-entries-requires
-    (λ c. search needs)
-    (λ c. search needs)
-    returns
-    returns-2)
+    (tie.spec (λ c. search needs) write-entries-requires (λ c. search needs) (λ c. search needs) returns returns-2)
