@@ -163,6 +163,13 @@ read-then s (byte rule next) f at = go (byteAt s rule at) (λ b rest. read-then 
     go (item b rest) ih = ih b rest
     go (fault k p) ih = refl
 
+module _ {A B : Type 0} (s : List ℕ) (x : Form A) (f : A → Form B) (at : ℕ) where
+  pub read-on : {a : A} {next : ℕ} → read s x at ≡ item a next → read s (x >>= f) at ≡ read s (f a) next
+  read-on e = read-then s x f at ∙ ap (λ (r : Read A). thenRead r (λ a next. read s (f a) next)) e
+
+  pub read-fault : {k p : ℕ} → read s x at ≡ fault k p → read s (x >>= f) at ≡ fault k p
+  read-fault e = read-then s x f at ∙ ap (λ (r : Read A). thenRead r (λ a next. read s (f a) next)) e
+
 pub read-judged : (s : List ℕ) (rule : ℕ → ℕ) (at : ℕ) → read s (judged rule) at ≡ byteAt s rule at
 unfolding read judged
 read-judged s rule at = go (byteAt s rule at)

@@ -70,6 +70,9 @@ module _ (s : List ℕ) (rule : ℕ → ℕ) (at : ℕ) {m : Mark} {v next : ℕ
         let r = got-item same (read s (judged rule) at) m v g q in
         ap rule (r .2) ∙ byte-passed s rule at (r .1)
 
+pub count-read : (s : List ℕ) (low high at : ℕ) {m : Mark} {v next : ℕ} → ReadsAs same (read s (count low high) at) m v → m ≡ At next → v ≤ high
+count-read s low high at g q = count-most low high _ (read-passed s (countFault low high) at g q)
+
 -- ---- the literals of a list
 -- a literal against the floor, which is one more than the literal before
 module _ (n floor b : ℕ) where

@@ -14,7 +14,7 @@ use Rattle.sheet.specs.declared.reader.Mark.the-variants.{At, Fault}
 use Rattle.sheet.specs.Lists.{pad}
 use Rattle.sheet.specs.Form.{Form, done, _>>=_, judged, times, Read, item, fault, thenRead, admit, byteAt, read}
 use Rattle.sheet.specs.inner.Marks.{markOf, ReadsAs, same}
-use Rattle.sheet.proofs.laws.format.Forms.{read-then, read-judged}
+use Rattle.sheet.proofs.laws.format.Forms.{read-then, read-on, read-fault, read-judged}
 use Rattle.sheet.proofs.laws.base.Padding.{pad-set}
 
 -- ---- marks
@@ -56,6 +56,10 @@ module _ {A B : Type 0} (shape : A → B) (x : Read A) (m : Mark) (v : B) (g : R
       go : (y : Read A) → x ≡ y → m ≡ markOf y → x ≡ fault k p
       go (item a e) h f = absurd (let z : _≡_ {A = ℕ} 0 1 = cc in omega arith)
       go (fault j e) h f = let i : _≡_ {A = Read A} (fault j e) (fault k p) = cc in h ∙ i
+
+-- what was read where it is its own value
+pub got-same : {A : Type 0} (x : Read A) (m : Mark) (v : A) → ReadsAs same x m v → {next : ℕ} → m ≡ At next → x ≡ item v next
+got-same x m v g {next} q = let r = got-item same x m v g q in r .1 ∙ ap (λ (a : _). item a next) (sym (r .2))
 
 -- ---- one byte
 -- the bytes have ended
@@ -231,16 +235,13 @@ module _ {A B C : Type 0} (s : List ℕ) (x : Form A) (f : A → Form B) (at : �
   -- a fault of the first is the fault of both
   pub gave-stop : {D : Type 0} (shape : A → D) {m : Mark} {v : D} {w : C} {k p : ℕ} → ReadsAs shape (read s x at) m v → m ≡ Fault k p
       → ReadsAs whole (read s (x >>= f) at) m w
-  gave-stop shape {m} {v} {w} g q =
-      gave-fault whole _ (read-then s x f at ∙ ap (λ (r : Read A). thenRead r (λ a next. read s (f a) next))
-      (got-fault shape (read s x at) m v g q)) q
+  gave-stop shape {m} {v} {w} g q = gave-fault whole _ (read-fault s x f at (got-fault shape (read s x at) m v g q)) q
 
-  -- what the second gives after an item of the first
-  pub gave-on : {m : Mark} {w : C} {a : A} {next : ℕ} → read s x at ≡ item a next → ReadsAs whole (read s (f a) next) m w
-      → ReadsAs whole (read s (x >>= f) at) m w
-  gave-on {m} {w} {a} {next} e g =
-      subst (λ (r : Read B). ReadsAs whole r m w)
-      (sym (read-then s x f at ∙ ap (λ (r : Read A). thenRead r (λ a next. read s (f a) next)) e)) g
+  -- what the second gives after what the first has read
+  pub gave-on : {m l : Mark} {v : A} {w : C} {next : ℕ} → ReadsAs same (read s x at) m v → m ≡ At next
+      → ReadsAs whole (read s (f v) next) l w → ReadsAs whole (read s (x >>= f) at) l w
+  gave-on {m} {l} {v} {w} g q h =
+      subst (λ (r : Read B). ReadsAs whole r l w) (sym (read-on s x f at (got-same (read s x at) m v g q))) h
 
 -- a value made of what was read
 pub gave-as : {A B C : Type 0} (s : List ℕ) (x : Form A) (make : A → B) (at : ℕ) (shape : A → C) (whole : B → C) {m : Mark} {w : C}
@@ -255,7 +256,3 @@ gave-as {A} {B} s x make at shape whole {m} {w} h g = subst (λ (r : Read B). Re
 
 pub gave-made : {A B : Type 0} {x : Read A} (make : A → B) {m : Mark} {v : A} → ReadsAs same x m v → ReadsAs make x m (make v)
 gave-made make g = record { mark = g .mark; value = λ a next e. ap make (g .value a next e) }
-
--- what was read where it is its own value
-pub got-same : {A : Type 0} (x : Read A) (m : Mark) (v : A) → ReadsAs same x m v → {next : ℕ} → m ≡ At next → x ≡ item v next
-got-same x m v g {next} q = let r = got-item same x m v g q in r .1 ∙ ap (λ (a : _). item a next) (sym (r .2))

@@ -3,7 +3,7 @@ use mathlib.Core.Path.{refl}
 use borrow.Author.Needs.{needs}
 use Rattle.sheet.specs.inner.Marks.{same}
 use Rattle.sheet.specs.Format.{setOf, literals}
-use Rattle.sheet.proofs.laws.reader.ReadMarks.{gave-stop, gave-on, gave-as, got-same}
+use Rattle.sheet.proofs.laws.reader.ReadMarks.{gave-stop, gave-on, gave-as}
 use Rattle.sheet.proofs.reader.literals_at.Statement.{statement}
 use Rattle.sheet.proofs.reader.literals_at.Tie as tie
 
@@ -28,7 +28,7 @@ unfolding literals
 returns-2 c =
     let after-mark = c .before .before in
     let after-count-at = after-mark .before .before in
-    gave-on _ _ _ _ same (got-same _ _ _ (after-count-at .count-at .ensures) (after-mark .mark .given .1))
+    gave-on _ _ _ _ same (after-count-at .count-at .ensures) (after-mark .mark .given .1)
     (gave-as _ _ setOf _ setOf same (λ a. refl) (c .literals-from .ensures))
 
 pub literals-at-spec : {M : Type 1} → statement M

@@ -1,188 +1,192 @@
 -- `sheet::reader::sheet_in` meets its contract. Assumes nothing.
 use mathlib.Core.Path.{_≡_, sym, ap, _∙_}
-use native.Mathlib.Omega.{arith}
+use mathlib.Core.List.{List}
+use Prim.Native.Nat.{ℕ}
 use borrow.Author.Needs.{needs}
 use lib.ListN.{length}
-use Rattle.sheet.specs.Problem.{Problem, problemOf}
-use Rattle.sheet.specs.inner.Packed.{actionFrom}
-use Rattle.sheet.specs.Format.{Judgement, accepted}
-use Rattle.sheet.specs.inner.Decoded.{planIn, statementIn, judgementIn}
-use Rattle.sheet.specs.inner.Marks.{factsIn}
-use Rattle.sheet.proofs.laws.reader.PackedParts.{items-length, part-long, anew}
-use Rattle.sheet.proofs.laws.reader.ReadSheets.{refused-with, refused-by, moves-kept, goal-kept, problem-laid}
-use Rattle.sheet.proofs.laws.reader.ReadSections.{sheet-facts, sheet-moves, moves-most, sheet-goal, sheet-plan, plan-most, sheet-longer, sheet-whole}
+use Rattle.sheet.specs.declared.Literals.{Literals}
+use Rattle.sheet.specs.Problem.{Action, Facts, Problem}
+use Rattle.sheet.specs.inner.Packed.{setsIn, actionFrom, actionsAt}
+use Rattle.sheet.specs.Form.{read}
+use Rattle.sheet.specs.Format.{goal, plan, sheet, accepted}
+use Rattle.sheet.specs.inner.Decoded.{planOf, planIn, statementIn, judgementIn}
+use Rattle.sheet.specs.inner.Marks.{ReadsAs, same, factsIn}
+use Rattle.sheet.proofs.laws.reader.PackedParts.{items-length, anew}
+use Rattle.sheet.proofs.laws.reader.ReadSheets.{refused-with, refused-by, goal-kept, problem-laid}
+use Rattle.sheet.proofs.laws.reader.ReadSections.{Left, section-read, sheet-begin, fromMoves, fromGoal, fromPlan, sheet-refused, moves-most, WholeRead, whole-read, sheet-longer, sheet-whole}
 use Rattle.sheet.proofs.reader.sheet_in.Statement.{statement}
 use Rattle.sheet.proofs.reader.sheet_in.Tie as tie
 
+-- ---- the states on the way: each section read, and what is left after it
+module _ (c : tie.After-facts-at) where
+  abbrev start : tie.Start
+  start = c .before .before .before .before
+
+  abbrev bytes : List ℕ
+  bytes = start .args .s .now
+
+  -- the packed array after sections 1 to 4
+  abbrev xs : List ℕ
+  xs = c .facts-at .last .1 .0
+
+  abbrev facts : Facts
+  facts = factsIn (c .facts-at .result .value) xs
+
+module _ (c : tie.After-mark) where
+  abbrev of-facts : tie.After-facts-at
+  of-facts = c .before .before .before .before
+
+  moves-left : Left (bytes of-facts) sheet (fromMoves (facts of-facts)) (c .mark .given .0 .0)
+  moves-left = section-read _ _ (sheet-begin _) (of-facts .facts-at .ensures .0) (c .mark .given .1)
+
+module _ (c : tie.After-moves-at) where
+  abbrev facts-read : tie.After-mark
+  facts-read = c .before .before .before .before
+
+  abbrev moves : List ℕ
+  moves = c .moves-at .last .1 .1 .1 .0
+
+  abbrev actions : List Action
+  actions = actionsAt (c .moves-at .result .value) moves
+
+module _ (c : tie.After-mark-moves) where
+  abbrev of-moves : tie.After-moves-at
+  of-moves = c .before .before .before .before
+
+  goal-left : Left (bytes (of-facts (facts-read of-moves))) sheet (fromGoal (facts (of-facts (facts-read of-moves))) (actions of-moves))
+      (c .mark-moves .given .0 .0)
+  unfolding factsIn
+  goal-left = section-read _ _ (moves-left (facts-read of-moves)) (of-moves .moves-at .ensures) (c .mark-moves .given .1)
+
+module _ (c : tie.After-sets-at) where
+  abbrev moves-read : tie.After-mark-moves
+  moves-read = c .before .before .before
+
+  abbrev facts-state : tie.After-facts-at
+  facts-state = of-facts (facts-read (of-moves moves-read))
+
+  abbrev moves-state : tie.After-moves-at
+  moves-state = of-moves moves-read
+
+  abbrev goal-numbers : List ℕ
+  goal-numbers = c .sets-at .last .1 .1 .1 .1 .1 .0
+
+  abbrev clauses : List Literals
+  clauses = setsIn goal-numbers
+
+  long : length (xs facts-state) ≡ 1409
+  long = facts-state .facts-at .kept .1 .0 ∙ start facts-state .pre
+
+  same-after : length (anew (anew (xs facts-state) (moves moves-state) 289 1120) goal-numbers 272 17)
+      ≡ length (start facts-state .args .packed .now)
+  same-after =
+      goal-kept (xs facts-state) (moves moves-state) long (moves-state .moves-at .kept .1 .1 .1 .0) goal-numbers
+      (c .sets-at .kept .1 .1 .1 .1 .1 .0)
+      ∙ sym (start facts-state .pre)
+
+module _ (c : tie.After-mark-goal) where
+  abbrev of-goal : tie.After-sets-at
+  of-goal = c .before .before .before .before
+
+  plan-left : Left (bytes (facts-state of-goal)) sheet
+      (fromPlan (facts (facts-state of-goal)) (actions (moves-state of-goal)) (clauses of-goal)) (c .mark-goal .given .0 .0)
+  unfolding factsIn goal
+  plan-left = section-read _ _ (goal-left (moves-read of-goal)) (of-goal .sets-at .ensures) (c .mark-goal .given .1)
+
+module _ (c : tie.After-plan-at) where
+  abbrev goal-read : tie.After-mark-goal
+  goal-read = c .before .before
+
+  plan-read : ReadsAs planOf
+      (read (bytes (facts-state (of-goal goal-read))) (plan (length (actions (moves-state (of-goal goal-read))))) (goal-read .mark-goal .given .0 .0))
+      (c .plan-at .result .mark) (c .plan-at .result .value)
+  plan-read = rw items-length (c .plan-at .ensures)
+
+module _ (c : tie.After-mark-plan) where
+  abbrev of-plan : tie.After-plan-at
+  of-plan = c .before .before
+
+  abbrev goal-state : tie.After-sets-at
+  goal-state = of-goal (goal-read of-plan)
+
+  all-read : WholeRead (bytes (facts-state goal-state)) (facts (facts-state goal-state)) (actions (moves-state goal-state)) (clauses goal-state)
+      (of-plan .plan-at .result .value) (c .mark-plan .given .0 .0)
+  all-read =
+      whole-read _ (actions (moves-state goal-state)) (clauses goal-state) (plan-left (goal-read of-plan)) (plan-read of-plan)
+      (c .mark-plan .given .1)
+
+-- ---- the answers
 returns : tie.Need-returns
 returns c = (
-  refused-by _ _ _ (c .refuse-at .ensures .0) ∙ sym
-      (sheet-facts _ (c .before .before .before .before .before .facts-at .ensures .0) (c .before .enum-told .given .1)),
+  refused-by _ _ _ (c .refuse-at .ensures .0)
+      ∙ sym (sheet-refused _ _ (sheet-begin _) same (c .before .before .before .before .before .facts-at .ensures .0)
+      (c .before .enum-told .given .1)),
   c .refuse-at .ensures .1,
 )
 
 returns-2 : tie.Need-returns-2
 unfolding factsIn
 returns-2 c =
-    let after-moves-at = c .before .before .before .before .before in
-    let after-mark = after-moves-at .before .before .before .before in
-    let after-facts-at = after-mark .before .before .before .before in (
-      refused-by _ _ _ (c .refuse-at2 .ensures .0) ∙ sym
-          (sheet-moves _ (after-facts-at .facts-at .ensures .0) (after-mark .mark .given .1) (after-moves-at .moves-at .ensures)
+    let after-moves-at = c .before .before .before .before .before in (
+      refused-by _ _ _ (c .refuse-at2 .ensures .0)
+          ∙ sym (sheet-refused _ _ (moves-left (facts-read after-moves-at)) same (after-moves-at .moves-at .ensures)
           (c .before .enum-told2 .given .1)),
       c .refuse-at2 .ensures .1,
     )
 
 same-length-3 : tie.Need-same-length-3
-same-length-3 c =
-    let after-sets-at = c .before .before .before .before .before in
-    let after-moves-at = after-sets-at .before .before .before .before .before .before .before in
-    let after-facts-at = after-moves-at .before .before .before .before .before .before .before .before in
-    let start = after-facts-at .before .before .before .before in
-    let xs = after-facts-at .facts-at .last .1 .0 in
-    let moves = after-moves-at .moves-at .last .1 .1 .1 .0 in
-    let goal = after-sets-at .sets-at .last .1 .1 .1 .1 .1 .0 in
-    let long = after-facts-at .facts-at .kept .1 .0 ∙ start .pre in
-    let moves-long = after-moves-at .moves-at .kept .1 .1 .1 .0 ∙ part-long 289 1120 xs (omega (arith, long)) in
-    let goal-long = after-sets-at .sets-at .kept .1 .1 .1 .1 .1 .0
-    ∙ part-long 272 17 (anew xs moves 289 1120) (omega (arith, moves-kept xs moves long moves-long)) in
-    goal-kept xs moves long moves-long goal goal-long ∙ sym (start .pre)
+same-length-3 c = same-after (c .before .before .before .before .before)
 
 returns-3 : tie.Need-returns-3
-unfolding factsIn
+unfolding factsIn goal
 returns-3 c =
-    let after-sets-at = c .before .before .before .before .before in
-    let after-mark-moves = after-sets-at .before .before .before in
-    let after-moves-at = after-mark-moves .before .before .before .before in
-    let after-mark = after-moves-at .before .before .before .before in
-    let after-facts-at = after-mark .before .before .before .before in (
-      refused-by _ _ _ (c .refuse-at3 .ensures .0) ∙ sym
-          (sheet-goal _ (after-facts-at .facts-at .ensures .0) (after-mark .mark .given .1) (after-moves-at .moves-at .ensures)
-          (after-mark-moves .mark-moves .given .1) (after-sets-at .sets-at .ensures) (c .before .enum-told3 .given .1)),
+    let after-sets-at = c .before .before .before .before .before in (
+      refused-by _ _ _ (c .refuse-at3 .ensures .0)
+          ∙ sym (sheet-refused _ _ (goal-left (moves-read after-sets-at)) same (after-sets-at .sets-at .ensures)
+          (c .before .enum-told3 .given .1)),
       c .refuse-at3 .ensures .1,
     )
 
 plan-at-requires : tie.Need-plan-at-requires
-unfolding factsIn
 plan-at-requires c κs =
-    let after-mark-moves = c .before .before .before .before .before .before .before .before in
-    let after-moves-at = after-mark-moves .before .before .before .before in
-    let after-mark = after-moves-at .before .before .before .before in
-    let after-facts-at = after-mark .before .before .before .before in
-    moves-most _ (after-facts-at .facts-at .ensures .0) (after-mark .mark .given .1) (after-moves-at .moves-at .ensures)
-    (after-mark-moves .mark-moves .given .1) (items-length 35 actionFrom _ _)
+    let after-mark-moves = moves-read (of-goal (c .before)) in
+    moves-most _ _ _ (of-moves after-mark-moves .moves-at .ensures) (after-mark-moves .mark-moves .given .1) (items-length 35 actionFrom _ _)
 
 same-length-4 : tie.Need-same-length-4
-same-length-4 c =
-    let after-sets-at = c .before .before .before .before .before .before .before .before .before in
-    let after-moves-at = after-sets-at .before .before .before .before .before .before .before in
-    let after-facts-at = after-moves-at .before .before .before .before .before .before .before .before in
-    let start = after-facts-at .before .before .before .before in
-    let xs = after-facts-at .facts-at .last .1 .0 in
-    let moves = after-moves-at .moves-at .last .1 .1 .1 .0 in
-    let goal = after-sets-at .sets-at .last .1 .1 .1 .1 .1 .0 in
-    let long = after-facts-at .facts-at .kept .1 .0 ∙ start .pre in
-    let moves-long = after-moves-at .moves-at .kept .1 .1 .1 .0 ∙ part-long 289 1120 xs (omega (arith, long)) in
-    let goal-long = after-sets-at .sets-at .kept .1 .1 .1 .1 .1 .0
-    ∙ part-long 272 17 (anew xs moves 289 1120) (omega (arith, moves-kept xs moves long moves-long)) in
-    goal-kept xs moves long moves-long goal goal-long ∙ sym (start .pre)
+same-length-4 c = same-after (of-goal (goal-read (c .before .before .before)))
 
 returns-4 : tie.Need-returns-4
-unfolding factsIn
 returns-4 c =
-    let after-plan-at = c .before .before .before in
-    let after-mark-goal = after-plan-at .before .before in
-    let after-sets-at = after-mark-goal .before .before .before .before in
-    let after-mark-moves = after-sets-at .before .before .before in
-    let after-moves-at = after-mark-moves .before .before .before .before in
-    let after-mark = after-moves-at .before .before .before .before in
-    let after-facts-at = after-mark .before .before .before .before in (
-      refused-by _ _ _ (c .refuse-at4 .ensures .0) ∙ sym
-          (sheet-plan _ (after-facts-at .facts-at .ensures .0) (after-mark .mark .given .1) (after-moves-at .moves-at .ensures)
-          (after-mark-moves .mark-moves .given .1) (after-sets-at .sets-at .ensures) (after-mark-goal .mark-goal .given .1)
-          (items-length 35 actionFrom _ _) (after-plan-at .plan-at .ensures) (c .before .enum-told4 .given .1)),
+    let after-plan-at = c .before .before .before in (
+      refused-by _ _ _ (c .refuse-at4 .ensures .0)
+          ∙ sym (sheet-refused _ _ (plan-left (goal-read after-plan-at)) planOf (plan-read after-plan-at) (c .before .enum-told4 .given .1)),
       c .refuse-at4 .ensures .1,
     )
 
 same-length-5 : tie.Need-same-length-5
-same-length-5 c =
-    let after-sets-at = c .before .before .before .before .before .before .before .before .before .before .before in
-    let after-moves-at = after-sets-at .before .before .before .before .before .before .before in
-    let after-facts-at = after-moves-at .before .before .before .before .before .before .before .before in
-    let start = after-facts-at .before .before .before .before in
-    let xs = after-facts-at .facts-at .last .1 .0 in
-    let moves = after-moves-at .moves-at .last .1 .1 .1 .0 in
-    let goal = after-sets-at .sets-at .last .1 .1 .1 .1 .1 .0 in
-    let long = after-facts-at .facts-at .kept .1 .0 ∙ start .pre in
-    let moves-long = after-moves-at .moves-at .kept .1 .1 .1 .0 ∙ part-long 289 1120 xs (omega (arith, long)) in
-    let goal-long = after-sets-at .sets-at .kept .1 .1 .1 .1 .1 .0
-    ∙ part-long 272 17 (anew xs moves 289 1120) (omega (arith, moves-kept xs moves long moves-long)) in
-    goal-kept xs moves long moves-long goal goal-long ∙ sym (start .pre)
+same-length-5 c = same-after (of-goal (goal-read (c .before .before .before .before .before)))
 
 returns-5 : tie.Need-returns-5
-unfolding factsIn
-returns-5 c =
-    let after-mark-plan = c .before .before .before in
-    let after-plan-at = after-mark-plan .before .before in
-    let after-mark-goal = after-plan-at .before .before in
-    let after-sets-at = after-mark-goal .before .before .before .before in
-    let after-mark-moves = after-sets-at .before .before .before in
-    let after-moves-at = after-mark-moves .before .before .before .before in
-    let after-mark = after-moves-at .before .before .before .before in
-    let after-facts-at = after-mark .before .before .before .before in (
-      refused-with _ _ _ _ (c .refuse .ensures .0) ∙ sym
-          (sheet-longer _ (after-facts-at .facts-at .ensures .0) (after-mark .mark .given .1) (after-moves-at .moves-at .ensures)
-          (after-mark-moves .mark-moves .given .1) (after-sets-at .sets-at .ensures) (after-mark-goal .mark-goal .given .1)
-          (items-length 35 actionFrom _ _) (after-plan-at .plan-at .ensures) (after-mark-plan .mark-plan .given .1)
-          (c .before .if1 .taken)),
-      c .refuse .ensures .1,
-    )
+returns-5 c = (
+  refused-with _ _ _ _ (c .refuse .ensures .0) ∙ sym (sheet-longer (all-read (c .before .before .before)) (c .before .if1 .taken)),
+  c .refuse .ensures .1,
+)
 
 same-length-6 : tie.Need-same-length-6
-same-length-6 c =
-    let after-sets-at = c .before .before .before .before .before .before .before .before .before .before .before .before in
-    let after-moves-at = after-sets-at .before .before .before .before .before .before .before in
-    let after-facts-at = after-moves-at .before .before .before .before .before .before .before .before in
-    let start = after-facts-at .before .before .before .before in
-    let xs = after-facts-at .facts-at .last .1 .0 in
-    let moves = after-moves-at .moves-at .last .1 .1 .1 .0 in
-    let goal = after-sets-at .sets-at .last .1 .1 .1 .1 .1 .0 in
-    let long = after-facts-at .facts-at .kept .1 .0 ∙ start .pre in
-    let moves-long = after-moves-at .moves-at .kept .1 .1 .1 .0 ∙ part-long 289 1120 xs (omega (arith, long)) in
-    let goal-long = after-sets-at .sets-at .kept .1 .1 .1 .1 .1 .0
-    ∙ part-long 272 17 (anew xs moves 289 1120) (omega (arith, moves-kept xs moves long moves-long)) in
-    goal-kept xs moves long moves-long goal goal-long ∙ sym (start .pre)
+same-length-6 c = same-after (of-goal (goal-read (c .before .before .before .before .before .before)))
 
 returns-6 : tie.Need-returns-6
-unfolding judgementIn statementIn factsIn
+unfolding judgementIn statementIn
 returns-6 c =
     let after-if1 = c .before .before in
     let after-mark-plan = after-if1 .before .before in
-    let after-plan-at = after-mark-plan .before .before in
-    let after-mark-goal = after-plan-at .before .before in
-    let after-sets-at = after-mark-goal .before .before .before .before in
-    let after-mark-moves = after-sets-at .before .before .before in
-    let after-moves-at = after-mark-moves .before .before .before .before in
-    let after-mark = after-moves-at .before .before .before .before in
-    let after-facts-at = after-mark .before .before .before .before in
-    let start = after-facts-at .before .before .before .before in
-    let xs = after-facts-at .facts-at .last .1 .0 in
-    let moves = after-moves-at .moves-at .last .1 .1 .1 .0 in
-    let goal = after-sets-at .sets-at .last .1 .1 .1 .1 .1 .0 in
-    let long = after-facts-at .facts-at .kept .1 .0 ∙ start .pre in
-    let moves-long = after-moves-at .moves-at .kept .1 .1 .1 .0 ∙ part-long 289 1120 xs (omega (arith, long)) in
-    let goal-long = after-sets-at .sets-at .kept .1 .1 .1 .1 .1 .0
-    ∙ part-long 272 17 (anew xs moves 289 1120) (omega (arith, moves-kept xs moves long moves-long)) in (
-      sym (sheet-whole _ (after-facts-at .facts-at .ensures .0) (after-mark .mark .given .1) (after-moves-at .moves-at .ensures)
-          (after-mark-moves .mark-moves .given .1) (after-sets-at .sets-at .ensures) (after-mark-goal .mark-goal .given .1)
-          (items-length 35 actionFrom _ _) (after-plan-at .plan-at .ensures) (after-mark-plan .mark-plan .given .1)
-          (after-if1 .if1 .left)
-          ∙ ap (λ (p : Problem). accepted (record { problem = p; plan = planIn (after-plan-at .plan-at .result .value) }))
-          (problem-laid xs moves long moves-long goal goal-long (after-facts-at .facts-at .result .value)
-          (after-moves-at .moves-at .result .value) (after-plan-at .plan-at .result .value))),
-      plan-most _ (after-facts-at .facts-at .ensures .0) (after-mark .mark .given .1) (after-moves-at .moves-at .ensures)
-          (after-mark-moves .mark-moves .given .1) (after-sets-at .sets-at .ensures) (after-mark-goal .mark-goal .given .1)
-          (items-length 35 actionFrom _ _) (after-plan-at .plan-at .ensures) (after-mark-plan .mark-plan .given .1),
+    let z = goal-state after-mark-plan in
+    let numbers = of-plan after-mark-plan .plan-at .result .value in (
+      sym (sheet-whole (all-read after-mark-plan) (after-if1 .if1 .left)
+          ∙ ap (λ (p : Problem). accepted (record { problem = p; plan = planIn numbers }))
+          (problem-laid (xs (facts-state z)) (moves (moves-state z)) (long z) (moves-state z .moves-at .kept .1 .1 .1 .0) (goal-numbers z)
+          (z .sets-at .kept .1 .1 .1 .1 .1 .0) (facts-state z .facts-at .result .value) (moves-state z .moves-at .result .value) numbers)),
+      all-read after-mark-plan .most,
     )
 
 pub sheet-in-spec : {M : Type 1} → statement M
