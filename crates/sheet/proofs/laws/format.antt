@@ -3,9 +3,10 @@
 pub mod Encodings
 pub mod Judgements
 -- ---- for this crate alone
-pub mod Forms
+pub mod DueForms
+pub mod FormReads
+pub mod FormLengths
 pub mod ByteRoles
-pub mod FormRuns
 pub mod ByteRules
 pub mod FaultNumbers
 pub mod AlikeSheets

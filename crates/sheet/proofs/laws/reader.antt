@@ -4,5 +4,7 @@ pub mod PackedParts
 pub mod ReadSheets
 -- ---- for this crate alone
 pub mod ReadMarks
+pub mod ReadLoops
+pub mod ReadLiterals
 pub mod ReadLists
 pub mod ReadSections

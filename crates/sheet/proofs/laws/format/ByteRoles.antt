@@ -9,7 +9,7 @@ use lib.Dec.{ltb, leb, eqb}
 use lib.ListN.{length}
 use Rattle.sheet.specs.Form.{Form, done, byte, _>>=_, judged, times, due}
 use Rattle.sheet.specs.Format.{countFault, literalFault, numberFault, listOf, ascending, literals, clause, effect, action, clauses, actions, goal, plan, facts, sheet}
-use Rattle.sheet.proofs.laws.format.Forms.{passed-some}
+use Rattle.sheet.proofs.laws.format.DueForms.{passed-some}
 
 -- a rule of the format gives k for some byte: 0, or the number of a fault, which tells the role
 pub data TellsRole (rule : ℕ → ℕ) (k : ℕ) : Type 0 where

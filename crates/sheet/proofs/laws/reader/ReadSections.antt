@@ -14,7 +14,7 @@ use Rattle.sheet.specs.Form.{Form, done, _>>=_, item, fault, read}
 use Rattle.sheet.specs.Format.{count, literals, clauses, actions, goal, plan, facts, sheet, accepted, refused, atEnd, sheetOf}
 use Rattle.sheet.specs.inner.Decoded.{planOf, planIn}
 use Rattle.sheet.specs.inner.Marks.{ReadsAs, same, refusedBy}
-use Rattle.sheet.proofs.laws.format.Forms.{read-on, read-fault}
+use Rattle.sheet.proofs.laws.format.FormReads.{read-on, read-fault}
 use Rattle.sheet.proofs.laws.reader.ReadMarks.{gave-fault, gave-item, got-item, got-fault, got-same}
 use Rattle.sheet.proofs.laws.reader.ReadLists.{list-most}
 use Rattle.sheet.proofs.laws.reader.ReadSheets.{plan-slots}

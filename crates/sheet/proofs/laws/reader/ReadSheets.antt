@@ -1,11 +1,10 @@
 -- What was read of a sheet, in its slots and its packed array, by its answer: an accepted sheet has a proper statement there. Assumes
 -- nothing.
 use mathlib.Core.Path.{_≡_, refl, sym, ap, ap₂, _∙_}
-use mathlib.Core.List.{List, [], _∷_}
-use Prim.Native.Nat.{ℕ, zero, suc, _+_, _≤_, _<_}
-use native.Mathlib.Nat.{le-of-suc-le-suc, not-suc-le-zero}
+use mathlib.Core.List.{List}
+use Prim.Native.Nat.{ℕ, _+_, _≤_, _<_}
 use native.Mathlib.Omega.{arith}
-use lib.ListN.{length, take}
+use lib.ListN.{length}
 use Rattle.sheet.specs.declared.Answer.{Answer}
 use Rattle.sheet.specs.declared.Answer.the-variants.{Accepted, Refused}
 use Rattle.sheet.specs.declared.Literals.{Literals}
@@ -14,12 +13,12 @@ use Rattle.sheet.specs.declared.Sheet.{Sheet}
 use Rattle.sheet.specs.declared.Decoded.{Decoded}
 use Rattle.sheet.specs.declared.reader.Mark.{Mark}
 use Rattle.sheet.specs.declared.reader.Mark.the-variants.{At, Fault}
-use Rattle.sheet.specs.Lists.{All, pad}
-use Rattle.sheet.specs.Problem.{Facts, Action, Problem, problemOf, Statement}
+use Rattle.sheet.specs.Lists.{All}
+use Rattle.sheet.specs.Problem.{Facts, Problem, problemOf, Statement}
 use Rattle.sheet.specs.declared.reader.Facts as read
 use Rattle.sheet.specs.Format.{accepted, refused, sheetOf}
 use Rattle.sheet.specs.inner.Decoded.{planOf, planIn, problemIn, statementIn, judgedBy, judgementIn, Filled}
-use Rattle.sheet.specs.inner.Packed.{part, orsIn, oneofsIn, goalIn, movesIn, setsIn, clausesAt, actionFrom, actionsAt}
+use Rattle.sheet.specs.inner.Packed.{part, orsIn, oneofsIn, movesIn, setsIn, clausesAt, actionFrom, actionsAt}
 use Rattle.sheet.specs.inner.Marks.{refusedBy, factsIn}
 use Rattle.sheet.specs.Calls.{answerOf, judgeOf}
 use Rattle.sheet.specs.Encoding.{Counted, ProperClause, ProperAction, ProperStatement}

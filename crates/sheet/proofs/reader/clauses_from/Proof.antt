@@ -6,7 +6,7 @@ use Prim.Native.Nat.{_-_}
 use lib.ListN.{length, length-append, length-take, length-drop}
 use Rattle.sheet.specs.Format.{clause}
 use Rattle.sheet.specs.inner.Packed.{itemsAt, clausesAt}
-use Rattle.sheet.proofs.laws.reader.ReadMarks.{Turns, turns-none, turns-laid, turns-stop, turns-end}
+use Rattle.sheet.proofs.laws.reader.ReadLoops.{Turns, turns-none, turns-laid, turns-stop, turns-end}
 use Rattle.sheet.proofs.laws.reader.PackedParts.{items-laid}
 use Rattle.sheet.proofs.reader.clauses_from.Statement.{statement}
 use Rattle.sheet.proofs.reader.clauses_from.Tie as tie

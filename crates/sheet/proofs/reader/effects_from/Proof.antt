@@ -6,7 +6,7 @@ use Prim.Native.Nat.{_-_}
 use lib.ListN.{length}
 use Rattle.sheet.specs.Format.{effect}
 use Rattle.sheet.specs.inner.Packed.{effectsAt}
-use Rattle.sheet.proofs.laws.reader.ReadMarks.{Turns, turns-none, turns-laid, turns-stop, turns-end}
+use Rattle.sheet.proofs.laws.reader.ReadLoops.{Turns, turns-none, turns-laid, turns-stop, turns-end}
 use Rattle.sheet.proofs.laws.reader.PackedParts.{effects-more}
 use Rattle.sheet.proofs.reader.effects_from.Statement.{statement}
 use Rattle.sheet.proofs.reader.effects_from.Tie as tie
