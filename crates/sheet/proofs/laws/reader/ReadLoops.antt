@@ -2,7 +2,7 @@
 -- For `sets_from`, `effects_from`, `clauses_from`, `moves_from` and `plan_from` of src/reader.rt. Assumes nothing.
 use mathlib.Core.Path.{_≡_, refl, sym, ap, ap₂, _∙_, subst}
 use mathlib.Core.List.{List, [], _∷_, _++_, map, append-assoc, append-nil}
-use Prim.Native.Nat.{ℕ, suc, _+_, _-_, _≤_, _<_}
+use Prim.Native.Nat.{ℕ, suc, _+_, _-_, _*_, _≤_, _<_}
 use native.Mathlib.Omega.{arith}
 use native.Mathlib.Nat.{sub-zero}
 use lib.ListN.{length, set, length-append, length-map}
@@ -10,11 +10,13 @@ use Rattle.sheet.specs.declared.reader.Mark.{Mark}
 use Rattle.sheet.specs.declared.reader.Mark.the-variants.{At, Fault}
 use Rattle.sheet.specs.Lists.{pad}
 use Rattle.sheet.specs.Form.{Form, done, _>>=_, times, Read, item, fault, thenRead, read}
+use Rattle.sheet.specs.inner.Packed.{itemsAt}
 use Rattle.sheet.specs.inner.Marks.{ReadsAs, same}
 use Rattle.sheet.proofs.laws.format.FormReads.{read-then}
 use Rattle.sheet.proofs.laws.base.Padding.{pad-set}
 use Rattle.sheet.specs.Format.{count}
-use Rattle.sheet.proofs.laws.reader.ReadMarks.{gave-item, gave-fault, got-item, got-fault}
+use Rattle.sheet.proofs.laws.reader.ReadMarks.{gave-item, gave-fault, got-item, got-fault, got-same}
+use Rattle.sheet.proofs.laws.reader.PackedParts.{itemAnew, item-anew-long, items-laid}
 
 -- ---- a loop over k items
 -- the items that are left, read after those done
@@ -83,24 +85,47 @@ module _ {A : Type 0} (s : List ℕ) (one : Form A) where
         t .rest ∙ ap (λ (j : ℕ). onto xs (read s (times j one) next)) e ∙ ap (onto xs) (times-none next)
         ∙ ap (λ (l : List A). item l next) (append-nil xs)
 
-    -- a loop that lays items one after the other: one more, a fault, and all of them
-    module _ {m : Mark} {v : A} (g : ReadsAs same (read s one next) m v) where
-      pub turns-laid : {rest : ℕ} {more : List A} → i < k → m ≡ At rest → more ≡ xs ++ (v ∷ []) → Turns k first more (i + 1) rest
-      turns-laid {rest} h q e =
-          let r = got-item same (read s one next) m v g q in
-          subst (λ (l : List A). Turns k first l (i + 1) rest) (sym (e ∙ ap (λ (a : A). xs ++ (a ∷ [])) (r .2))) (turns-more h (r .1))
+-- ---- a loop that lays items in an array of `size` numbers; `parts n xs` are the first n items there
+pub record Laid {A : Type 0} (s : List ℕ) (one : Form A) (size : ℕ) (parts : ℕ → List ℕ → List A) (k first : ℕ) (xs : List ℕ) (i next : ℕ)
+    : Type 0 where
+  pub long : length xs ≡ size
+  pub turns : Turns s one k first (parts i xs) i next
 
-      pub turns-stop : {w : List A} {f p : ℕ} → i < k → m ≡ Fault f p → ReadsAs same (read s (times k one) first) m w
-      turns-stop h q = gave-fault same _ (turns-fault h (got-fault same (read s one next) m v g q)) q
+pub laid-none : {A : Type 0} {s : List ℕ} {one : Form A} {size : ℕ} {parts : ℕ → List ℕ → List A} {k first : ℕ} {xs : List ℕ} → length xs ≡ size
+    → parts 0 xs ≡ [] → Laid s one size parts k first xs 0 first
+laid-none {s} {one} {k} {first} l e =
+    record { long = l; turns = subst (λ (ys : List _). Turns s one k first ys 0 first) (sym e) (turns-none s one k first) }
 
-  -- `parts n` are the first n items
-  pub turns-end : (k first : ℕ) (parts : ℕ → List A) (i next : ℕ) → Turns k first (parts i) i next → k ≤ i
-      → ReadsAs same (read s (times k one) first) (At next) (parts k)
-  turns-end k first parts i next t h =
-      let e : k ≡ i = omega (arith, t .within) in
-      gave-item same _ (turns-all k first (parts i) i next t h) refl (ap parts e)
+module _ {A : Type 0} {s : List ℕ} {one : Form A} {size : ℕ} {parts : ℕ → List ℕ → List A} {k first : ℕ} {xs : List ℕ} {i next : ℕ}
+    (t : Laid s one size parts k first xs i next) where
+  -- all of them
+  pub laid-end : k ≤ i → ReadsAs same (read s (times k one) first) (At next) (parts k xs)
+  laid-end h =
+      let e : k ≡ i = omega (arith, t .turns .within) in
+      gave-item same _ (turns-all s one k first (parts i xs) i next (t .turns) h) refl (ap (λ (n : ℕ). parts n xs) e)
 
--- a loop that fills slots
+  module _ (h : i < k) {m : Mark} {v : A} (g : ReadsAs same (read s one next) m v) where
+    -- a fault
+    pub laid-stop : {w : List A} {f p : ℕ} → m ≡ Fault f p → ReadsAs same (read s (times k one) first) m w
+    laid-stop q = gave-fault same _ (turns-fault s one k first (parts i xs) i next (t .turns) h (got-fault same (read s one next) m v g q)) q
+
+    -- one more
+    pub laid-more : {rest : ℕ} {ys : List ℕ} → m ≡ At rest → length ys ≡ length xs → parts (i + 1) ys ≡ parts i xs ++ (v ∷ [])
+        → Laid s one size parts k first ys (i + 1) rest
+    laid-more {rest} q l e = record {
+      long = l ∙ t .long;
+      turns = subst (λ (zs : List A). Turns s one k first zs (i + 1) rest) (sym e)
+          (turns-more s one k first (parts i xs) i next (t .turns) h (got-same (read s one next) m v g q));
+    }
+
+-- one more item of w numbers, by a borrow of them that leaves zs there
+pub items-more : {A : Type 0} (w : ℕ) (f : List ℕ → A) {s : List ℕ} {one : Form A} {size k first : ℕ} {xs : List ℕ} {i next : ℕ}
+    → Laid s one size (itemsAt w f) k first xs i next → i < k → (zs : List ℕ) {m : Mark} {rest : ℕ} → ReadsAs same (read s one next) m (f zs)
+    → m ≡ At rest → length zs ≡ w → i * w + w ≤ size → Laid s one size (itemsAt w f) k first (itemAnew xs zs w i) (i + 1) rest
+items-more w f {xs} {i} t h zs g q l room =
+    laid-more t h g q (item-anew-long xs zs w i (omega (arith, t .long)) l) (items-laid w f i xs zs (omega (arith, t .long)) l)
+
+-- ---- a loop that fills slots
 pub record Taken {A B : Type 0} (s : List ℕ) (one : Form A) (shape : A → B) (size : ℕ) (d : B) (k first : ℕ) (slots : List B)
     (i next : ℕ) : Type 0 where
   pub done : List A

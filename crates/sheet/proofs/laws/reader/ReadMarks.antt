@@ -59,29 +59,25 @@ pub got-same : {A : Type 0} (x : Read A) (m : Mark) (v : A) → ReadsAs same x m
 got-same x m v g {next} q = let r = got-item same x m v g q in r .1 ∙ ap (λ (a : _). item a next) (sym (r .2))
 
 -- ---- one byte
--- the bytes have ended
-pub byte-early : (s : List ℕ) (rule : ℕ → ℕ) (at : ℕ) → length s ≤ at → read s (judged rule) at ≡ fault 1 (length s)
-byte-early s rule at h = read-judged s rule at ∙ byte-out s rule at h
+module _ (s : List ℕ) (rule : ℕ → ℕ) (at : ℕ) where
+  -- the bytes have ended
+  pub byte-early : {m : Mark} {v : ℕ} → length s ≤ at → m ≡ Fault 1 (length s) → ReadsAs same (read s (judged rule) at) m v
+  byte-early h e = gave-fault same _ (read-judged s rule at ∙ byte-out s rule at h) e
 
--- the byte is at fault
-pub byte-wrong : (s : List ℕ) (rule : ℕ → ℕ) (at : ℕ) {k : ℕ} → at < length s → rule (getD s at 0) ≡ suc k
-    → read s (judged rule) at ≡ fault (suc k) at
-unfolding byteAt
-byte-wrong s rule at h e = read-judged s rule at ∙ rw (lt-ltb at (length s) h, e)
+  module _ (h : at < length s) where
+    -- the byte is at fault
+    pub byte-wrong : {v k : ℕ} → rule (getD s at 0) ≡ suc k → ReadsAs same (read s (judged rule) at) (Fault (suc k) at) v
+    unfolding byteAt
+    byte-wrong e = gave-fault same _ (read-judged s rule at ∙ rw (lt-ltb at (length s) h, e)) refl
 
-pub byte-wrong-by : (s : List ℕ) (rule : ℕ → ℕ) (at : ℕ) {f : ℕ} → at < length s → f ≡ rule (getD s at 0) → (f ≡ 0 → ⊥)
-    → read s (judged rule) at ≡ fault f at
-byte-wrong-by s rule at {f} h e z = go f e z
-  where
-    go : (k : ℕ) → k ≡ rule (getD s at 0) → (k ≡ 0 → ⊥) → read s (judged rule) at ≡ fault k at
-    go zero q y = absurd (y refl)
-    go (suc k) q y = byte-wrong s rule at h (sym q)
+    pub byte-wrong-by : {v : ℕ} (f : ℕ) → f ≡ rule (getD s at 0) → (f ≡ 0 → ⊥) → ReadsAs same (read s (judged rule) at) (Fault f at) v
+    byte-wrong-by zero e z = absurd (z refl)
+    byte-wrong-by (suc k) e z = byte-wrong (sym e)
 
--- the byte is fine
-pub byte-fine : (s : List ℕ) (rule : ℕ → ℕ) (at : ℕ) → at < length s → rule (getD s at 0) ≡ 0
-    → read s (judged rule) at ≡ item (getD s at 0) (at + 1)
-unfolding byteAt
-byte-fine s rule at h e = read-judged s rule at ∙ rw (lt-ltb at (length s) h, e)
+    -- the byte is fine
+    pub byte-fine : rule (getD s at 0) ≡ 0 → ReadsAs same (read s (judged rule) at) (At (at + 1)) (getD s at 0)
+    unfolding byteAt
+    byte-fine e = gave-item same _ (read-judged s rule at ∙ rw (lt-ltb at (length s) h, e)) refl refl
 
 -- a byte that was read had no fault
 admitted : (f b at : ℕ) {a e : ℕ} → admit f b at ≡ item a e → (f ≡ 0) × (b ≡ a)

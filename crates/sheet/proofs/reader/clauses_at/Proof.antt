@@ -7,15 +7,6 @@ use Rattle.sheet.proofs.laws.reader.ReadLists.{count-read}
 use Rattle.sheet.proofs.reader.clauses_at.Statement.{statement}
 use Rattle.sheet.proofs.reader.clauses_at.Tie as tie
 
-count-at-requires : tie.Need-count-at-requires
-count-at-requires c κs = search needs
-
-enum-known-mark : tie.Need-enum-known-mark
-enum-known-mark c = search needs
-
-enum-told : tie.Need-enum-told
-enum-told c = search needs
-
 returns : tie.Need-returns
 unfolding clauses listOf
 returns c = gave-stop _ _ _ _ same same (c .before .before .count-at .ensures) (c .enum-told .given .1)
@@ -27,9 +18,6 @@ clauses-from-requires c κs =
     let start = after-count-at .before .before .before in
     let p = start .pre in
     (p .0, count-read _ _ _ _ (after-count-at .count-at .ensures) (after-mark .mark .given .1), p .1)
-
-same-length : tie.Need-same-length
-same-length c = search needs
 
 returns-2 : tie.Need-returns-2
 unfolding clauses listOf
@@ -43,4 +31,4 @@ returns-2 c =
 pub clauses-at-spec : {M : Type 1} → statement M
 clauses-at-spec =
     tie.close
-    (tie.spec count-at-requires enum-known-mark enum-told returns clauses-from-requires same-length returns-2)
+    (tie.spec (λ c κs. search needs) (λ c. search needs) (λ c. search needs) returns clauses-from-requires (λ c. search needs) returns-2)

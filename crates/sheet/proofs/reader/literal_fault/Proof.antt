@@ -6,9 +6,6 @@ use Rattle.sheet.proofs.laws.format.ByteRules.{literal-3, floor-order, 
 use Rattle.sheet.proofs.reader.literal_fault.Statement.{statement}
 use Rattle.sheet.proofs.reader.literal_fault.Tie as tie
 
-mul-if1 : tie.Need-mul-if1
-mul-if1 c = search needs
-
 returns : tie.Need-returns
 returns c = sym (literal-3 _ (literalBefore (c .before .args .floor)) _ .1 (c .if1 .taken))
 
@@ -33,4 +30,4 @@ returns-5 c =
     sym (floor-fine _ (c .before .before .before .args .floor) _ (c .before .before .if1 .left) (c .before .if2 .left) (λ e o. c .if3 .left e))
 
 pub literal-fault-spec : {M : Type 1} → statement M
-literal-fault-spec = tie.close (tie.spec mul-if1 returns returns-2 returns-3 returns-4 returns-5)
+literal-fault-spec = tie.close (tie.spec (λ c. search needs) returns returns-2 returns-3 returns-4 returns-5)

@@ -7,21 +7,9 @@ use Rattle.sheet.proofs.laws.reader.ReadMarks.{gave-stop, gave-on, gave
 use Rattle.sheet.proofs.reader.literals_at.Statement.{statement}
 use Rattle.sheet.proofs.reader.literals_at.Tie as tie
 
-count-at-requires : tie.Need-count-at-requires
-count-at-requires c κs = search needs
-
-enum-known-mark : tie.Need-enum-known-mark
-enum-known-mark c = search needs
-
-enum-told : tie.Need-enum-told
-enum-told c = search needs
-
 returns : tie.Need-returns
 unfolding literals
 returns c = gave-stop _ _ _ _ same same (c .before .before .count-at .ensures) (c .enum-told .given .1)
-
-literals-from-requires : tie.Need-literals-from-requires
-literals-from-requires c κs = search needs
 
 returns-2 : tie.Need-returns-2
 unfolding literals
@@ -34,4 +22,4 @@ returns-2 c =
 pub literals-at-spec : {M : Type 1} → statement M
 literals-at-spec =
     tie.close
-    (tie.spec count-at-requires enum-known-mark enum-told returns literals-from-requires returns-2)
+    (tie.spec (λ c κs. search needs) (λ c. search needs) (λ c. search needs) returns (λ c κs. search needs) returns-2)

@@ -8,18 +8,6 @@ use Rattle.sheet.proofs.laws.reader.ReadLists.{count-read}
 use Rattle.sheet.proofs.reader.plan_at.Statement.{statement}
 use Rattle.sheet.proofs.reader.plan_at.Tie as tie
 
-count-at-requires : tie.Need-count-at-requires
-count-at-requires c κs = search needs
-
-enum-known-mark : tie.Need-enum-known-mark
-enum-known-mark c = search needs
-
-enum-told : tie.Need-enum-told
-enum-told c = search needs
-
-no-plan-requires : tie.Need-no-plan-requires
-no-plan-requires c κs = search needs
-
 returns : tie.Need-returns
 unfolding plan listOf
 returns c = gave-stop _ _ _ _ planOf same (c .before .before .before .count-at .ensures) (c .before .enum-told .given .1)
@@ -40,4 +28,4 @@ returns-2 c =
 pub plan-at-spec : {M : Type 1} → statement M
 plan-at-spec =
     tie.close
-    (tie.spec count-at-requires enum-known-mark enum-told no-plan-requires returns plan-from-requires returns-2)
+    (tie.spec (λ c κs. search needs) (λ c. search needs) (λ c. search needs) (λ c κs. search needs) returns plan-from-requires returns-2)
