@@ -1,6 +1,6 @@
 -- The rules of single bytes: when a count, a literal or a move number has no fault, and when each of its faults.
 -- For `count_at`, `number_at`, `literal_fault` of src/reader.rt, and for `judge-2` to `judge-7` (FaultNumbers). Assumes nothing.
-use mathlib.Core.Path.{_≡_, refl, sym, ap, _∙_}
+use mathlib.Core.Path.{_≡_, refl, sym, _∙_}
 use mathlib.Core.Bool.{Bool, true, false, cond}
 use mathlib.Core.Logic.{_⊎_, inl, inr, _↔_}
 use mathlib.Core.Option.{Option, none, some}
@@ -129,56 +129,31 @@ unfolding chain
 literal-3 n none b = (λ e. leb-true _ _ (chain-3 _ false false (sym (first-of n b) ∙ e)), λ h. first-of n b ∙ rw (le-leb (2 * n) b h))
 literal-3 n (some l) b = (
   λ e. leb-true _ _ (chain-3 _ (leb b l) (eqb (b / 2) (l / 2)) (sym (after-of n l b) ∙ e)),
-  λ h. after-of n l b
-      ∙ rw (le-leb (2 * n) b h),
+  λ h. after-of n l b ∙ rw (le-leb (2 * n) b h),
 )
 
-pub literal-4 : (n : ℕ) (last : Option ℕ) (b : ℕ) → (literalFault n last b ≡ 4) ↔ ((l : ℕ) × (last ≡ some l) × (b < 2 * n) × (b ≤ l))
+-- the first literal of a list has no fault above 3
+pub first-most : (n b : ℕ) → literalFault n none b ≤ 3
+unfolding literalFault
+first-most n b = go (leb (2 * n) b)
+  where
+    go : (t : Bool) → cond t 3 0 ≤ 3
+    go true = omega arith
+    go false = omega arith
+
+pub literal-4 : (n l b : ℕ) → (literalFault n (some l) b ≡ 4) ↔ ((b < 2 * n) × (b ≤ l))
 unfolding chain
-literal-4 n none b = (
-  λ e. absurd (no (chain-4 (leb (2 * n) b) false false (sym (first-of n b) ∙ e) .1)),
-  λ r. absurd (let z : _≡_ {A = ℕ} 0 1 = cc (r .1) in omega arith),
+literal-4 n l b = (
+  λ e. let r = chain-4 _ _ (eqb (b / 2) (l / 2)) (sym (after-of n l b) ∙ e) in (leb-false _ _ (r .0), leb-true _ _ (r .1)),
+  λ h. after-of n l b ∙ rw (lt-leb (2 * n) b (h .0), le-leb b l (h .1)),
 )
-  where
-    no : false ≡ true → ⊥
-    no e = let z : _≡_ {A = ℕ} 0 1 = cc in omega arith
-literal-4 n (some l) b = (there, back)
-  where
-    there : literalFault n (some l) b ≡ 4 → (k : ℕ) × (some l ≡ some k) × (b < 2 * n) × (b ≤ k)
-    there e =
-        let r = chain-4 (leb (2 * n) b) (leb b l) (eqb (b / 2) (l / 2)) (sym (after-of n l b) ∙ e) in
-        (l, refl, leb-false _ _ (r .0), leb-true _ _ (r .1))
 
-    back : (k : ℕ) × (some l ≡ some k) × (b < 2 * n) × (b ≤ k) → literalFault n (some l) b ≡ 4
-    back r =
-        let q : l ≡ r .0 = cc (r .1) in
-        after-of n l b ∙ rw (lt-leb (2 * n) b (r .2), le-leb b l (omega (arith, q, r .3)))
-
-pub literal-5 : (n : ℕ) (last : Option ℕ) (b : ℕ)
-    → (literalFault n last b ≡ 5) ↔ ((l : ℕ) × (last ≡ some l) × (b < 2 * n) × (l < b) × (b / 2 ≡ l / 2))
+pub literal-5 : (n l b : ℕ) → (literalFault n (some l) b ≡ 5) ↔ ((b < 2 * n) × (l < b) × (b / 2 ≡ l / 2))
 unfolding chain
-literal-5 n none b = (
-  λ e. absurd (no (chain-5 (leb (2 * n) b) false false (sym (first-of n b) ∙ e) .2)),
-  λ r. absurd (let z : _≡_ {A = ℕ} 0 1 = cc (r .1) in omega arith),
+literal-5 n l b = (
+  λ e. let r = chain-5 _ _ _ (sym (after-of n l b) ∙ e) in (leb-false _ _ (r .0), leb-false _ _ (r .1), eqb-true _ _ (r .2)),
+  λ h. after-of n l b ∙ rw (lt-leb (2 * n) b (h .0), lt-leb b l (h .1), eq-eqb (b / 2) (l / 2) (h .2)),
 )
-  where
-    no : false ≡ true → ⊥
-    no e = let z : _≡_ {A = ℕ} 0 1 = cc in omega arith
-literal-5 n (some l) b = (there, back)
-  where
-    there : literalFault n (some l) b ≡ 5 → (k : ℕ) × (some l ≡ some k) × (b < 2 * n) × (k < b) × (b / 2 ≡ k / 2)
-    there e =
-        let r = chain-5 (leb (2 * n) b) (leb b l) (eqb (b / 2) (l / 2)) (sym (after-of n l b) ∙ e) in
-        (l, refl, leb-false _ _ (r .0), leb-false _ _ (r .1), eqb-true _ _ (r .2))
-
-    back : (k : ℕ) × (some l ≡ some k) × (b < 2 * n) × (k < b) × (b / 2 ≡ k / 2) → literalFault n (some l) b ≡ 5
-    back r =
-        let q : l ≡ r .0 = cc (r .1) in
-        after-of n l b ∙ rw (
-          lt-leb (2 * n) b (r .2),
-          lt-leb b l (omega (arith, q, r .3)),
-          eq-eqb (b / 2) (l / 2) (r .4 ∙ ap (λ (x : ℕ). x / 2) (sym q)),
-        )
 
 -- ---- a literal against the floor of `literal_fault`, which is one more than the literal before
 module _ (n floor b : ℕ) (h : b < 2 * n) where
@@ -187,14 +162,14 @@ module _ (n floor b : ℕ) (h : b < 2 * n) where
     where
       go : (f : ℕ) → b < f → literalFault n (literalBefore f) b ≡ 4
       go zero i = absurd (omega arith)
-      go (suc l) i = literal-4 n (some l) b .1 (l, refl, h, omega arith)
+      go (suc l) i = literal-4 n l b .1 (h, omega arith)
 
   pub floor-complement : b ≡ floor → floor % 2 ≡ 1 → literalFault n (literalBefore floor) b ≡ 5
   floor-complement = go floor
     where
       go : (f : ℕ) → b ≡ f → f % 2 ≡ 1 → literalFault n (literalBefore f) b ≡ 5
       go zero e o = absurd (let z : _≡_ {A = ℕ} 0 1 = o in omega arith)
-      go (suc l) e o = literal-5 n (some l) b .1 (l, refl, h, omega arith, omega arith)
+      go (suc l) e o = literal-5 n l b .1 (h, omega arith, omega arith)
 
   pub floor-fine : floor ≤ b → (b ≡ floor → floor % 2 ≡ 1 → ⊥) → literalFault n (literalBefore floor) b ≡ 0
   floor-fine = go floor
