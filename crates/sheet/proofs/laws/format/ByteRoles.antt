@@ -1,4 +1,5 @@
--- The roles of a sheet's bytes: each is a count, a literal or a move number, and each gives only its own numbers. Assumes nothing.
+-- The roles of a sheet's bytes: each is a count, a literal or a move number, and each gives only its own numbers.
+-- For TH1 (b), by Judgements and FaultNumbers. Assumes nothing.
 use mathlib.Core.Path.{_≡_, refl}
 use mathlib.Core.Bool.{Bool, true, false, cond}
 use mathlib.Core.List.{List, [], _∷_}

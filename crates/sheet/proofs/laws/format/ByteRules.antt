@@ -1,5 +1,5 @@
 -- The rules of single bytes: when a count, a literal or a move number has no fault, and when each of its faults.
--- For `count_at`, `number_at`, `literal_fault` of src/reader.rt, and for `judge-2` to `judge-7` (FaultNumbers). Assumes nothing.
+-- For `count_at`, `number_at`, `literal_fault` of src/reader.rt, for Encodings, and for `judge-2` to `judge-7`. Assumes nothing.
 use mathlib.Core.Path.{_≡_, refl, sym, _∙_}
 use mathlib.Core.Bool.{Bool, true, false, cond}
 use mathlib.Core.Logic.{_⊎_, inl, inr, _↔_}

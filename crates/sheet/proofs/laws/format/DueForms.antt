@@ -1,5 +1,5 @@
 -- What a form asks for after some bytes: the part that is due, one form after the other, where the bytes stop, a run to the end.
--- For the theorems on `judge` (Judgements, Encodings). Assumes nothing.
+-- For TH1 in proofs/Demands, by Judgements and Encodings. Assumes nothing.
 use mathlib.Core.Path.{_≡_, refl, ap, _∙_, sym}
 use mathlib.Core.List.{List, [], _∷_, _++_, append-nil}
 use mathlib.Core.Logic.{_⊎_, inl, inr, _↔_}

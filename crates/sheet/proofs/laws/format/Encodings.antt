@@ -1,5 +1,5 @@
 -- The bytes that the format admits are those that `encode` writes, each for the statement that it writes them of.
--- Assumes nothing.
+-- For TH1 (a), `accepted-encoding` and `encoding-unique` in proofs/Demands. Assumes nothing.
 use mathlib.Core.Path.{_≡_, refl, sym, ap, _∙_, subst}
 use mathlib.Core.Logic.{_↔_}
 use mathlib.Core.List.{List, [], _∷_, _++_, append-assoc}

@@ -1,4 +1,5 @@
--- The call `judge`, number by number: each of 1 to 7 exactly on its own condition. Assumes nothing.
+-- The call `judge`, number by number: each of 1 to 7 exactly on its own condition.
+-- For TH1 (b), `judge-refused`, `judge-numbers` and `judge-1` to `judge-7` in proofs/Demands. Assumes nothing.
 use mathlib.Core.Path.{_≡_, refl, sym, ap, subst, _∙_}
 use mathlib.Core.List.{List, [], _∷_, _++_}
 use mathlib.Core.Logic.{_⊎_, _↔_}

@@ -1,4 +1,4 @@
--- How many bytes a form takes at most. For the longest sheet, `judge-longest` in proofs/Demands, by Judgements. Assumes nothing.
+-- How many bytes a form takes at most. For `judge-longest` and `first-bytes` in proofs/Demands, by Judgements. Assumes nothing.
 use mathlib.Core.Path.{_≡_, ap}
 use mathlib.Core.List.{List, [], _∷_}
 use mathlib.Core.Logic.{_⊎_, inl, inr}

@@ -1,5 +1,5 @@
 -- Reading a form from a position: one byte, one form after the other, over the bytes passed to where it stops.
--- For the laws of the reader, and for the theorems on `judge` (Judgements). Assumes nothing.
+-- For what the functions of src/reader.rt give (laws/reader), and for TH1, by Judgements. Assumes nothing.
 use mathlib.Core.Path.{_≡_, refl, ap, _∙_}
 use mathlib.Core.List.{List, [], _∷_, _++_, append-nil}
 use mathlib.Core.Option.{some}

@@ -1,5 +1,5 @@
--- What a sheet's judgement says, for every list of bytes: which fault is named, and that no later byte changes it; that nothing
--- accepted can be cut or continued; and how many bytes decide.
+-- Judgements: which fault is named, that no later byte changes it, that nothing accepted is cut or continued, how many bytes decide.
+-- For TH1 (a) and (c) to (e): `judge-longest`, `local`, `short-open`, `prefix`, `longer`, `first-bytes` in proofs/Demands.
 -- Assumes nothing.
 use mathlib.Core.Path.{_≡_, refl, sym, ap, _∙_}
 use mathlib.Core.List.{List, [], _∷_, _++_, append-nil}

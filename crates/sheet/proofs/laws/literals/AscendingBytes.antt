@@ -1,5 +1,5 @@
 -- Ascending lists of literal bytes, as a sheet has them, are the sets of literals without a complement pair.
--- Assumes nothing.
+-- For the bytes of a statement (Encodings). Assumes nothing.
 use mathlib.Core.Path.{_≡_, refl, sym, ap, ap₂, _∙_, subst}
 use mathlib.Core.Logic.{_↔_, ⊎-elim}
 use mathlib.Core.Bool.{Bool, true, false, not, _||_, true≢false, false≢true}
@@ -18,7 +18,7 @@ use Rattle.sheet.specs.Format.{literalFault, ascending, setOf}
 use Rattle.sheet.proofs.laws.literals.MaskBits.{has-none}
 use Rattle.sheet.proofs.laws.base.Bools.{iff-eq}
 use Rattle.sheet.proofs.laws.literals.LiteralSets.{mem-join, set-ext, mem-self, single-is, or-cases, or-left, or-right, both, consistent-of, of-consistent, consistent-join, consistent-single, clash-single, of-below, below-join, below-single}
-use Rattle.sheet.proofs.laws.literals.LiteralBytes.{byte-place, byte-of, contains-byte, contains-lt, down, next-found, next-ge, next-least, members-here, members-step, members-end, members-cons, members-nil, of-member, member-of}
+use Rattle.sheet.proofs.laws.literals.LiteralBytes.{next-is, byte-place, byte-of, contains-byte, contains-lt, down, next-found, next-ge, members-here, members-step, members-end, members-cons, members-nil, of-member, member-of}
 use Rattle.sheet.proofs.laws.format.ByteRules.{beyond, least, literal-0}
 use Rattle.sheet.proofs.laws.format.DueForms.{run-byte, run-done, run-map}
 
@@ -119,16 +119,6 @@ from-consistent n l (b ∷ bs) h =
         ))
     go false q = q
 
--- the first literal from l on is the next one
-next-is : (a : Literals) (l b : ℕ) → l ≤ b → contains a b ≡ true → ((m : ℕ) → l ≤ m → contains a m ≡ true → b ≤ m) → b < 64 → next a l ≡ b
-next-is a l b h e first k = go (ltb b (next a l)) refl
-  where
-    go : (t : Bool) → ltb b (next a l) ≡ t → next a l ≡ b
-    go true q = absurd (true≢false (sym e ∙ next-least a l b h (ltb-true _ _ q)))
-    go false q =
-        let i : next a l ≤ b = ltb-false b (next a l) q in
-        omega (arith, first (next a l) (next-ge a l) (next-found a l (omega arith)))
-
 -- a set that has the literals of the list from l on lists them
 from-members : (n : ℕ) → n ≤ 32 → (l : ℕ) (bs : List ℕ) (a : Literals) → From n l bs
     → ((m : ℕ) → l ≤ m → contains a m ≡ contains (setOf bs) m) → members a l ≡ bs
@@ -144,10 +134,14 @@ from-members n k l (b ∷ bs) a h same =
     (from-members n k (b + 1) bs a (from-lower n (b + 1) (beyond b) bs (omega arith) (h .2))
     (λ m i. same m (omega arith) ∙ contains-cons b bs m ∙ rw (ne-eqb m b (λ (q : m ≡ b). omega arith))))
   where
+    none-before : (m : ℕ) → l ≤ m → m < b → (t : Bool) → contains a m ≡ t → contains a m ≡ false
+    none-before m i j true e = absurd (omega (arith, from-least n b (b ∷ bs) (omega arith, h .1, h .2) m (sym (same m i) ∙ e)))
+    none-before m i j false e = e
+
     at-b : next a l ≡ b
     at-b =
-        next-is a l b (h .0) (same b (h .0) ∙ contains-of (b ∷ bs) b (List·Memᴰ·head refl))
-        (λ m i e. from-least n b (b ∷ bs) (omega arith, h .1, h .2) m (sym (same m i) ∙ e)) (omega arith)
+        sym (next-is a l b (h .0) (omega arith) (λ q. same b (h .0) ∙ contains-of (b ∷ bs) b (List·Memᴰ·head refl))
+        (λ m i j. none-before m i j (contains a m) refl))
 
 -- ---- from a set to its list
 

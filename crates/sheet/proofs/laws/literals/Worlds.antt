@@ -1,9 +1,9 @@
 -- Literal sets and worlds: a world is a complete set, a consistent set has a completion, and results take a world to a world.
--- Assumes nothing.
+-- For the starts, steps and pictures of table and the goals of plan. Assumes nothing.
 use mathlib.Core.Path.{_≡_, refl, sym, ap, ap₂, _∙_, subst}
-use mathlib.Core.Logic.{_⊎_, ⊎-elim}
+use mathlib.Core.Logic.{⊎-elim}
 use mathlib.Core.Bool.{Bool, true, false, not, _&&_, Bool·beq, and-eq-true-iff, true≢false}
-use Prim.Native.Nat.{ℕ, _-_, _^_, _<_}
+use Prim.Native.Nat.{ℕ, _^_, _<_}
 use lib.Dec.{T, ltb}
 use Rattle.sheet.proofs.laws.base.Bools.{T-true, true-T}
 use borrow.Author.Tests.{lt-ltb, ltb-true, not-true, not-false}

@@ -1,5 +1,5 @@
--- Lists after their count: no more items than it may say. For the functions of src/reader.rt that read a count, and for the sections.
--- Assumes nothing.
+-- Lists after their count: no more items than it may say.
+-- For the functions of src/reader.rt that read a list after its count, as `clauses_at`, and for ReadSections. Assumes nothing.
 use mathlib.Core.Path.{_≡_, refl, sym, ap, _∙_}
 use mathlib.Core.List.{List, [], _∷_}
 use Prim.Native.Nat.{ℕ, zero, suc, _≤_}

@@ -1,5 +1,5 @@
--- What a mark and a value say of what was read: by a fault, by an item, one byte, one form after the other.
--- For every function of src/reader.rt that gives a mark. Assumes nothing.
+-- What a mark and a value say of what was read: a fault or an item, one byte, one form after the other.
+-- For the functions of src/reader.rt that give a mark. Assumes nothing.
 use mathlib.Core.Path.{_≡_, refl, sym, ap, _∙_, subst}
 use mathlib.Core.Bool.{Bool, true, false}
 use mathlib.Core.List.{List}

@@ -1,5 +1,5 @@
--- What was read of a sheet, in its slots and its packed array, by its answer: an accepted sheet has a proper statement there. Assumes
--- nothing.
+-- What was read of a sheet, by its answer; its sections laid in the packed array; what an accepted sheet keeps within its slots.
+-- For `facts_at`, `sheet_in` and `judge`, and for the callers of `decode` in table and plan. Assumes nothing.
 use mathlib.Core.Path.{_≡_, refl, sym, ap, ap₂, _∙_}
 use mathlib.Core.List.{List}
 use Prim.Native.Nat.{ℕ, _+_, _≤_, _<_}
