@@ -1,4 +1,4 @@
--- The format: what is due after some bytes, rules and roles of bytes, the bytes of a statement, the first fault.
+-- The format: what forms ask for, read and take; rules and roles of bytes; the bytes of a statement; the first fault.
 -- ---- may be cited from above
 pub mod Encodings
 pub mod Judgements

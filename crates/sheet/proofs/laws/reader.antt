@@ -1,4 +1,4 @@
--- What the functions of src/reader.rt give: marks and values, lists, sections, the packed array, a sheet that was read.
+-- What the functions of src/reader.rt give: marks and values, loops, literals, lists, sections, the packed array, a sheet that was read.
 -- ---- may be cited from above
 pub mod PackedParts
 pub mod ReadSheets

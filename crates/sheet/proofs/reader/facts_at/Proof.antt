@@ -35,33 +35,33 @@ module _ (c : tie.After-mark) where
   known-left = section-read _ _ (facts-begin _) (c .before .before .count-at .ensures) (c .mark .given .1)
 
 module _ (c : tie.After-mark-known) where
-  abbrev after-n : tie.After-mark
-  after-n = c .before .before .before .before
+  abbrev after-mark : tie.After-mark
+  after-mark = c .before .before .before .before
 
-  ors-left : Left (bytes after-n) facts (fromOrs (n after-n) (c .before .before .literals-at .result .value)) (c .mark-known .given .0 .0)
-  ors-left = section-read _ _ (known-left after-n) (c .before .before .literals-at .ensures) (c .mark-known .given .1)
+  ors-left : Left (bytes after-mark) facts (fromOrs (n after-mark) (c .before .before .literals-at .result .value)) (c .mark-known .given .0 .0)
+  ors-left = section-read _ _ (known-left after-mark) (c .before .before .literals-at .ensures) (c .mark-known .given .1)
 
 module _ (c : tie.After-clauses-at) where
-  abbrev after-known : tie.After-mark-known
-  after-known = c .before .before .before
+  abbrev after-mark-known : tie.After-mark-known
+  after-mark-known = c .before .before .before
 
   abbrev xs : List ℕ
-  xs = start (after-n after-known) .args .packed .now
+  xs = start (after-mark after-mark-known) .args .packed .now
 
   abbrev ors : List ℕ
   ors = c .clauses-at .last .1 .1 .1 .0
 
   ors-long : length (anew xs ors 0 136) ≡ 1409
-  ors-long = ors-kept xs ors (start (after-n after-known) .pre) (c .clauses-at .kept .1 .1 .1 .0)
+  ors-long = ors-kept xs ors (start (after-mark after-mark-known) .pre) (c .clauses-at .kept .1 .1 .1 .0)
 
 module _ (c : tie.After-mark-ors) where
-  abbrev after-ors : tie.After-clauses-at
-  after-ors = c .before .before .before .before
+  abbrev after-clauses-at : tie.After-clauses-at
+  after-clauses-at = c .before .before .before .before
 
-  oneofs-left : Left (bytes (after-n (after-known after-ors))) facts
-      (fromOneofs (n (after-n (after-known after-ors))) (after-known after-ors .before .before .literals-at .result .value)
-      (clausesAt (after-ors .clauses-at .result .value) (ors after-ors))) (c .mark-ors .given .0 .0)
-  oneofs-left = section-read _ _ (ors-left (after-known after-ors)) (after-ors .clauses-at .ensures) (c .mark-ors .given .1)
+  oneofs-left : Left (bytes (after-mark (after-mark-known after-clauses-at))) facts
+      (fromOneofs (n (after-mark (after-mark-known after-clauses-at))) (after-mark-known after-clauses-at .before .before .literals-at .result .value)
+      (clausesAt (after-clauses-at .clauses-at .result .value) (ors after-clauses-at))) (c .mark-ors .given .0 .0)
+  oneofs-left = section-read _ _ (ors-left (after-mark-known after-clauses-at)) (after-clauses-at .clauses-at .ensures) (c .mark-ors .given .1)
 
 -- ---- the answers
 returns : tie.Need-returns
@@ -76,34 +76,34 @@ literals-at-requires c κs = n-most (c .before)
 
 returns-2 : tie.Need-returns-2
 returns-2 c =
-    let after-literals-at = c .before .before .before in (
-      section-stops _ _ (known-left (after-literals-at .before .before)) same (after-literals-at .literals-at .ensures)
+    let z = c .before .before .before in (
+      section-stops _ _ (known-left (z .before .before)) same (z .literals-at .ensures)
           (c .before .enum-told2 .given .1) (c .no-facts2 .ensures .0),
       c .no-facts2 .ensures .1,
     )
 
 clauses-at-requires : tie.Need-clauses-at-requires
 clauses-at-requires c κs =
-    let counted = after-n (c .before .before) in
+    let counted = after-mark (c .before .before) in
     (n-most counted, part-long 0 136 (start counted .args .packed .now) (omega (arith, start counted .pre)))
 
 returns-3 : tie.Need-returns-3
 returns-3 c =
-    let after-clauses-at = c .before .before .before .before .before in (
-      section-stops _ _ (ors-left (after-known after-clauses-at)) same (after-clauses-at .clauses-at .ensures)
+    let z = c .before .before .before .before .before in (
+      section-stops _ _ (ors-left (after-mark-known z)) same (z .clauses-at .ensures)
           (c .before .enum-told3 .given .1) (c .no-facts3 .ensures .0),
       c .no-facts3 .ensures .1,
     )
 
 clauses-at-requires-2 : tie.Need-clauses-at-requires-2
 clauses-at-requires-2 c κs =
-    let read-ors = after-ors (c .before .before) in
-    (n-most (after-n (after-known read-ors)), part-long 136 136 (anew (xs read-ors) (ors read-ors) 0 136) (omega (arith, ors-long read-ors)))
+    let read-ors = after-clauses-at (c .before .before) in
+    (n-most (after-mark (after-mark-known read-ors)), part-long 136 136 (anew (xs read-ors) (ors read-ors) 0 136) (omega (arith, ors-long read-ors)))
 
 returns-4 : tie.Need-returns-4
 returns-4 c =
-    let after-clauses-at2 = c .before .before .before .before .before in (
-      section-stops _ _ (oneofs-left (after-clauses-at2 .before .before .before)) same (after-clauses-at2 .clauses-at2 .ensures)
+    let z = c .before .before .before .before .before in (
+      section-stops _ _ (oneofs-left (z .before .before .before)) same (z .clauses-at2 .ensures)
           (c .before .enum-told4 .given .1) (c .no-facts4 .ensures .0),
       c .no-facts4 .ensures .1,
     )
@@ -113,14 +113,14 @@ returns-5 c =
     let after-mark-oneofs = c .before .before in
     let after-clauses-at2 = after-mark-oneofs .before .before .before .before in
     let after-mark-ors = after-clauses-at2 .before .before .before in
-    let read-ors = after-ors after-mark-ors in
-    let counted = after-n (after-known read-ors) in (
+    let read-ors = after-clauses-at after-mark-ors in
+    let counted = after-mark (after-mark-known read-ors) in (
       subst (ReadsAs same (read (bytes counted) facts 0) (At (after-mark-oneofs .mark-oneofs .given .0 .0)))
           (facts-laid (xs read-ors) (ors read-ors) (start counted .pre) (read-ors .clauses-at .kept .1 .1 .1 .0)
           (after-clauses-at2 .clauses-at2 .last .1 .1 .1 .0) (after-clauses-at2 .clauses-at2 .kept .1 .1 .1 .0)
           (record {
             n = n counted;
-            known = after-known read-ors .before .before .literals-at .result .value;
+            known = after-mark-known read-ors .before .before .literals-at .result .value;
             ors = read-ors .clauses-at .result .value;
             oneofs = after-clauses-at2 .clauses-at2 .result .value;
           }))

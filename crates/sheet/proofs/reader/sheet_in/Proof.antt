@@ -33,15 +33,15 @@ module _ (c : tie.After-facts-at) where
   facts = factsIn (c .facts-at .result .value) xs
 
 module _ (c : tie.After-mark) where
-  abbrev of-facts : tie.After-facts-at
-  of-facts = c .before .before .before .before
+  abbrev after-facts-at : tie.After-facts-at
+  after-facts-at = c .before .before .before .before
 
-  moves-left : Left (bytes of-facts) sheet (fromMoves (facts of-facts)) (c .mark .given .0 .0)
-  moves-left = section-read _ _ (sheet-begin _) (of-facts .facts-at .ensures .0) (c .mark .given .1)
+  moves-left : Left (bytes after-facts-at) sheet (fromMoves (facts after-facts-at)) (c .mark .given .0 .0)
+  moves-left = section-read _ _ (sheet-begin _) (after-facts-at .facts-at .ensures .0) (c .mark .given .1)
 
 module _ (c : tie.After-moves-at) where
-  abbrev facts-read : tie.After-mark
-  facts-read = c .before .before .before .before
+  abbrev after-mark : tie.After-mark
+  after-mark = c .before .before .before .before
 
   abbrev moves : List ℕ
   moves = c .moves-at .last .1 .1 .1 .0
@@ -50,23 +50,23 @@ module _ (c : tie.After-moves-at) where
   actions = actionsAt (c .moves-at .result .value) moves
 
 module _ (c : tie.After-mark-moves) where
-  abbrev of-moves : tie.After-moves-at
-  of-moves = c .before .before .before .before
+  abbrev after-moves-at : tie.After-moves-at
+  after-moves-at = c .before .before .before .before
 
-  goal-left : Left (bytes (of-facts (facts-read of-moves))) sheet (fromGoal (facts (of-facts (facts-read of-moves))) (actions of-moves))
+  goal-left : Left (bytes (after-facts-at (after-mark after-moves-at))) sheet (fromGoal (facts (after-facts-at (after-mark after-moves-at))) (actions after-moves-at))
       (c .mark-moves .given .0 .0)
   unfolding factsIn
-  goal-left = section-read _ _ (moves-left (facts-read of-moves)) (of-moves .moves-at .ensures) (c .mark-moves .given .1)
+  goal-left = section-read _ _ (moves-left (after-mark after-moves-at)) (after-moves-at .moves-at .ensures) (c .mark-moves .given .1)
 
 module _ (c : tie.After-sets-at) where
-  abbrev moves-read : tie.After-mark-moves
-  moves-read = c .before .before .before
+  abbrev after-mark-moves : tie.After-mark-moves
+  after-mark-moves = c .before .before .before
 
   abbrev facts-state : tie.After-facts-at
-  facts-state = of-facts (facts-read (of-moves moves-read))
+  facts-state = after-facts-at (after-mark (after-moves-at after-mark-moves))
 
   abbrev moves-state : tie.After-moves-at
-  moves-state = of-moves moves-read
+  moves-state = after-moves-at after-mark-moves
 
   abbrev goal-numbers : List ℕ
   goal-numbers = c .sets-at .last .1 .1 .1 .1 .1 .0
@@ -85,34 +85,34 @@ module _ (c : tie.After-sets-at) where
       ∙ sym (start facts-state .pre)
 
 module _ (c : tie.After-mark-goal) where
-  abbrev of-goal : tie.After-sets-at
-  of-goal = c .before .before .before .before
+  abbrev after-sets-at : tie.After-sets-at
+  after-sets-at = c .before .before .before .before
 
-  plan-left : Left (bytes (facts-state of-goal)) sheet
-      (fromPlan (facts (facts-state of-goal)) (actions (moves-state of-goal)) (clauses of-goal)) (c .mark-goal .given .0 .0)
+  plan-left : Left (bytes (facts-state after-sets-at)) sheet
+      (fromPlan (facts (facts-state after-sets-at)) (actions (moves-state after-sets-at)) (clauses after-sets-at)) (c .mark-goal .given .0 .0)
   unfolding factsIn goal
-  plan-left = section-read _ _ (goal-left (moves-read of-goal)) (of-goal .sets-at .ensures) (c .mark-goal .given .1)
+  plan-left = section-read _ _ (goal-left (after-mark-moves after-sets-at)) (after-sets-at .sets-at .ensures) (c .mark-goal .given .1)
 
 module _ (c : tie.After-plan-at) where
-  abbrev goal-read : tie.After-mark-goal
-  goal-read = c .before .before
+  abbrev after-mark-goal : tie.After-mark-goal
+  after-mark-goal = c .before .before
 
   plan-read : ReadsAs planOf
-      (read (bytes (facts-state (of-goal goal-read))) (plan (length (actions (moves-state (of-goal goal-read))))) (goal-read .mark-goal .given .0 .0))
+      (read (bytes (facts-state (after-sets-at after-mark-goal))) (plan (length (actions (moves-state (after-sets-at after-mark-goal))))) (after-mark-goal .mark-goal .given .0 .0))
       (c .plan-at .result .mark) (c .plan-at .result .value)
   plan-read = rw items-length (c .plan-at .ensures)
 
 module _ (c : tie.After-mark-plan) where
-  abbrev of-plan : tie.After-plan-at
-  of-plan = c .before .before
+  abbrev after-plan-at : tie.After-plan-at
+  after-plan-at = c .before .before
 
   abbrev goal-state : tie.After-sets-at
-  goal-state = of-goal (goal-read of-plan)
+  goal-state = after-sets-at (after-mark-goal after-plan-at)
 
   all-read : WholeRead (bytes (facts-state goal-state)) (facts (facts-state goal-state)) (actions (moves-state goal-state)) (clauses goal-state)
-      (of-plan .plan-at .result .value) (c .mark-plan .given .0 .0)
+      (after-plan-at .plan-at .result .value) (c .mark-plan .given .0 .0)
   all-read =
-      whole-read _ (actions (moves-state goal-state)) (clauses goal-state) (plan-left (goal-read of-plan)) (plan-read of-plan)
+      whole-read _ (actions (moves-state goal-state)) (clauses goal-state) (plan-left (after-mark-goal after-plan-at)) (plan-read after-plan-at)
       (c .mark-plan .given .1)
 
 -- ---- the answers
@@ -127,9 +127,9 @@ returns c = (
 returns-2 : tie.Need-returns-2
 unfolding factsIn
 returns-2 c =
-    let after-moves-at = c .before .before .before .before .before in (
+    let z = c .before .before .before .before .before in (
       refused-by _ _ _ (c .refuse-at2 .ensures .0)
-          ∙ sym (sheet-refused _ _ (moves-left (facts-read after-moves-at)) same (after-moves-at .moves-at .ensures)
+          ∙ sym (sheet-refused _ _ (moves-left (after-mark z)) same (z .moves-at .ensures)
           (c .before .enum-told2 .given .1)),
       c .refuse-at2 .ensures .1,
     )
@@ -140,31 +140,31 @@ same-length-3 c = same-after (c .before .before .before .before .before)
 returns-3 : tie.Need-returns-3
 unfolding factsIn goal
 returns-3 c =
-    let after-sets-at = c .before .before .before .before .before in (
+    let z = c .before .before .before .before .before in (
       refused-by _ _ _ (c .refuse-at3 .ensures .0)
-          ∙ sym (sheet-refused _ _ (goal-left (moves-read after-sets-at)) same (after-sets-at .sets-at .ensures)
+          ∙ sym (sheet-refused _ _ (goal-left (after-mark-moves z)) same (z .sets-at .ensures)
           (c .before .enum-told3 .given .1)),
       c .refuse-at3 .ensures .1,
     )
 
 plan-at-requires : tie.Need-plan-at-requires
 plan-at-requires c κs =
-    let after-mark-moves = moves-read (of-goal (c .before)) in
-    moves-most _ _ _ (of-moves after-mark-moves .moves-at .ensures) (after-mark-moves .mark-moves .given .1) (items-length 35 actionFrom _ _)
+    let after-mark-moves = after-mark-moves (after-sets-at (c .before)) in
+    moves-most _ _ _ (after-moves-at after-mark-moves .moves-at .ensures) (after-mark-moves .mark-moves .given .1) (items-length 35 actionFrom _ _)
 
 same-length-4 : tie.Need-same-length-4
-same-length-4 c = same-after (of-goal (goal-read (c .before .before .before)))
+same-length-4 c = same-after (after-sets-at (after-mark-goal (c .before .before .before)))
 
 returns-4 : tie.Need-returns-4
 returns-4 c =
-    let after-plan-at = c .before .before .before in (
+    let z = c .before .before .before in (
       refused-by _ _ _ (c .refuse-at4 .ensures .0)
-          ∙ sym (sheet-refused _ _ (plan-left (goal-read after-plan-at)) planOf (plan-read after-plan-at) (c .before .enum-told4 .given .1)),
+          ∙ sym (sheet-refused _ _ (plan-left (after-mark-goal z)) planOf (plan-read z) (c .before .enum-told4 .given .1)),
       c .refuse-at4 .ensures .1,
     )
 
 same-length-5 : tie.Need-same-length-5
-same-length-5 c = same-after (of-goal (goal-read (c .before .before .before .before .before)))
+same-length-5 c = same-after (after-sets-at (after-mark-goal (c .before .before .before .before .before)))
 
 returns-5 : tie.Need-returns-5
 returns-5 c = (
@@ -173,7 +173,7 @@ returns-5 c = (
 )
 
 same-length-6 : tie.Need-same-length-6
-same-length-6 c = same-after (of-goal (goal-read (c .before .before .before .before .before .before)))
+same-length-6 c = same-after (after-sets-at (after-mark-goal (c .before .before .before .before .before .before)))
 
 returns-6 : tie.Need-returns-6
 unfolding judgementIn statementIn
@@ -181,7 +181,7 @@ returns-6 c =
     let after-if1 = c .before .before in
     let after-mark-plan = after-if1 .before .before in
     let z = goal-state after-mark-plan in
-    let numbers = of-plan after-mark-plan .plan-at .result .value in (
+    let numbers = after-plan-at after-mark-plan .plan-at .result .value in (
       sym (sheet-whole (all-read after-mark-plan) (after-if1 .if1 .left)
           ∙ ap (λ (p : Problem). accepted (record { problem = p; plan = planIn numbers }))
           (problem-laid (xs (facts-state z)) (moves (moves-state z)) (long z) (moves-state z .moves-at .kept .1 .1 .1 .0) (goal-numbers z)
