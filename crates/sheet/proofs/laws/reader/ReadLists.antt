@@ -16,7 +16,8 @@ use Rattle.sheet.proofs.laws.reader.ReadLoops.{onto, times-more}
 use Rattle.sheet.proofs.laws.format.ByteRules.{count-0}
 
 -- a count that was read
-pub count-read : (s : List ℕ) (low high at : ℕ) {m : Mark} {v next : ℕ} → ReadsAs same (read s (count low high) at) m v → m ≡ At next → v ≤ high
+pub count-read : (s : List ℕ) (low high at : ℕ) {m : Mark} {v next : ℕ} → ReadsAs same (read s (count low high) at) m v → m ≡ At next
+    → v ≤ high
 count-read s low high at g q = count-0 low high _ .0 (read-passed s (countFault low high) at g q) .1
 
 -- ---- as many items as the count says

@@ -91,8 +91,8 @@ pub record Laid {A : Type 0} (s : List ℕ) (one : Form A) (size : ℕ) (parts :
   pub long : length xs ≡ size
   pub turns : Turns s one k first (parts i xs) i next
 
-pub laid-none : {A : Type 0} {s : List ℕ} {one : Form A} {size : ℕ} {parts : ℕ → List ℕ → List A} {k first : ℕ} {xs : List ℕ} → length xs ≡ size
-    → parts 0 xs ≡ [] → Laid s one size parts k first xs 0 first
+pub laid-none : {A : Type 0} {s : List ℕ} {one : Form A} {size : ℕ} {parts : ℕ → List ℕ → List A} {k first : ℕ} {xs : List ℕ}
+    → length xs ≡ size → parts 0 xs ≡ [] → Laid s one size parts k first xs 0 first
 laid-none {s} {one} {k} {first} l e =
     record { long = l; turns = subst (λ (ys : List _). Turns s one k first ys 0 first) (sym e) (turns-none s one k first) }
 
@@ -107,7 +107,8 @@ module _ {A : Type 0} {s : List ℕ} {one : Form A} {size : ℕ} {parts : ℕ �
   module _ (h : i < k) {m : Mark} {v : A} (g : ReadsAs same (read s one next) m v) where
     -- a fault
     pub laid-stop : {w : List A} {f p : ℕ} → m ≡ Fault f p → ReadsAs same (read s (times k one) first) m w
-    laid-stop q = gave-fault same _ (turns-fault s one k first (parts i xs) i next (t .turns) h (got-fault same (read s one next) m v g q)) q
+    laid-stop q =
+        gave-fault same _ (turns-fault s one k first (parts i xs) i next (t .turns) h (got-fault same (read s one next) m v g q)) q
 
     -- one more
     pub laid-more : {rest : ℕ} {ys : List ℕ} → m ≡ At rest → length ys ≡ length xs → parts (i + 1) ys ≡ parts i xs ++ (v ∷ [])
@@ -120,8 +121,9 @@ module _ {A : Type 0} {s : List ℕ} {one : Form A} {size : ℕ} {parts : ℕ �
 
 -- one more item of w numbers, by a borrow of them that leaves zs there
 pub items-more : {A : Type 0} (w : ℕ) (f : List ℕ → A) {s : List ℕ} {one : Form A} {size k first : ℕ} {xs : List ℕ} {i next : ℕ}
-    → Laid s one size (itemsAt w f) k first xs i next → i < k → (zs : List ℕ) {m : Mark} {rest : ℕ} → ReadsAs same (read s one next) m (f zs)
-    → m ≡ At rest → length zs ≡ w → i * w + w ≤ size → Laid s one size (itemsAt w f) k first (itemAnew xs zs w i) (i + 1) rest
+    → Laid s one size (itemsAt w f) k first xs i next → i < k → (zs : List ℕ) {m : Mark} {rest : ℕ}
+    → ReadsAs same (read s one next) m (f zs) → m ≡ At rest → length zs ≡ w → i * w + w ≤ size
+    → Laid s one size (itemsAt w f) k first (itemAnew xs zs w i) (i + 1) rest
 items-more w f {xs} {i} t h zs g q l room =
     laid-more t h g q (item-anew-long xs zs w i (omega (arith, t .long)) l) (items-laid w f i xs zs (omega (arith, t .long)) l)
 

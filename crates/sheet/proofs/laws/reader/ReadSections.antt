@@ -77,8 +77,8 @@ module _ {B C : Type 0} {s : List ℕ} {at : ℕ} (x : Form B) (f : B → Form S
   unfolding sheetOf atEnd refusedBy
   sheet-refused q = rw (q, section-fault x f t shape g q)
 
-pub moves-most : (s : List ℕ) (n at : ℕ) {m : Mark} {ms : List Action} {next k : ℕ} → ReadsAs same (read s (actions n) at) m ms → m ≡ At next
-    → length ms ≡ k → k ≤ 32
+pub moves-most : (s : List ℕ) (n at : ℕ) {m : Mark} {ms : List Action} {next k : ℕ} → ReadsAs same (read s (actions n) at) m ms
+    → m ≡ At next → length ms ≡ k → k ≤ 32
 unfolding actions
 moves-most s n at {m} {ms} g q l = rw l at (list-most s 1 32 _ at (got-same _ m ms g q))
 

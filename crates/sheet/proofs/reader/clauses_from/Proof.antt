@@ -28,7 +28,8 @@ unfolding clause
 returns c =
     let after-sets-at = c .before .before .before .before in
     let after-loop-test = after-sets-at .before .before in
-    laid-stop (after-loop-test .before .loop .inv) (after-loop-test .loop-test .taken) (after-sets-at .sets-at .ensures) (c .enum-told .given .1)
+    laid-stop (after-loop-test .before .loop .inv) (after-loop-test .loop-test .taken) (after-sets-at .sets-at .ensures)
+    (c .enum-told .given .1)
 
 loop-again : tie.Need-loop-again Inv-loop μ-loop
 unfolding clause

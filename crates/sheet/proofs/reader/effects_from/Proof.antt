@@ -24,7 +24,8 @@ returns : tie.Need-returns Inv-loop μ-loop
 returns c =
     let after-effect-at = c .before .before in
     let after-loop-test = after-effect-at .before in
-    laid-stop (after-loop-test .before .loop .inv) (after-loop-test .loop-test .taken) (after-effect-at .effect-at .ensures) (c .enum-told .given .1)
+    laid-stop (after-loop-test .before .loop .inv) (after-loop-test .loop-test .taken) (after-effect-at .effect-at .ensures)
+    (c .enum-told .given .1)
 
 loop-again : tie.Need-loop-again Inv-loop μ-loop
 loop-again c =

@@ -6,6 +6,7 @@ use native.Mathlib.Omega.{arith}
 use borrow.Author.Needs.{needs}
 use lib.ListN.{length}
 use Rattle.sheet.specs.Form.{read}
+use Rattle.sheet.specs.declared.Literals.{Literals}
 use Rattle.sheet.specs.Format.{facts}
 use Rattle.sheet.specs.inner.Marks.{ReadsAs, same}
 use Rattle.sheet.specs.inner.Packed.{clausesAt}
@@ -38,7 +39,10 @@ module _ (c : tie.After-mark-known) where
   abbrev after-mark : tie.After-mark
   after-mark = c .before .before .before .before
 
-  ors-left : Left (bytes after-mark) facts (fromOrs (n after-mark) (c .before .before .literals-at .result .value)) (c .mark-known .given .0 .0)
+  abbrev known : Literals
+  known = c .before .before .literals-at .result .value
+
+  ors-left : Left (bytes after-mark) facts (fromOrs (n after-mark) known) (c .mark-known .given .0 .0)
   ors-left = section-read _ _ (known-left after-mark) (c .before .before .literals-at .ensures) (c .mark-known .given .1)
 
 module _ (c : tie.After-clauses-at) where
@@ -59,9 +63,10 @@ module _ (c : tie.After-mark-ors) where
   after-clauses-at = c .before .before .before .before
 
   oneofs-left : Left (bytes (after-mark (after-mark-known after-clauses-at))) facts
-      (fromOneofs (n (after-mark (after-mark-known after-clauses-at))) (after-mark-known after-clauses-at .before .before .literals-at .result .value)
+      (fromOneofs (n (after-mark (after-mark-known after-clauses-at))) (known (after-mark-known after-clauses-at))
       (clausesAt (after-clauses-at .clauses-at .result .value) (ors after-clauses-at))) (c .mark-ors .given .0 .0)
-  oneofs-left = section-read _ _ (ors-left (after-mark-known after-clauses-at)) (after-clauses-at .clauses-at .ensures) (c .mark-ors .given .1)
+  oneofs-left =
+      section-read _ _ (ors-left (after-mark-known after-clauses-at)) (after-clauses-at .clauses-at .ensures) (c .mark-ors .given .1)
 
 -- ---- the answers
 returns : tie.Need-returns
@@ -97,8 +102,8 @@ returns-3 c =
 
 clauses-at-requires-2 : tie.Need-clauses-at-requires-2
 clauses-at-requires-2 c κs =
-    let read-ors = after-clauses-at (c .before .before) in
-    (n-most (after-mark (after-mark-known read-ors)), part-long 136 136 (anew (xs read-ors) (ors read-ors) 0 136) (omega (arith, ors-long read-ors)))
+    let z = after-clauses-at (c .before .before) in
+    (n-most (after-mark (after-mark-known z)), part-long 136 136 (anew (xs z) (ors z) 0 136) (omega (arith, ors-long z)))
 
 returns-4 : tie.Need-returns-4
 returns-4 c =
@@ -120,7 +125,7 @@ returns-5 c =
           (after-clauses-at2 .clauses-at2 .last .1 .1 .1 .0) (after-clauses-at2 .clauses-at2 .kept .1 .1 .1 .0)
           (record {
             n = n counted;
-            known = after-mark-known read-ors .before .before .literals-at .result .value;
+            known = known (after-mark-known read-ors);
             ors = read-ors .clauses-at .result .value;
             oneofs = after-clauses-at2 .clauses-at2 .result .value;
           }))

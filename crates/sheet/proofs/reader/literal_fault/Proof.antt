@@ -27,7 +27,8 @@ returns-4 c =
 
 returns-5 : tie.Need-returns-5
 returns-5 c =
-    sym (floor-fine _ (c .before .before .before .args .floor) _ (c .before .before .if1 .left) (c .before .if2 .left) (λ e o. c .if3 .left e))
+    sym (floor-fine _ (c .before .before .before .args .floor) _ (c .before .before .if1 .left) (c .before .if2 .left)
+    (λ e o. c .if3 .left e))
 
 pub literal-fault-spec : {M : Type 1} → statement M
 literal-fault-spec = tie.close (tie.spec (λ c. search needs) returns returns-2 returns-3 returns-4 returns-5)

@@ -27,7 +27,8 @@ returns : tie.Need-returns Inv-loop μ-loop
 returns c =
     let after-move-at = c .before .before .before .before in
     let after-loop-test = after-move-at .before .before in
-    laid-stop (after-loop-test .before .loop .inv) (after-loop-test .loop-test .taken) (after-move-at .move-at .ensures) (c .enum-told .given .1)
+    laid-stop (after-loop-test .before .loop .inv) (after-loop-test .loop-test .taken) (after-move-at .move-at .ensures)
+    (c .enum-told .given .1)
 
 loop-again : tie.Need-loop-again Inv-loop μ-loop
 loop-again c =

@@ -26,7 +26,8 @@ returns : tie.Need-returns Inv-loop μ-loop
 returns c =
     let after-literals-at = c .before .before in
     let after-loop-test = after-literals-at .before in
-    laid-stop (after-loop-test .before .loop .inv) (after-loop-test .loop-test .taken) (after-literals-at .literals-at .ensures) (c .enum-told .given .1)
+    laid-stop (after-loop-test .before .loop .inv) (after-loop-test .loop-test .taken) (after-literals-at .literals-at .ensures)
+    (c .enum-told .given .1)
 
 slice-write-sets-2 : tie.Need-slice-write-sets-2 Inv-loop μ-loop
 slice-write-sets-2 c = simp length-set (omega arith)

@@ -43,6 +43,9 @@ module _ (c : tie.After-moves-at) where
   abbrev after-mark : tie.After-mark
   after-mark = c .before .before .before .before
 
+  abbrev facts-state : tie.After-facts-at
+  facts-state = after-facts-at after-mark
+
   abbrev moves : List ℕ
   moves = c .moves-at .last .1 .1 .1 .0
 
@@ -53,7 +56,7 @@ module _ (c : tie.After-mark-moves) where
   abbrev after-moves-at : tie.After-moves-at
   after-moves-at = c .before .before .before .before
 
-  goal-left : Left (bytes (after-facts-at (after-mark after-moves-at))) sheet (fromGoal (facts (after-facts-at (after-mark after-moves-at))) (actions after-moves-at))
+  goal-left : Left (bytes (facts-state after-moves-at)) sheet (fromGoal (facts (facts-state after-moves-at)) (actions after-moves-at))
       (c .mark-moves .given .0 .0)
   unfolding factsIn
   goal-left = section-read _ _ (moves-left (after-mark after-moves-at)) (after-moves-at .moves-at .ensures) (c .mark-moves .given .1)
@@ -62,11 +65,11 @@ module _ (c : tie.After-sets-at) where
   abbrev after-mark-moves : tie.After-mark-moves
   after-mark-moves = c .before .before .before
 
-  abbrev facts-state : tie.After-facts-at
-  facts-state = after-facts-at (after-mark (after-moves-at after-mark-moves))
+  abbrev by-moves : tie.After-moves-at
+  by-moves = after-moves-at after-mark-moves
 
-  abbrev moves-state : tie.After-moves-at
-  moves-state = after-moves-at after-mark-moves
+  abbrev by-facts : tie.After-facts-at
+  by-facts = facts-state by-moves
 
   abbrev goal-numbers : List ℕ
   goal-numbers = c .sets-at .last .1 .1 .1 .1 .1 .0
@@ -74,22 +77,23 @@ module _ (c : tie.After-sets-at) where
   abbrev clauses : List Literals
   clauses = setsIn goal-numbers
 
-  long : length (xs facts-state) ≡ 1409
-  long = facts-state .facts-at .kept .1 .0 ∙ start facts-state .pre
+  long : length (xs by-facts) ≡ 1409
+  long = by-facts .facts-at .kept .1 .0 ∙ start by-facts .pre
 
-  same-after : length (anew (anew (xs facts-state) (moves moves-state) 289 1120) goal-numbers 272 17)
-      ≡ length (start facts-state .args .packed .now)
+  same-after : length (anew (anew (xs by-facts) (moves by-moves) 289 1120) goal-numbers 272 17)
+      ≡ length (start by-facts .args .packed .now)
   same-after =
-      goal-kept (xs facts-state) (moves moves-state) long (moves-state .moves-at .kept .1 .1 .1 .0) goal-numbers
+      goal-kept (xs by-facts) (moves by-moves) long (by-moves .moves-at .kept .1 .1 .1 .0) goal-numbers
       (c .sets-at .kept .1 .1 .1 .1 .1 .0)
-      ∙ sym (start facts-state .pre)
+      ∙ sym (start by-facts .pre)
 
 module _ (c : tie.After-mark-goal) where
   abbrev after-sets-at : tie.After-sets-at
   after-sets-at = c .before .before .before .before
 
-  plan-left : Left (bytes (facts-state after-sets-at)) sheet
-      (fromPlan (facts (facts-state after-sets-at)) (actions (moves-state after-sets-at)) (clauses after-sets-at)) (c .mark-goal .given .0 .0)
+  plan-left : Left (bytes (by-facts after-sets-at)) sheet
+      (fromPlan (facts (by-facts after-sets-at)) (actions (by-moves after-sets-at)) (clauses after-sets-at))
+      (c .mark-goal .given .0 .0)
   unfolding factsIn goal
   plan-left = section-read _ _ (goal-left (after-mark-moves after-sets-at)) (after-sets-at .sets-at .ensures) (c .mark-goal .given .1)
 
@@ -97,8 +101,11 @@ module _ (c : tie.After-plan-at) where
   abbrev after-mark-goal : tie.After-mark-goal
   after-mark-goal = c .before .before
 
+  abbrev by-goal : tie.After-sets-at
+  by-goal = after-sets-at after-mark-goal
+
   plan-read : ReadsAs planOf
-      (read (bytes (facts-state (after-sets-at after-mark-goal))) (plan (length (actions (moves-state (after-sets-at after-mark-goal))))) (after-mark-goal .mark-goal .given .0 .0))
+      (read (bytes (by-facts by-goal)) (plan (length (actions (by-moves by-goal)))) (after-mark-goal .mark-goal .given .0 .0))
       (c .plan-at .result .mark) (c .plan-at .result .value)
   plan-read = rw items-length (c .plan-at .ensures)
 
@@ -106,13 +113,13 @@ module _ (c : tie.After-mark-plan) where
   abbrev after-plan-at : tie.After-plan-at
   after-plan-at = c .before .before
 
-  abbrev goal-state : tie.After-sets-at
-  goal-state = after-sets-at (after-mark-goal after-plan-at)
+  abbrev goal-laid : tie.After-sets-at
+  goal-laid = by-goal after-plan-at
 
-  all-read : WholeRead (bytes (facts-state goal-state)) (facts (facts-state goal-state)) (actions (moves-state goal-state)) (clauses goal-state)
+  all-read : WholeRead (bytes (by-facts goal-laid)) (facts (by-facts goal-laid)) (actions (by-moves goal-laid)) (clauses goal-laid)
       (after-plan-at .plan-at .result .value) (c .mark-plan .given .0 .0)
   all-read =
-      whole-read _ (actions (moves-state goal-state)) (clauses goal-state) (plan-left (after-mark-goal after-plan-at)) (plan-read after-plan-at)
+      whole-read _ (actions (by-moves goal-laid)) (clauses goal-laid) (plan-left (after-mark-goal after-plan-at)) (plan-read after-plan-at)
       (c .mark-plan .given .1)
 
 -- ---- the answers
@@ -149,11 +156,11 @@ returns-3 c =
 
 plan-at-requires : tie.Need-plan-at-requires
 plan-at-requires c κs =
-    let after-mark-moves = after-mark-moves (after-sets-at (c .before)) in
-    moves-most _ _ _ (after-moves-at after-mark-moves .moves-at .ensures) (after-mark-moves .mark-moves .given .1) (items-length 35 actionFrom _ _)
+    let z = after-mark-moves (after-sets-at (c .before)) in
+    moves-most _ _ _ (after-moves-at z .moves-at .ensures) (z .mark-moves .given .1) (items-length 35 actionFrom _ _)
 
 same-length-4 : tie.Need-same-length-4
-same-length-4 c = same-after (after-sets-at (after-mark-goal (c .before .before .before)))
+same-length-4 c = same-after (by-goal (c .before .before .before))
 
 returns-4 : tie.Need-returns-4
 returns-4 c =
@@ -164,7 +171,7 @@ returns-4 c =
     )
 
 same-length-5 : tie.Need-same-length-5
-same-length-5 c = same-after (after-sets-at (after-mark-goal (c .before .before .before .before .before)))
+same-length-5 c = same-after (by-goal (c .before .before .before .before .before))
 
 returns-5 : tie.Need-returns-5
 returns-5 c = (
@@ -173,19 +180,19 @@ returns-5 c = (
 )
 
 same-length-6 : tie.Need-same-length-6
-same-length-6 c = same-after (after-sets-at (after-mark-goal (c .before .before .before .before .before .before)))
+same-length-6 c = same-after (by-goal (c .before .before .before .before .before .before))
 
 returns-6 : tie.Need-returns-6
 unfolding judgementIn statementIn
 returns-6 c =
     let after-if1 = c .before .before in
     let after-mark-plan = after-if1 .before .before in
-    let z = goal-state after-mark-plan in
+    let z = goal-laid after-mark-plan in
     let numbers = after-plan-at after-mark-plan .plan-at .result .value in (
       sym (sheet-whole (all-read after-mark-plan) (after-if1 .if1 .left)
           ∙ ap (λ (p : Problem). accepted (record { problem = p; plan = planIn numbers }))
-          (problem-laid (xs (facts-state z)) (moves (moves-state z)) (long z) (moves-state z .moves-at .kept .1 .1 .1 .0) (goal-numbers z)
-          (z .sets-at .kept .1 .1 .1 .1 .1 .0) (facts-state z .facts-at .result .value) (moves-state z .moves-at .result .value) numbers)),
+          (problem-laid (xs (by-facts z)) (moves (by-moves z)) (long z) (by-moves z .moves-at .kept .1 .1 .1 .0) (goal-numbers z)
+          (z .sets-at .kept .1 .1 .1 .1 .1 .0) (by-facts z .facts-at .result .value) (by-moves z .moves-at .result .value) numbers)),
       all-read after-mark-plan .most,
     )
 
