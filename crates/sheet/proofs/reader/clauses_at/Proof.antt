@@ -1,4 +1,5 @@
 -- `sheet::reader::clauses_at` meets its contract. Assumes nothing.
+use native.Mathlib.Omega.{arith}
 use borrow.Author.Needs.{needs}
 use Rattle.sheet.specs.inner.Marks.{same}
 use Rattle.sheet.specs.Format.{clauses, listOf}
@@ -14,19 +15,14 @@ returns c = gave-stop _ _ _ _ same same (c .before .before .count-at .ensures) (
 clauses-from-requires : tie.Need-clauses-from-requires
 clauses-from-requires c κs =
     let after-mark = c .before .before in
-    let after-count-at = after-mark .before .before in
-    let start = after-count-at .before .before .before in
-    let p = start .pre in
-    (p .0, count-read _ _ _ _ (after-count-at .count-at .ensures) (after-mark .mark .given .1), p .1)
+    (omega arith, count-read _ _ _ _ (after-mark .before .before .count-at .ensures) (after-mark .mark .given .1), omega arith)
 
 returns-2 : tie.Need-returns-2
 unfolding clauses listOf
 returns-2 c =
     let after-clauses-from = c .before .before in
     let after-mark = after-clauses-from .before .before .before in
-    let after-count-at = after-mark .before .before in
-    gave-on _ _ _ _ same (after-count-at .count-at .ensures) (after-mark .mark .given .1)
-    (after-clauses-from .clauses-from .ensures)
+    gave-on _ _ _ _ same (after-mark .before .before .count-at .ensures) (after-mark .mark .given .1) (after-clauses-from .clauses-from .ensures)
 
 pub clauses-at-spec : {M : Type 1} → statement M
 clauses-at-spec =

@@ -55,16 +55,21 @@ same-length c = c .before .item .given .1 ∙ simp length-set
 returns-3 : tie.Need-returns-3
 unfolding action listOf
 returns-3 c =
-    let z = c .before .before .before .before .before .before .before .before .before .before .before .before .before .before .before in
-    let p = c .before .before .before .before .before .before .before .before .before .before .before .before .literals-at in
-    let r = c .before .before .before .before .before .before .before .before .count-at in
-    subst (ReadsAs same _ _) (sym (action-laid (z .args .item .now) _ (p .result .value) (r .result .value) (z .pre .1) (search needs)))
-    (gave-on _ _ _ _ same (p .ensures) (c .before .before .before .before .before .before .before .before .before .before .mark .given .1)
+    let after-effects-from = c .before .before in
+    let after-end = after-effects-from .before .before .before .before in
+    let after-count-at = after-end .before .before in
+    let after-mark = after-count-at .before .before in
+    let after-literals-at = after-mark .before .before in
+    let start = after-literals-at .before .before .before in
+    let p = after-literals-at .literals-at in
+    let r = after-count-at .count-at in
+    subst (ReadsAs same _ _)
+    (sym (action-laid (start .args .item .now) _ (p .result .value) (r .result .value) (start .pre .1) (search needs)))
+    (gave-on _ _ _ _ same (p .ensures) (after-mark .mark .given .1)
     (gave-as _ (listOf 0 8 (effect _)) _ _ _ same (λ a. refl)
     (gave-made (λ es. record { precondition = p .result .value; effects = es })
-    (gave-on _ (count 0 8) (λ k. times k (effect _)) _ same
-    (r .ensures) (c .before .before .before .before .before .before .end .given .1)
-    (c .before .before .effects-from .ensures)))))
+    (gave-on _ (count 0 8) (λ k. times k (effect _)) _ same (r .ensures) (after-end .end .given .1)
+    (after-effects-from .effects-from .ensures)))))
 
 pub move-at-spec : {M : Type 1} → statement M
 move-at-spec =

@@ -1,4 +1,5 @@
 -- `sheet::reader::moves_at` meets its contract. Assumes nothing.
+use native.Mathlib.Omega.{arith}
 use borrow.Author.Needs.{needs}
 use Rattle.sheet.specs.inner.Marks.{same}
 use Rattle.sheet.specs.Format.{actions, listOf}
@@ -14,19 +15,14 @@ returns c = gave-stop _ _ _ _ same same (c .before .before .count-at .ensures) (
 moves-from-requires : tie.Need-moves-from-requires
 moves-from-requires c κs =
     let after-mark = c .before .before in
-    let after-count-at = after-mark .before .before in
-    let start = after-count-at .before .before .before in
-    let p = start .pre in
-    (p .0, count-read _ _ _ _ (after-count-at .count-at .ensures) (after-mark .mark .given .1), p .1)
+    (omega arith, count-read _ _ _ _ (after-mark .before .before .count-at .ensures) (after-mark .mark .given .1), omega arith)
 
 returns-2 : tie.Need-returns-2
 unfolding actions listOf
 returns-2 c =
     let after-moves-from = c .before .before in
     let after-mark = after-moves-from .before .before .before in
-    let after-count-at = after-mark .before .before in
-    gave-on _ _ _ _ same (after-count-at .count-at .ensures) (after-mark .mark .given .1)
-    (after-moves-from .moves-from .ensures)
+    gave-on _ _ _ _ same (after-mark .before .before .count-at .ensures) (after-mark .mark .given .1) (after-moves-from .moves-from .ensures)
 
 pub moves-at-spec : {M : Type 1} → statement M
 moves-at-spec =

@@ -40,10 +40,9 @@ returns-2 c =
     let after-sets-from = c .before .before in
     let after-mark = after-sets-from .before .before .before in
     let after-count-at = after-mark .before .before in
-    let after-10 = after-count-at .before .before .before in
-    let z = after-10 in
+    let start = after-count-at .before .before .before in
     let r = after-count-at .count-at in
-    subst (ReadsAs same _ _) (sym (sets-laid (z .args .item .now) _ (r .result .value) (z .pre .1)))
+    subst (ReadsAs same _ _) (sym (sets-laid (start .args .item .now) _ (r .result .value) (start .pre .1)))
     (gave-on _ _ _ _ same (r .ensures) (after-mark .mark .given .1) (after-sets-from .sets-from .ensures))
 
 pub sets-at-spec : {M : Type 1} → statement M
