@@ -14,7 +14,7 @@ pub passed-some : {B : Type 0} (k : ℕ) {x : Option B} {y : B} → passed k x �
 passed-some zero e = (refl, e)
 passed-some (suc k) e = (cc, cc)
 
-pub due-cons : {A : Type 0} (rule : ℕ → ℕ) (next : ℕ → Form A) (b : ℕ) (bs : List ℕ) {x : Option (Form A)} → rule b ≡ 0
+due-cons : {A : Type 0} (rule : ℕ → ℕ) (next : ℕ → Form A) (b : ℕ) (bs : List ℕ) {x : Option (Form A)} → rule b ≡ 0
     → due (next b) bs ≡ x
     → due (byte rule next) (b ∷ bs) ≡ x
 unfolding due

@@ -16,7 +16,7 @@ use Rattle.sheet.proofs.laws.format.ByteRules.{count-0}
 unfoldable pub Bounded : {A : Type 0} → Form A → ℕ → Type 0
 Bounded {A} f d = (bs : List ℕ) (g : Form A) → due f bs ≡ some g → length bs ≤ d
 
-pub bounded-le : {A : Type 0} (f : Form A) (d e : ℕ) → d ≤ e → Bounded f d → Bounded f e
+bounded-le : {A : Type 0} (f : Form A) (d e : ℕ) → d ≤ e → Bounded f d → Bounded f e
 unfolding Bounded
 bounded-le f d e l h bs g p = omega (arith, h bs g p)
 
@@ -46,7 +46,7 @@ bounded-then f g d e p q bs h u = go (due-split f g bs u)
         )
     go (inr r) = omega (arith, p bs _ (r .of-first))
 
-pub bounded-times : {A : Type 0} (one : Form A) (d : ℕ) → Bounded one d → (k : ℕ) → Bounded (times k one) (k * d)
+bounded-times : {A : Type 0} (one : Form A) (d : ℕ) → Bounded one d → (k : ℕ) → Bounded (times k one) (k * d)
 unfolding times
 bounded-times one d h zero = rw zero-mul (bounded-done [])
 bounded-times one d h (suc k) =
@@ -60,7 +60,7 @@ bounded-list low high one d h =
     bounded-then (judged (countFault low high)) _ 1 (high * d) (bounded-judged (countFault low high))
     (λ k bs p. bounded-le _ _ _ (mul-le-mul-right d (count-0 low high k .0 (due-judged _ bs p .1) .1)) (bounded-times one d h k))
 
-pub bounded-ascending : (n : ℕ) (last : Option ℕ) (k : ℕ) → Bounded (ascending n last k) k
+bounded-ascending : (n : ℕ) (last : Option ℕ) (k : ℕ) → Bounded (ascending n last k) k
 unfolding ascending
 bounded-ascending n last zero = bounded-done []
 bounded-ascending n last (suc k) =

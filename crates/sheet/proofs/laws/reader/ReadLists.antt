@@ -9,18 +9,18 @@ use Rattle.sheet.specs.declared.reader.Mark.{Mark}
 use Rattle.sheet.specs.declared.reader.Mark.the-variants.{At}
 use Rattle.sheet.specs.Form.{Form, times, Read, item, fault, thenRead, read}
 use Rattle.sheet.specs.inner.Marks.{ReadsAs, same}
-use Rattle.sheet.proofs.laws.format.FormReads.{read-then}
 use Rattle.sheet.specs.Format.{countFault, count, listOf}
+use Rattle.sheet.proofs.laws.format.FormReads.{read-then}
 use Rattle.sheet.proofs.laws.reader.ReadMarks.{byte-passed, read-passed}
 use Rattle.sheet.proofs.laws.reader.ReadLoops.{onto, times-more}
 use Rattle.sheet.proofs.laws.format.ByteRules.{count-0}
 
--- a count that was read
+-- a count that was read is at most its highest
 pub count-read : (s : List ℕ) (low high at : ℕ) {m : Mark} {v next : ℕ} → ReadsAs same (read s (count low high) at) m v → m ≡ At next
     → v ≤ high
 count-read s low high at g q = count-0 low high _ .0 (read-passed s (countFault low high) at g q) .1
 
--- ---- as many items as the count says
+-- a list has as many items as its count says, so at most the highest count
 times-length : {A : Type 0} (s : List ℕ) (one : Form A) (k at : ℕ) {xs : List A} {next : ℕ} → read s (times k one) at ≡ item xs next
     → length xs ≡ k
 unfolding read times

@@ -4,17 +4,17 @@ use mathlib.Core.List.{List, [], _∷_}
 use Prim.Native.Nat.{ℕ, suc, _+_, _-_, _≤_, _<_}
 use native.Mathlib.Omega.{arith}
 use native.Mathlib.Nat.{sub-zero}
+use mathlib.Core.Option.{Option, none, some}
+use native.Mathlib.Numerals.{add-one}
+use lib.Bits.{or-zero-r}
 use Rattle.sheet.specs.declared.reader.Mark.{Mark}
 use Rattle.sheet.specs.declared.reader.Mark.the-variants.{At, Fault}
 use Rattle.sheet.specs.Form.{done, _>>=_, judged, Read, item, fault, thenRead, read}
 use Rattle.sheet.specs.inner.Marks.{ReadsAs, same, literalBefore}
-use Rattle.sheet.proofs.laws.format.FormReads.{read-then}
-use mathlib.Core.Option.{Option, none, some}
-use native.Mathlib.Numerals.{add-one}
-use lib.Bits.{or-zero-r}
 use Rattle.sheet.specs.declared.Literals.{Literals}
 use Rattle.sheet.specs.Literals.{noLiteral, join, literal}
 use Rattle.sheet.specs.Format.{literalFault, ascending, setOf}
+use Rattle.sheet.proofs.laws.format.FormReads.{read-then}
 use Rattle.sheet.proofs.laws.literals.LiteralSets.{join-assoc}
 use Rattle.sheet.proofs.laws.reader.ReadMarks.{gave-item, gave-fault, got-item, got-fault}
 use Rattle.sheet.proofs.laws.reader.ReadLoops.{onto}

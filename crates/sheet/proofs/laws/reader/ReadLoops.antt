@@ -12,9 +12,9 @@ use Rattle.sheet.specs.Lists.{pad}
 use Rattle.sheet.specs.Form.{Form, done, _>>=_, times, Read, item, fault, thenRead, read}
 use Rattle.sheet.specs.inner.Packed.{itemsAt}
 use Rattle.sheet.specs.inner.Marks.{ReadsAs, same}
+use Rattle.sheet.specs.Format.{count}
 use Rattle.sheet.proofs.laws.format.FormReads.{read-then}
 use Rattle.sheet.proofs.laws.base.Padding.{pad-set}
-use Rattle.sheet.specs.Format.{count}
 use Rattle.sheet.proofs.laws.reader.ReadMarks.{gave-item, gave-fault, got-item, got-fault, got-same}
 use Rattle.sheet.proofs.laws.reader.PackedParts.{itemAnew, item-anew-long, items-laid}
 
@@ -59,7 +59,7 @@ module _ {A : Type 0} (s : List ℕ) (one : Form A) where
   nothing-yet (item ys e) = refl
   nothing-yet (fault f p) = refl
 
-  pub turns-none : (k first : ℕ) → Turns k first [] 0 first
+  turns-none : (k first : ℕ) → Turns k first [] 0 first
   turns-none k first = record { count = refl; within = omega arith; rest = rw sub-zero (nothing-yet (read s (times k one) first)) }
 
   module _ (k first : ℕ) (xs : List A) (i next : ℕ) (t : Turns k first xs i next) where
@@ -69,17 +69,17 @@ module _ {A : Type 0} (s : List ℕ) (one : Form A) where
         let e : k - i ≡ suc (k - (i + 1)) = omega arith in
         t .rest ∙ ap (λ (j : ℕ). onto xs (read s (times j one) next)) e ∙ ap (onto xs) (times-more (k - (i + 1)) next)
 
-    pub turns-more : {a : A} {after-it : ℕ} → i < k → read s one next ≡ item a after-it → Turns k first (xs ++ (a ∷ [])) (i + 1) after-it
+    turns-more : {a : A} {after-it : ℕ} → i < k → read s one next ≡ item a after-it → Turns k first (xs ++ (a ∷ [])) (i + 1) after-it
     turns-more {a} {after-it} h e = record {
       count = simp length-append (omega (arith, t .count));
       within = omega arith;
       rest = one-more h ∙ rw e (onto-onto xs a (read s (times (k - (i + 1)) one) after-it));
     }
 
-    pub turns-fault : {f p : ℕ} → i < k → read s one next ≡ fault f p → read s (times k one) first ≡ fault f p
+    turns-fault : {f p : ℕ} → i < k → read s one next ≡ fault f p → read s (times k one) first ≡ fault f p
     turns-fault h e = one-more h ∙ rw e
 
-    pub turns-all : k ≤ i → read s (times k one) first ≡ item xs next
+    turns-all : k ≤ i → read s (times k one) first ≡ item xs next
     turns-all h =
         let e : k - i ≡ 0 = omega arith in
         t .rest ∙ ap (λ (j : ℕ). onto xs (read s (times j one) next)) e ∙ ap (onto xs) (times-none next)

@@ -1,6 +1,6 @@
 -- `sheet::packed::set_from` meets its contract. Assumes nothing.
-use Rattle.sheet.specs.inner.Packed.{setFrom}
 use borrow.Author.Needs.{needs}
+use Rattle.sheet.specs.inner.Packed.{setFrom}
 use Rattle.sheet.proofs.packed.set_from.Statement.{statement}
 use Rattle.sheet.proofs.packed.set_from.Tie as tie
 

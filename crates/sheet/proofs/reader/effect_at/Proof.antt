@@ -1,10 +1,10 @@
 -- `sheet::reader::effect_at` meets its contract. Assumes nothing.
 use borrow.Author.Needs.{needs}
+use mathlib.Core.Path.{refl}
 use Rattle.sheet.specs.inner.Marks.{same}
 use Rattle.sheet.specs.Form.{read}
 use Rattle.sheet.specs.Format.{effect}
 use Rattle.sheet.proofs.laws.reader.ReadMarks.{gave-stop, gave-on, gave-item}
-use mathlib.Core.Path.{refl}
 use Rattle.sheet.proofs.reader.effect_at.Statement.{statement}
 use Rattle.sheet.proofs.reader.effect_at.Tie as tie
 

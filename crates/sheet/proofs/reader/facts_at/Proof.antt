@@ -19,6 +19,7 @@ use Rattle.sheet.proofs.reader.facts_at.Statement.{statement}
 use Rattle.sheet.proofs.reader.facts_at.Tie as tie
 
 -- ---- the states on the way: each section read, and what is left after it
+-- `after-X` is the earlier state of that name
 module _ (c : tie.After-mark) where
   abbrev start : tie.Start
   start = c .before .before .before .before .before

@@ -18,6 +18,7 @@ use Rattle.sheet.proofs.reader.sheet_in.Statement.{statement}
 use Rattle.sheet.proofs.reader.sheet_in.Tie as tie
 
 -- ---- the states on the way: each section read, and what is left after it
+-- `after-X` is the earlier state of that name; `by-X` and `X-state` that in which X was read
 module _ (c : tie.After-facts-at) where
   abbrev start : tie.Start
   start = c .before .before .before .before
@@ -113,13 +114,13 @@ module _ (c : tie.After-mark-plan) where
   abbrev after-plan-at : tie.After-plan-at
   after-plan-at = c .before .before
 
-  abbrev goal-laid : tie.After-sets-at
-  goal-laid = by-goal after-plan-at
+  abbrev goal-state : tie.After-sets-at
+  goal-state = by-goal after-plan-at
 
-  all-read : WholeRead (bytes (by-facts goal-laid)) (facts (by-facts goal-laid)) (actions (by-moves goal-laid)) (clauses goal-laid)
+  all-read : WholeRead (bytes (by-facts goal-state)) (facts (by-facts goal-state)) (actions (by-moves goal-state)) (clauses goal-state)
       (after-plan-at .plan-at .result .value) (c .mark-plan .given .0 .0)
   all-read =
-      whole-read _ (actions (by-moves goal-laid)) (clauses goal-laid) (plan-left (after-mark-goal after-plan-at)) (plan-read after-plan-at)
+      whole-read _ (actions (by-moves goal-state)) (clauses goal-state) (plan-left (after-mark-goal after-plan-at)) (plan-read after-plan-at)
       (c .mark-plan .given .1)
 
 -- ---- the answers
@@ -187,7 +188,7 @@ unfolding judgementIn statementIn
 returns-6 c =
     let after-if1 = c .before .before in
     let after-mark-plan = after-if1 .before .before in
-    let z = goal-laid after-mark-plan in
+    let z = goal-state after-mark-plan in
     let numbers = after-plan-at after-mark-plan .plan-at .result .value in (
       sym (sheet-whole (all-read after-mark-plan) (after-if1 .if1 .left)
           ∙ ap (λ (p : Problem). accepted (record { problem = p; plan = planIn numbers }))
