@@ -36,8 +36,9 @@ module _ {A B : Type 0} {s : List ℕ} {whole : Form A} {at : ℕ} (x : Form B) 
     section-fault : {k p : ℕ} → m ≡ Fault k p → read s whole 0 ≡ fault k p
     section-fault q = t .so ∙ read-fault s x f at (got-fault shape _ m v g q)
 
-    pub section-stops : {l : Mark} {w : A} {k p : ℕ} → m ≡ Fault k p → l ≡ m → ReadsAs same (read s whole 0) l w
-    section-stops q e = gave-fault same _ (section-fault q) (e ∙ q)
+    -- with what else is known of the value given
+    pub section-stops : {N : Type 0} {l : Mark} {w : A} {k p : ℕ} → m ≡ Fault k p → (l ≡ m) × N → ReadsAs same (read s whole 0) l w × N
+    section-stops q e = (gave-fault same _ (section-fault q) (e .0 ∙ q), e .1)
 
 -- ---- sections 1 to 4
 abbrev pub fromOneofs : ℕ → Literals → List (List Literals) → Form Facts

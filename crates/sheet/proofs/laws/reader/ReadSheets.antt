@@ -16,7 +16,7 @@ use Rattle.sheet.specs.declared.reader.Mark.the-variants.{At, Fault}
 use Rattle.sheet.specs.Lists.{All}
 use Rattle.sheet.specs.Problem.{Facts, Problem, problemOf, Statement}
 use Rattle.sheet.specs.declared.reader.Facts as read
-use Rattle.sheet.specs.Format.{accepted, refused, sheetOf}
+use Rattle.sheet.specs.Format.{Judgement, accepted, refused, sheetOf}
 use Rattle.sheet.specs.inner.Decoded.{planOf, planIn, problemIn, statementIn, judgedBy, judgementIn, Filled}
 use Rattle.sheet.specs.inner.Packed.{part, orsIn, oneofsIn, movesIn, setsIn, clausesAt, actionFrom, actionsAt}
 use Rattle.sheet.specs.inner.Marks.{refusedBy, factsIn}
@@ -46,10 +46,15 @@ module _ (d : Decoded) (packed : List ℕ) where
   unfolding judgementIn
   refused-with k p a = rw a
 
-  pub refused-by : (m : Mark) → d .answer ≡ answerOf (refusedBy m) → judgementIn d packed ≡ refusedBy m
+  refused-by : (m : Mark) → d .answer ≡ answerOf (refusedBy m) → judgementIn d packed ≡ refusedBy m
   unfolding refusedBy answerOf
   refused-by (Fault k p) a = refused-with k p a
   refused-by (At p) a = refused-with 0 p a
+
+  -- by the fault of a mark, with what else is known
+  pub refused-so : {N : Type 0} {j : Judgement} (m : Mark) → (d .answer ≡ answerOf (refusedBy m)) × N → j ≡ refusedBy m
+      → (judgementIn d packed ≡ j) × N
+  refused-so m a e = (refused-by m (a .0) ∙ sym e, a .1)
 
   -- ---- what a sheet that was read says
   module _ (s : List ℕ) (e : judgementIn d packed ≡ sheetOf s) where

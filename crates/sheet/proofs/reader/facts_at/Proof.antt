@@ -71,22 +71,18 @@ module _ (c : tie.After-mark-ors) where
 
 -- ---- the answers
 returns : tie.Need-returns
-returns c = (
-  section-stops _ _ (facts-begin _) same (c .before .before .before .count-at .ensures) (c .before .enum-told .given .1)
-      (c .no-facts .ensures .0),
-  c .no-facts .ensures .1,
-)
+returns c =
+    section-stops _ _ (facts-begin _) same (c .before .before .before .count-at .ensures) (c .before .enum-told .given .1)
+    (c .no-facts .ensures)
 
 literals-at-requires : tie.Need-literals-at-requires
 literals-at-requires c κs = n-most (c .before)
 
 returns-2 : tie.Need-returns-2
 returns-2 c =
-    let z = c .before .before .before in (
-      section-stops _ _ (known-left (z .before .before)) same (z .literals-at .ensures)
-          (c .before .enum-told2 .given .1) (c .no-facts2 .ensures .0),
-      c .no-facts2 .ensures .1,
-    )
+    let z = c .before .before .before in
+    section-stops _ _ (known-left (z .before .before)) same (z .literals-at .ensures) (c .before .enum-told2 .given .1)
+    (c .no-facts2 .ensures)
 
 clauses-at-requires : tie.Need-clauses-at-requires
 clauses-at-requires c κs =
@@ -95,11 +91,8 @@ clauses-at-requires c κs =
 
 returns-3 : tie.Need-returns-3
 returns-3 c =
-    let z = c .before .before .before .before .before in (
-      section-stops _ _ (ors-left (after-mark-known z)) same (z .clauses-at .ensures)
-          (c .before .enum-told3 .given .1) (c .no-facts3 .ensures .0),
-      c .no-facts3 .ensures .1,
-    )
+    let z = c .before .before .before .before .before in
+    section-stops _ _ (ors-left (after-mark-known z)) same (z .clauses-at .ensures) (c .before .enum-told3 .given .1) (c .no-facts3 .ensures)
 
 clauses-at-requires-2 : tie.Need-clauses-at-requires-2
 clauses-at-requires-2 c κs =
@@ -108,11 +101,9 @@ clauses-at-requires-2 c κs =
 
 returns-4 : tie.Need-returns-4
 returns-4 c =
-    let z = c .before .before .before .before .before in (
-      section-stops _ _ (oneofs-left (z .before .before .before)) same (z .clauses-at2 .ensures)
-          (c .before .enum-told4 .given .1) (c .no-facts4 .ensures .0),
-      c .no-facts4 .ensures .1,
-    )
+    let z = c .before .before .before .before .before in
+    section-stops _ _ (oneofs-left (z .before .before .before)) same (z .clauses-at2 .ensures) (c .before .enum-told4 .given .1)
+    (c .no-facts4 .ensures)
 
 returns-5 : tie.Need-returns-5
 returns-5 c =

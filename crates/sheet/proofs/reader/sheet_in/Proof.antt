@@ -12,7 +12,7 @@ use Rattle.sheet.specs.Format.{goal, plan, sheet, accepted}
 use Rattle.sheet.specs.inner.Decoded.{planOf, planIn, statementIn, judgementIn}
 use Rattle.sheet.specs.inner.Marks.{ReadsAs, same, factsIn}
 use Rattle.sheet.proofs.laws.reader.PackedParts.{items-length, anew}
-use Rattle.sheet.proofs.laws.reader.ReadSheets.{refused-with, refused-by, goal-kept, problem-laid}
+use Rattle.sheet.proofs.laws.reader.ReadSheets.{refused-with, refused-so, goal-kept, problem-laid}
 use Rattle.sheet.proofs.laws.reader.ReadSections.{Left, section-read, sheet-begin, fromMoves, fromGoal, fromPlan, sheet-refused, moves-most, WholeRead, whole-read, sheet-longer, sheet-whole}
 use Rattle.sheet.proofs.reader.sheet_in.Statement.{statement}
 use Rattle.sheet.proofs.reader.sheet_in.Tie as tie
@@ -125,22 +125,16 @@ module _ (c : tie.After-mark-plan) where
 
 -- ---- the answers
 returns : tie.Need-returns
-returns c = (
-  refused-by _ _ _ (c .refuse-at .ensures .0)
-      ∙ sym (sheet-refused _ _ (sheet-begin _) same (c .before .before .before .before .before .facts-at .ensures .0)
-      (c .before .enum-told .given .1)),
-  c .refuse-at .ensures .1,
-)
+returns c =
+    refused-so _ _ _ (c .refuse-at .ensures)
+    (sheet-refused _ _ (sheet-begin _) same (c .before .before .before .before .before .facts-at .ensures .0) (c .before .enum-told .given .1))
 
 returns-2 : tie.Need-returns-2
 unfolding factsIn
 returns-2 c =
-    let z = c .before .before .before .before .before in (
-      refused-by _ _ _ (c .refuse-at2 .ensures .0)
-          ∙ sym (sheet-refused _ _ (moves-left (after-mark z)) same (z .moves-at .ensures)
-          (c .before .enum-told2 .given .1)),
-      c .refuse-at2 .ensures .1,
-    )
+    let z = c .before .before .before .before .before in
+    refused-so _ _ _ (c .refuse-at2 .ensures)
+    (sheet-refused _ _ (moves-left (after-mark z)) same (z .moves-at .ensures) (c .before .enum-told2 .given .1))
 
 same-length-3 : tie.Need-same-length-3
 same-length-3 c = same-after (c .before .before .before .before .before)
@@ -148,12 +142,9 @@ same-length-3 c = same-after (c .before .before .before .before .before)
 returns-3 : tie.Need-returns-3
 unfolding factsIn goal
 returns-3 c =
-    let z = c .before .before .before .before .before in (
-      refused-by _ _ _ (c .refuse-at3 .ensures .0)
-          ∙ sym (sheet-refused _ _ (goal-left (after-mark-moves z)) same (z .sets-at .ensures)
-          (c .before .enum-told3 .given .1)),
-      c .refuse-at3 .ensures .1,
-    )
+    let z = c .before .before .before .before .before in
+    refused-so _ _ _ (c .refuse-at3 .ensures)
+    (sheet-refused _ _ (goal-left (after-mark-moves z)) same (z .sets-at .ensures) (c .before .enum-told3 .given .1))
 
 plan-at-requires : tie.Need-plan-at-requires
 plan-at-requires c κs =
@@ -165,11 +156,9 @@ same-length-4 c = same-after (by-goal (c .before .before .before))
 
 returns-4 : tie.Need-returns-4
 returns-4 c =
-    let z = c .before .before .before in (
-      refused-by _ _ _ (c .refuse-at4 .ensures .0)
-          ∙ sym (sheet-refused _ _ (plan-left (after-mark-goal z)) planOf (plan-read z) (c .before .enum-told4 .given .1)),
-      c .refuse-at4 .ensures .1,
-    )
+    let z = c .before .before .before in
+    refused-so _ _ _ (c .refuse-at4 .ensures)
+    (sheet-refused _ _ (plan-left (after-mark-goal z)) planOf (plan-read z) (c .before .enum-told4 .given .1))
 
 same-length-5 : tie.Need-same-length-5
 same-length-5 c = same-after (by-goal (c .before .before .before .before .before))
