@@ -22,7 +22,8 @@ unfolding clauses listOf
 returns-2 c =
     let after-clauses-from = c .before .before in
     let after-mark = after-clauses-from .before .before .before in
-    gave-on _ _ _ _ same (after-mark .before .before .count-at .ensures) (after-mark .mark .given .1) (after-clauses-from .clauses-from .ensures)
+    gave-on _ _ _ _ same (after-mark .before .before .count-at .ensures) (after-mark .mark .given .1)
+    (after-clauses-from .clauses-from .ensures)
 
 pub clauses-at-spec : {M : Type 1} → statement M
 clauses-at-spec =

@@ -92,7 +92,8 @@ clauses-at-requires c κs =
 returns-3 : tie.Need-returns-3
 returns-3 c =
     let z = c .before .before .before .before .before in
-    section-stops _ _ (ors-left (after-mark-known z)) same (z .clauses-at .ensures) (c .before .enum-told3 .given .1) (c .no-facts3 .ensures)
+    section-stops _ _ (ors-left (after-mark-known z)) same (z .clauses-at .ensures) (c .before .enum-told3 .given .1)
+    (c .no-facts3 .ensures)
 
 clauses-at-requires-2 : tie.Need-clauses-at-requires-2
 clauses-at-requires-2 c κs =

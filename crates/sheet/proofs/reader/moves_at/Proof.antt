@@ -22,7 +22,8 @@ unfolding actions listOf
 returns-2 c =
     let after-moves-from = c .before .before in
     let after-mark = after-moves-from .before .before .before in
-    gave-on _ _ _ _ same (after-mark .before .before .count-at .ensures) (after-mark .mark .given .1) (after-moves-from .moves-from .ensures)
+    gave-on _ _ _ _ same (after-mark .before .before .count-at .ensures) (after-mark .mark .given .1)
+    (after-moves-from .moves-from .ensures)
 
 pub moves-at-spec : {M : Type 1} → statement M
 moves-at-spec =

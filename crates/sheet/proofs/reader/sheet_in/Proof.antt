@@ -120,14 +120,15 @@ module _ (c : tie.After-mark-plan) where
   all-read : WholeRead (bytes (by-facts goal-state)) (facts (by-facts goal-state)) (actions (by-moves goal-state)) (clauses goal-state)
       (after-plan-at .plan-at .result .value) (c .mark-plan .given .0 .0)
   all-read =
-      whole-read _ (actions (by-moves goal-state)) (clauses goal-state) (plan-left (after-mark-goal after-plan-at)) (plan-read after-plan-at)
-      (c .mark-plan .given .1)
+      whole-read _ (actions (by-moves goal-state)) (clauses goal-state) (plan-left (after-mark-goal after-plan-at))
+      (plan-read after-plan-at) (c .mark-plan .given .1)
 
 -- ---- the answers
 returns : tie.Need-returns
 returns c =
     refused-so _ _ _ (c .refuse-at .ensures)
-    (sheet-refused _ _ (sheet-begin _) same (c .before .before .before .before .before .facts-at .ensures .0) (c .before .enum-told .given .1))
+    (sheet-refused _ _ (sheet-begin _) same (c .before .before .before .before .before .facts-at .ensures .0)
+    (c .before .enum-told .given .1))
 
 returns-2 : tie.Need-returns-2
 unfolding factsIn
