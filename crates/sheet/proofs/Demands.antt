@@ -1,6 +1,6 @@
 -- What is proved of the sheet layer, over the definition that the contract of `judge` cites (`judgeOf`, by `sheetOf`), for every
 -- list of bytes and with no hypothesis. Read the definitions in specs/ beside them. Each number of the call on its own condition is passed
--- on from `Faults`, sheets alike in sections 1 to 6 from `Alike`. Assumes nothing.
+-- on from `FaultNumbers`, sheets alike in sections 1 to 6 from `AlikeSheets`. Assumes nothing.
 use mathlib.Core.Path.{_≡_, ap}
 use mathlib.Core.Logic.{_↔_}
 use mathlib.Core.List.{List, _∷_, _++_}
@@ -41,7 +41,7 @@ encoding-unique = E.encode-unique
 pub judge-longest : (s : List ℕ) → judgeOf s ≡ Accepted → length s ≤ 3711
 judge-longest s e = let r = F.judge-says s .0 e in J.longest s (r .0) (r .1)
 
--- TH1 (b), the first fault by the roles of bytes, has its own file: `judge-refused`, `judge-1` to `judge-7` in Faults
+-- TH1 (b), the first fault by the roles of bytes, has its own file: `judge-refused`, `judge-1` to `judge-7` in FaultNumbers
 
 -- ---- TH1 (c): the first fault is local
 pub local : (s : List ℕ) (k p : ℕ) → sheetOf s ≡ refused k p → (k ≡ 1 → ⊥) → (t : List ℕ) → take (p + 1) t ≡ take (p + 1) s

@@ -4,11 +4,8 @@ use Rattle.sheet.proofs.laws.reader.ReadSheets.{answer-says}
 use Rattle.sheet.proofs.judge.Statement.{statement}
 use Rattle.sheet.proofs.judge.Tie as tie
 
-decode-requires : tie.Need-decode-requires
-decode-requires c κs = search needs
-
 returns : tie.Need-returns
 returns c = answer-says _ _ _ (c .decode .ensures .0)
 
 pub judge-spec : {M : Type 1} → statement M
-judge-spec = tie.close (tie.spec decode-requires returns)
+judge-spec = tie.close (tie.spec (λ c κs. search needs) returns)

@@ -1,4 +1,4 @@
--- Tests as propositions.
+-- Tests as propositions: what a truth value says, by `T` and by equations. For proofs about tests, here and in table, plan and unit.
 -- Assumes nothing.
 use mathlib.Core.Path.{_≡_, refl, sym, ap, subst}
 use mathlib.Core.Bool.{Bool, true, false, not, _&&_, _||_, cond}

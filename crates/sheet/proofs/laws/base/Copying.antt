@@ -1,4 +1,5 @@
--- Numbers copied into others, one after the other. Assumes nothing.
+-- Numbers copied into others, one after the other. For the copying loops of table (`copy_masks`) and unit (`copy_bytes`, `table_in`).
+-- Assumes nothing.
 use mathlib.Core.Path.{_≡_, refl, sym, ap, ap₂, _∙_}
 use mathlib.Core.List.{List, _++_, append-nil}
 use Prim.Native.Nat.{ℕ, _+_, _≤_, _<_, zero-le}

@@ -1,5 +1,4 @@
--- Statements over the members of a list.
--- Assumes nothing.
+-- Statements over the members of a list (`All`, `Any`), and tests of them. For the laws of lists in table and plan. Assumes nothing.
 use mathlib.Core.Path.{_≡_, refl, ap, _∙_}
 use mathlib.Core.Bool.{Bool, true, false, not, _||_}
 use mathlib.Core.List.{List, [], _∷_, _++_, map}

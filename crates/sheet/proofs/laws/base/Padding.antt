@@ -1,10 +1,11 @@
--- Lists in more slots than they have members, filled up with one value (`pad`). Assumes nothing.
-use mathlib.Core.Path.{_≡_, refl, sym, ap, subst, _∙_}
+-- Lists in more slots than they have members, filled up with one value (`pad`). For `plan_from` (ReadLoops), and slots in table and plan.
+-- Assumes nothing.
+use mathlib.Core.Path.{_≡_, refl, sym, ap}
 use mathlib.Core.List.{List, [], _∷_, _++_, map}
-use Prim.Native.Nat.{ℕ, zero, suc, _+_, _≤_, _<_}
+use Prim.Native.Nat.{ℕ, zero, suc, _≤_, _<_}
 use native.Mathlib.Omega.{arith}
 use native.Mathlib.Nat.{le-of-suc-le-suc, not-suc-le-zero, suc-ne-zero, suc-inj}
-use lib.ListN.{length, getD, set, take, drop, replicate, length-map, length-append}
+use lib.ListN.{length, getD, set, take, drop, replicate}
 use Rattle.sheet.specs.Lists.{pad}
 
 -- the first slots of a padded list are the list

@@ -1,4 +1,4 @@
--- Two sheets alike in sections 1 to 6 are two that say the same problem. Assumes nothing.
+-- Two sheets alike in sections 1 to 6 are two that say the same problem. For `alike` in proofs/Demands. Assumes nothing.
 use mathlib.Core.Path.{_≡_, refl, sym, ap, _∙_}
 use mathlib.Core.List.{List, [], _∷_, _++_, append-assoc, append-cancel-right}
 use mathlib.Core.Logic.{_↔_}

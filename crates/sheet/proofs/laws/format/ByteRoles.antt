@@ -1,4 +1,5 @@
--- The roles of a sheet's bytes: each is a count, a literal or a move number, and each gives only its own numbers. Assumes nothing.
+-- The roles of a sheet's bytes: each is a count, a literal or a move number, and each gives only its own numbers.
+-- For TH1 (b), by Judgements and FaultNumbers. Assumes nothing.
 use mathlib.Core.Path.{_≡_, refl}
 use mathlib.Core.Bool.{Bool, true, false, cond}
 use mathlib.Core.List.{List, [], _∷_}
@@ -9,7 +10,7 @@ use lib.Dec.{ltb, leb, eqb}
 use lib.ListN.{length}
 use Rattle.sheet.specs.Form.{Form, done, byte, _>>=_, judged, times, due}
 use Rattle.sheet.specs.Format.{countFault, literalFault, numberFault, listOf, ascending, literals, clause, effect, action, clauses, actions, goal, plan, facts, sheet}
-use Rattle.sheet.proofs.laws.format.Forms.{passed-some}
+use Rattle.sheet.proofs.laws.format.DueForms.{passed-some}
 
 -- a rule of the format gives k for some byte: 0, or the number of a fault, which tells the role
 pub data TellsRole (rule : ℕ → ℕ) (k : ℕ) : Type 0 where

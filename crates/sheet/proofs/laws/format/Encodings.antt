@@ -1,15 +1,12 @@
 -- The bytes that the format admits are those that `encode` writes, each for the statement that it writes them of.
--- Assumes nothing.
+-- For TH1 (a), `accepted-encoding` and `encoding-unique` in proofs/Demands. Assumes nothing.
 use mathlib.Core.Path.{_≡_, refl, sym, ap, _∙_, subst}
 use mathlib.Core.Logic.{_↔_}
-use mathlib.Core.Bool.{Bool, true, false, cond}
 use mathlib.Core.List.{List, [], _∷_, _++_, append-assoc}
 use mathlib.Core.Option.{none, some}
 use Prim.Native.Nat.{ℕ, zero, suc, _≤_, _<_}
 use native.Mathlib.Omega.{arith}
-use lib.Dec.{leb}
 use lib.ListN.{length}
-use borrow.Author.Tests.{le-ltb, lt-leb, leb-false}
 use Rattle.sheet.specs.declared.Literals.{Literals}
 use Rattle.sheet.specs.declared.Effect.{Effect}
 use Rattle.sheet.specs.Literals.{members}
@@ -19,8 +16,8 @@ use Rattle.sheet.specs.Format.{countFault, numberFault, count, listOf, a
 use Rattle.sheet.specs.Problem.{Action, Facts, Problem, Statement, problemOf}
 use Rattle.sheet.specs.Encoding.{ProperList, Counted, ProperClause, ProperEffect, ProperAction, ProperStatement, setBytes, listBytes, effectBytes, actionBytes, clausesBytes, encode}
 use Rattle.sheet.proofs.laws.literals.LiteralSets.{proper-of, proper-consistent, proper-below}
-use Rattle.sheet.proofs.laws.format.Forms.{due-then, due-done-split, due-judged, count-range}
-use Rattle.sheet.proofs.laws.format.FormRuns.{run-byte, run-done, run-map}
+use Rattle.sheet.proofs.laws.format.DueForms.{due-then, due-done-split, due-judged, run-byte, run-done, run-map}
+use Rattle.sheet.proofs.laws.format.ByteRules.{count-0, number-0}
 use Rattle.sheet.proofs.laws.literals.AscendingBytes.{ascending-iff, listed-members, listed-consistent, listed-below, members-listed, set-members}
 
 -- ---- codecs
@@ -77,17 +74,10 @@ codec-judged rule P iff = record {
 }
 
 codec-count : (low high : ℕ) → Codec (count low high) (λ b. b ∷ []) (λ b. (low ≤ b) × (b ≤ high))
-unfolding countFault
-codec-count low high = codec-judged (countFault low high) _
-    (λ b. (count-range low high b, λ h. rw (le-ltb b low (h .0), le-ltb high b (h .1))))
+codec-count low high = codec-judged (countFault low high) _ (count-0 low high)
 
 codec-number : (m : ℕ) → Codec (judged (numberFault m)) (λ b. b ∷ []) (λ b. b < m)
-unfolding numberFault
-codec-number m = codec-judged (numberFault m) _ (λ b. (λ e. go b (leb m b) refl e, λ h. rw (lt-leb m b h)))
-  where
-    go : (b : ℕ) (t : Bool) → leb m b ≡ t → _≡_ {A = ℕ} (cond t 7 0) 0 → b < m
-    go b true q e = absurd (omega arith)
-    go b false q e = leb-false m b q
+codec-number m = codec-judged (numberFault m) _ (number-0 m)
 
 -- ---- lists
 

@@ -1,8 +1,9 @@
--- The call `judge`, number by number: each of 1 to 7 exactly on its own condition. Assumes nothing.
+-- The call `judge`, number by number: each of 1 to 7 exactly on its own condition.
+-- For TH1 (b), `judge-refused`, `judge-numbers` and `judge-1` to `judge-7` in proofs/Demands. Assumes nothing.
 use mathlib.Core.Path.{_≡_, refl, sym, ap, subst, _∙_}
 use mathlib.Core.List.{List, [], _∷_, _++_}
 use mathlib.Core.Logic.{_⊎_, _↔_}
-use mathlib.Core.Option.{Option, some}
+use mathlib.Core.Option.{Option, none, some}
 use Prim.Native.Nat.{ℕ, _*_, _/_, _≤_, _<_}
 use native.Mathlib.Omega.{arith}
 use lib.ListN.{length, take, drop, length-drop, take-append-drop}
@@ -14,7 +15,7 @@ use Rattle.sheet.specs.Format.{countFault, literalFault, numberFault, sh
 use Rattle.sheet.specs.Calls.{answerOf, judgeOf}
 use Rattle.sheet.specs.Faults.{FirstFault, ByteDue}
 use Rattle.sheet.proofs.laws.format.ByteRoles.{TellsRole, fine, of-count, of-literal, of-number, not-one, not-six, at-most-seven, Roles, roles-due, roles-sheet}
-use Rattle.sheet.proofs.laws.format.ByteRules.{count-2, literal-3, literal-4, literal-5, number-7}
+use Rattle.sheet.proofs.laws.format.ByteRules.{count-2, first-most, literal-3, literal-4, literal-5, number-7}
 use Rattle.sheet.proofs.laws.format.Judgements as judging
 
 -- ---- the call gives what `sheetOf` says
@@ -223,9 +224,13 @@ module _ (s : List ℕ) where
       go (of-literal n last f l h) = (n, last, due-by k p r (literalFault n last) f)
       go (of-number m f z) = absurd (omega arith)
 
-  due-after : (p n b l : ℕ) (last : Option ℕ) → last ≡ some l → ByteDue s p (literalFault n last) b
-      → ByteDue s p (literalFault n (some l)) b
-  due-after p n b l last e d = subst (λ (o : Option ℕ). ByteDue s p (literalFault n o) b) e d
+  -- a literal after another is due where one of its own numbers is given
+  later-at : (k p : ℕ) → 4 ≤ k → k ≤ 5 → judgeOf s ≡ Refused k p → (n : ℕ) × (l : ℕ) × Due k p (literalFault n (some l))
+  later-at k p low high e = let r = literal-at k p (omega arith) high e in go (r .0) (r .1) (r .2)
+    where
+      go : (n : ℕ) (last : Option ℕ) → Due k p (literalFault n last) → (n : ℕ) × (l : ℕ) × Due k p (literalFault n (some l))
+      go n none d = absurd (omega (arith, first-most n (d .0), d .2))
+      go n (some l) d = (n, l, d)
 
   pub judge-3 : (p : ℕ) → (judgeOf s ≡ Refused 3 p)
       ↔ ((n : ℕ) × (last : Option ℕ) × (b : ℕ) × ByteDue s p (literalFault n last) b × (2 * n ≤ b))
@@ -239,22 +244,22 @@ module _ (s : List ℕ) where
       ↔ ((n : ℕ) × (l : ℕ) × (b : ℕ) × ByteDue s p (literalFault n (some l)) b × (b < 2 * n) × (b ≤ l))
   judge-4 p = (
     λ e.
-        let k = literal-at 4 p (omega arith) (omega arith) e in
+        let k = later-at 4 p (omega arith) (omega arith) e in
         let d = k .2 in
         let i = literal-4 (k .0) (k .1) (d .0) .0 (d .2) in
-        (k .0, i .0, d .0, due-after p (k .0) (d .0) (i .0) (k .1) (i .1) (d .1), i .2, i .3),
+        (k .0, k .1, d .0, d .1, i .0, i .1),
     λ h. breaks 4 p (literalFault (h .0) (some (h .1))) (h .2) (λ z. omega arith) (h .3)
-        (literal-4 (h .0) (some (h .1)) (h .2) .1 (h .1, refl, h .4, h .5)),
+        (literal-4 (h .0) (h .1) (h .2) .1 (h .4, h .5)),
   )
 
   pub judge-5 : (p : ℕ) → (judgeOf s ≡ Refused 5 p)
       ↔ ((n : ℕ) × (l : ℕ) × (b : ℕ) × ByteDue s p (literalFault n (some l)) b × (b < 2 * n) × (l < b) × (b / 2 ≡ l / 2))
   judge-5 p = (
     λ e.
-        let k = literal-at 5 p (omega arith) (omega arith) e in
+        let k = later-at 5 p (omega arith) (omega arith) e in
         let d = k .2 in
         let i = literal-5 (k .0) (k .1) (d .0) .0 (d .2) in
-        (k .0, i .0, d .0, due-after p (k .0) (d .0) (i .0) (k .1) (i .1) (d .1), i .2, i .3, i .4),
+        (k .0, k .1, d .0, d .1, i .0, i .1, i .2),
     λ h. breaks 5 p (literalFault (h .0) (some (h .1))) (h .2) (λ z. omega arith) (h .3)
-        (literal-5 (h .0) (some (h .1)) (h .2) .1 (h .1, refl, h .4, h .5, h .6)),
+        (literal-5 (h .0) (h .1) (h .2) .1 (h .4, h .5, h .6)),
   )

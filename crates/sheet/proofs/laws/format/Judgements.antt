@@ -1,5 +1,5 @@
--- What a sheet's judgement says, for every list of bytes: which fault is named, and that no later byte changes it; that nothing
--- accepted can be cut or continued; and how many bytes decide.
+-- Judgements: which fault is named, that no later byte changes it, that nothing accepted is cut or continued, how many bytes decide.
+-- For TH1 (a) and (c) to (e): `judge-longest`, `local`, `short-open`, `prefix`, `longer`, `first-bytes` in proofs/Demands.
 -- Assumes nothing.
 use mathlib.Core.Path.{_≡_, refl, sym, ap, _∙_}
 use mathlib.Core.List.{List, [], _∷_, _++_, append-nil}
@@ -16,7 +16,9 @@ use Rattle.sheet.specs.Problem.{Statement}
 use Rattle.sheet.specs.Form.{Form, done, byte, read, due, faultOf}
 use Rattle.sheet.specs.Format.{sheet, accepted, refused, atEnd, sheetOf, clause, effect, action, clauses, actions, goal, plan, facts}
 use Rattle.sheet.specs.Faults.{FirstFault}
-use Rattle.sheet.proofs.laws.format.Forms.{due-append, due-prefix, due-fine, Stop, stop, read-due, read-stop, Bounded, bounded-done, bounded-judged, bounded-then, bounded-list, bounded-literals}
+use Rattle.sheet.proofs.laws.format.DueForms.{due-append, due-prefix, due-fine, Stop, stop}
+use Rattle.sheet.proofs.laws.format.FormReads.{read-due, read-stop}
+use Rattle.sheet.proofs.laws.format.FormLengths.{Bounded, bounded-done, bounded-judged, bounded-then, bounded-list, bounded-literals}
 use Rattle.sheet.proofs.laws.format.ByteRoles.{not-one, Roles, roles-due, roles-sheet}
 
 -- ---- the judgement by what is due

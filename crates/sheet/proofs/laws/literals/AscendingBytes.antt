@@ -1,15 +1,15 @@
 -- Ascending lists of literal bytes, as a sheet has them, are the sets of literals without a complement pair.
--- Assumes nothing.
+-- For the bytes of a statement (Encodings). Assumes nothing.
 use mathlib.Core.Path.{_≡_, refl, sym, ap, ap₂, _∙_, subst}
 use mathlib.Core.Logic.{_↔_, ⊎-elim}
-use mathlib.Core.Bool.{Bool, true, false, not, cond, _||_, true≢false, false≢true}
+use mathlib.Core.Bool.{Bool, true, false, not, _||_, true≢false, false≢true}
 use mathlib.Core.List.{List, [], _∷_, List·Memᴰ, List·Memᴰ·head, List·Memᴰ·tail, List·Memᴰ·not-nil, List·Memᴰ·cases-cons}
 use mathlib.Core.Option.{Option, none, some}
 use Prim.Native.Nat.{ℕ, zero, suc, _+_, _*_, _/_, _%_, _≤_, _<_}
 use native.Mathlib.Omega.{arith}
-use lib.Dec.{eqb, ltb, leb}
+use lib.Dec.{eqb, ltb}
 use lib.ListN.{length}
-use borrow.Author.Tests.{eq-eqb, ne-eqb, eqb-true, eqb-false, lt-leb, leb-false, ltb-true, ltb-false}
+use borrow.Author.Tests.{eq-eqb, ne-eqb, eqb-true, ltb-true, ltb-false}
 use Rattle.sheet.specs.declared.Literals.{Literals}
 use Rattle.sheet.specs.Literals.{mem, noLiteral, single, sign, literal, contains, consistent, below, members}
 use Rattle.sheet.specs.inner.Masks.{byte, next}
@@ -18,8 +18,9 @@ use Rattle.sheet.specs.Format.{literalFault, ascending, setOf}
 use Rattle.sheet.proofs.laws.literals.MaskBits.{has-none}
 use Rattle.sheet.proofs.laws.base.Bools.{iff-eq}
 use Rattle.sheet.proofs.laws.literals.LiteralSets.{mem-join, set-ext, mem-self, single-is, or-cases, or-left, or-right, both, consistent-of, of-consistent, consistent-join, consistent-single, clash-single, of-below, below-join, below-single}
-use Rattle.sheet.proofs.laws.literals.LiteralBytes.{byte-place, byte-of, contains-byte, contains-lt, down, next-found, next-ge, next-least, members-here, members-step, members-end, members-cons, members-nil, of-member, member-of}
-use Rattle.sheet.proofs.laws.format.FormRuns.{run-byte, run-done, run-map}
+use Rattle.sheet.proofs.laws.literals.LiteralBytes.{next-is, byte-place, byte-of, contains-byte, contains-lt, down, next-found, next-ge, members-here, members-step, members-end, members-cons, members-nil, of-member, member-of}
+use Rattle.sheet.proofs.laws.format.ByteRules.{beyond, least, literal-0}
+use Rattle.sheet.proofs.laws.format.DueForms.{run-byte, run-done, run-map}
 
 -- ---- the rule of a literal
 
@@ -28,47 +29,16 @@ abbrev pub Listed : ℕ → Option ℕ → List ℕ → Type 0
 Listed n last [] = Unit {0}
 Listed n last (b ∷ bs) = (literalFault n last b ≡ 0) × Listed n (some b) bs
 
--- the first byte of the proposition after that of l
-abbrev pub beyond : ℕ → ℕ
-beyond l = 2 * (l / 2 + 1)
-
--- the least byte that may follow `last`
-abbrev pub floor : Option ℕ → ℕ
-floor none = 0
-floor (some l) = beyond l
-
--- no fault: from the floor on, and below 2n
-pub fault-none : (n : ℕ) (last : Option ℕ) (b : ℕ) → (literalFault n last b ≡ 0) ↔ ((floor last ≤ b) × (b < 2 * n))
-unfolding literalFault
-fault-none n none b = (λ e. (omega arith, first (leb (2 * n) b) refl e), λ h. rw (lt-leb (2 * n) b (h .1)))
-  where
-    first : (t : Bool) → leb (2 * n) b ≡ t → _≡_ {A = ℕ} (cond t 3 0) 0 → b < 2 * n
-    first true q e = absurd (omega arith)
-    first false q e = leb-false _ _ q
-fault-none n (some l) b = (λ e. first (leb (2 * n) b) (leb b l) (eqb (b / 2) (l / 2)) refl refl refl e, back)
-  where
-    first : (t u v : Bool) → leb (2 * n) b ≡ t → leb b l ≡ u → eqb (b / 2) (l / 2) ≡ v → _≡_ {A = ℕ} (cond t 3 (cond u 4 (cond v 5 0))) 0
-        → (beyond l ≤ b) × (b < 2 * n)
-    first true u v p q r e = absurd (omega arith)
-    first false true v p q r e = absurd (omega arith)
-    first false false true p q r e = absurd (omega arith)
-    first false false false p q r e =
-        let i : b / 2 ≡ l / 2 → ⊥ = eqb-false (b / 2) (l / 2) r in
-        (omega (arith, leb-false b l q), leb-false (2 * n) b p)
-
-    back : (beyond l ≤ b) × (b < 2 * n) → _≡_ {A = ℕ} (cond (leb (2 * n) b) 3 (cond (leb b l) 4 (cond (eqb (b / 2) (l / 2)) 5 0))) 0
-    back h = rw (lt-leb (2 * n) b (h .1), lt-leb b l (omega arith), ne-eqb (b / 2) (l / 2) (λ (q : b / 2 ≡ l / 2). omega arith))
-
 -- each byte in order is at or above what the one before asks for, the first at or above l, and below 2n
 abbrev pub From : ℕ → ℕ → List ℕ → Type 0
 From n l [] = Unit {0}
 From n l (b ∷ bs) = (l ≤ b) × (b < 2 * n) × From n (beyond b) bs
 
 -- the two say the same
-pub listed-from : (n : ℕ) (last : Option ℕ) (bs : List ℕ) → Listed n last bs ↔ From n (floor last) bs
+pub listed-from : (n : ℕ) (last : Option ℕ) (bs : List ℕ) → Listed n last bs ↔ From n (least last) bs
 listed-from n last [] = (λ h. h, λ h. h)
 listed-from n last (b ∷ bs) =
-    let f : (literalFault n last b ≡ 0) ↔ ((floor last ≤ b) × (b < 2 * n)) = fault-none n last b in
+    let f : (literalFault n last b ≡ 0) ↔ ((least last ≤ b) × (b < 2 * n)) = literal-0 n last b in
     let r : Listed n (some b) bs ↔ From n (beyond b) bs = listed-from n (some b) bs in
     (λ h. (f .0 (h .0) .0, f .0 (h .0) .1, r .0 (h .1)), λ h. (f .1 (h .0, h .1), r .1 (h .2)))
 
@@ -149,16 +119,6 @@ from-consistent n l (b ∷ bs) h =
         ))
     go false q = q
 
--- the first literal from l on is the next one
-next-is : (a : Literals) (l b : ℕ) → l ≤ b → contains a b ≡ true → ((m : ℕ) → l ≤ m → contains a m ≡ true → b ≤ m) → b < 64 → next a l ≡ b
-next-is a l b h e first k = go (ltb b (next a l)) refl
-  where
-    go : (t : Bool) → ltb b (next a l) ≡ t → next a l ≡ b
-    go true q = absurd (true≢false (sym e ∙ next-least a l b h (ltb-true _ _ q)))
-    go false q =
-        let i : next a l ≤ b = ltb-false b (next a l) q in
-        omega (arith, first (next a l) (next-ge a l) (next-found a l (omega arith)))
-
 -- a set that has the literals of the list from l on lists them
 from-members : (n : ℕ) → n ≤ 32 → (l : ℕ) (bs : List ℕ) (a : Literals) → From n l bs
     → ((m : ℕ) → l ≤ m → contains a m ≡ contains (setOf bs) m) → members a l ≡ bs
@@ -174,10 +134,14 @@ from-members n k l (b ∷ bs) a h same =
     (from-members n k (b + 1) bs a (from-lower n (b + 1) (beyond b) bs (omega arith) (h .2))
     (λ m i. same m (omega arith) ∙ contains-cons b bs m ∙ rw (ne-eqb m b (λ (q : m ≡ b). omega arith))))
   where
+    none-before : (m : ℕ) → l ≤ m → m < b → (t : Bool) → contains a m ≡ t → contains a m ≡ false
+    none-before m i j true e = absurd (omega (arith, from-least n b (b ∷ bs) (omega arith, h .1, h .2) m (sym (same m i) ∙ e)))
+    none-before m i j false e = e
+
     at-b : next a l ≡ b
     at-b =
-        next-is a l b (h .0) (same b (h .0) ∙ contains-of (b ∷ bs) b (List·Memᴰ·head refl))
-        (λ m i e. from-least n b (b ∷ bs) (omega arith, h .1, h .2) m (sym (same m i) ∙ e)) (omega arith)
+        sym (next-is a l b (h .0) (omega arith) (λ q. same b (h .0) ∙ contains-of (b ∷ bs) b (List·Memᴰ·head refl))
+        (λ m i j. none-before m i j (contains a m) refl))
 
 -- ---- from a set to its list
 

@@ -1,5 +1,5 @@
--- Literal bytes: a byte is a sign and a proposition, and the bytes of a set are found in ascending order.
--- Assumes nothing.
+-- Literal bytes: a byte is a sign and a proposition, and the bytes of a set are found in ascending order (`next`, `members`).
+-- For `lowest` and `next` of src/masks.rt, and for the loops over literals in table. Assumes nothing.
 use mathlib.Core.Path.{_≡_, refl, sym, ap, ap₂, _∙_, subst}
 use mathlib.Core.Bool.{Bool, true, false, cond, true≢false}
 use mathlib.Core.List.{List, [], _∷_, List·Memᴰ, List·Memᴰ·head, List·Memᴰ·tail, List·Memᴰ·not-nil, List·Memᴰ·cases-cons}
@@ -147,6 +147,27 @@ next-least a l m =
     (λ (q : l < m). r (omega arith) (subst (λ (x : ℕ). m < x) (next-step a l h e) k))
     (eq-or-lt-of-le i))
     l
+
+next-most : (a : Literals) (l : ℕ) → l ≤ 64 → next a l ≤ 64
+next-most a =
+    scan a (λ (l : ℕ). l ≤ 64 → next a l ≤ 64) (λ l h k. omega (arith, next-end a l h)) (λ l h e k. omega (arith, next-here a l h e))
+    (λ l h e r k. omega (arith, next-step a l h e, r (omega arith)))
+
+-- the next literal is the only one that fits
+pub next-is : (a : Literals) (l m : ℕ) → l ≤ m → m ≤ 64 → (m < 64 → contains a m ≡ true) → ((k : ℕ) → l ≤ k → k < m → contains a k ≡ false)
+    → m ≡ next a l
+next-is a l m le most here none = go (ltb (next a l) m) refl (ltb m (next a l)) refl
+  where
+    go : (t : Bool) → ltb (next a l) m ≡ t → (u : Bool) → ltb m (next a l) ≡ u → m ≡ next a l
+    go true e u f =
+        let h : next a l < m = ltb-true (next a l) m e in
+        absurd (true≢false (sym (next-found a l (omega arith)) ∙ none (next a l) (next-ge a l) h))
+    go false e true f = absurd (true≢false (sym (here (small (ltb m 64) refl)) ∙ next-least a l m le (ltb-true m (next a l) f)))
+      where
+        small : (t : Bool) → ltb m 64 ≡ t → m < 64
+        small true q = ltb-true m 64 q
+        small false q = absurd (omega (arith, ltb-false m 64 q, ltb-true m (next a l) f, next-most a l (omega arith)))
+    go false e false f = omega (arith, ltb-false (next a l) m e, ltb-false m (next a l) f)
 
 pub members-cons : (a : Literals) (l : ℕ) → next a l < 64 → members a l ≡ next a l ∷ members a (next a l + 1)
 members-cons a l h = members-next a l ∙ members-here a (next a l) h (next-found a l h)

@@ -1,10 +1,9 @@
--- Laws of literal sets by their members: what `mem` says of each operation, that the members decide the set, and what
--- `within`, `clash` and `consistent` say of the members. Nothing here looks at a mask's digits.
--- Assumes nothing.
+-- Sets of literals by their members: `mem` of each operation, `within`, `clash`, `consistent`, `below`; none looks at a mask's digits.
+-- For all laws of literal sets, here and in table and plan. Assumes nothing.
 use mathlib.Core.Path.{_≡_, refl, sym, ap, ap₂, _∙_, subst}
 use mathlib.Core.Logic.{_⊎_, inl, inr, ⊎-elim}
 use mathlib.Core.Bool.{Bool, true, false, not, _&&_, _||_, Bool·beq, and-eq-true-iff, or-comm, or-assoc, true≢false, false≢true}
-use Prim.Native.Nat.{ℕ, _-_, _^_, _<_}
+use Prim.Native.Nat.{ℕ, _^_, _<_}
 use lib.Dec.{T, eqb, ltb}
 use lib.Bits.{bitAnd, and-comm}
 use borrow.Author.Tests.{eq-eqb, eqb-true, eqb-false, lt-ltb, ltb-true, not-true, not-false}

@@ -1,4 +1,5 @@
--- The tests on sets of literals, literal by literal: what the masks say. Assumes nothing.
+-- The tests on sets of literals, literal by literal: what the masks say.
+-- For `within-iff`, `consistent-iff`, `meets-iff` and `state-iff` in proofs/Demands. Assumes nothing.
 use mathlib.Core.Path.{_≡_, refl, sym, subst}
 use mathlib.Core.Bool.{Bool, true, false, not, _&&_, Bool·beq, true≢false, false≢true}
 use mathlib.Core.Logic.{_↔_}

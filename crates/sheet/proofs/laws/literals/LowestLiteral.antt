@@ -1,7 +1,7 @@
--- The lowest literal of a set from a place on, by the lowest set bit of a mask. Assumes nothing.
+-- The lowest literal of a set from a place on, by the lowest set bit of a mask. For `lowest` of src/masks.rt. Assumes nothing.
 use mathlib.Core.Path.{_≡_, refl, sym, ap, _∙_, subst}
 use mathlib.Core.Bool.{Bool, true, false, _||_, true≢false}
-use mathlib.Core.Logic.{_⊎_, ⊎-elim}
+use mathlib.Core.Logic.{⊎-elim}
 use Prim.Native.Nat.{ℕ, zero, suc, _+_, _-_, _*_, _/_, _%_, _^_, _≤_, _<_}
 use native.Mathlib.Nat.{div-div-eq-div-mul, div-le-self, lt-of-le-of-lt}
 use lib.Pow.{pow-add}
@@ -15,7 +15,7 @@ use Rattle.sheet.specs.Literals.{has, mem, sign, contains}
 use Rattle.sheet.specs.inner.Masks.{next}
 use Rattle.sheet.proofs.laws.literals.MaskBits.{has-zero, has-suc, has-or, has-none, has-below}
 use Rattle.sheet.proofs.laws.literals.LiteralSets.{or-cases}
-use Rattle.sheet.proofs.laws.literals.LiteralBytes.{scan, next-end, next-here, next-step, next-found, next-ge, next-least}
+use Rattle.sheet.proofs.laws.literals.LiteralBytes.{next-is}
 
 -- ---- bits after a shift
 pub has-shr : (m p i : ℕ) → has (m / 2 ^ p) i ≡ has m (p + i)
@@ -52,27 +52,6 @@ trailing-low (suc k) x i h = go (x % 2) refl i h (λ j g. trailing-low k (x / 2)
     go zero e zero g ih = no-bit x e
     go zero e (suc j) g ih = has-suc x j ∙ ih j (omega arith)
     go (suc d) e i g ih = absurd (omega arith)
-
-next-most : (a : Literals) (l : ℕ) → l ≤ 64 → next a l ≤ 64
-next-most a =
-    scan a (λ (l : ℕ). l ≤ 64 → next a l ≤ 64) (λ l h k. omega (arith, next-end a l h)) (λ l h e k. omega (arith, next-here a l h e))
-    (λ l h e r k. omega (arith, next-step a l h e, r (omega arith)))
-
--- ---- the next literal is the only one that fits
-pub next-is : (a : Literals) (l m : ℕ) → l ≤ m → m ≤ 64 → (m < 64 → contains a m ≡ true) → ((k : ℕ) → l ≤ k → k < m → contains a k ≡ false)
-    → m ≡ next a l
-next-is a l m le most here none = go (ltb (next a l) m) refl (ltb m (next a l)) refl
-  where
-    go : (t : Bool) → ltb (next a l) m ≡ t → (u : Bool) → ltb m (next a l) ≡ u → m ≡ next a l
-    go true e u f =
-        let h : next a l < m = ltb-true (next a l) m e in
-        absurd (true≢false (sym (next-found a l (omega arith)) ∙ none (next a l) (next-ge a l) h))
-    go false e true f = absurd (true≢false (sym (here (small (ltb m 64) refl)) ∙ next-least a l m le (ltb-true m (next a l) f)))
-      where
-        small : (t : Bool) → ltb m 64 ≡ t → m < 64
-        small true q = ltb-true m 64 q
-        small false q = absurd (omega (arith, ltb-false m 64 q, ltb-true m (next a l) f, next-most a l (omega arith)))
-    go false e false f = omega (arith, ltb-false (next a l) m e, ltb-false m (next a l) f)
 
 -- ---- the propositions that a names, from p on
 neither : (x y : Bool) → (x || y) ≡ false → (x ≡ false) × (y ≡ false)

@@ -1,5 +1,5 @@
--- Laws of masks by their bits: what `has` says of each operation, and that the bits decide the number.
--- Assumes nothing.
+-- Masks by their bits: what `has` says of each operation, and that the bits decide the number.
+-- For the functions of src/masks.rt, and for the laws of literal sets (LiteralSets, Results). Assumes nothing.
 use mathlib.Core.Path.{_≡_, refl, sym, ap, ap₂, _∙_, subst}
 use mathlib.Core.Logic.{_⊎_, inl, inr}
 use mathlib.Core.Bool.{Bool, true, false, not, _&&_, _||_, and-eq-true-iff, true≢false, false≢true}

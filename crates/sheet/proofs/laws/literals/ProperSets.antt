@@ -1,4 +1,5 @@
--- Literal sets as the lists of tests use them: tests as propositions, proper sets, and the literals of a set one by one. Assumes nothing.
+-- Proper sets of literals: joined, replaced and denied, their worlds, their literals one by one; and members of lists.
+-- For the tables and pictures of table, and the runs of plan. Assumes nothing.
 use mathlib.Core.Path.{_≡_, refl, sym, ap, subst, _∙_}
 use mathlib.Core.Bool.{Bool, true, false, not, true≢false}
 use mathlib.Core.List.{List, [], _∷_, List·Memᴰ, List·Memᴰ·head, List·Memᴰ·tail}

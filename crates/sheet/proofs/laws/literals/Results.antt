@@ -1,5 +1,5 @@
 -- Results: what `replace` keeps and brings, and when two sets of results may change places.
--- Assumes nothing.
+-- For the worlds (Worlds), the steps of table and the exchanges of plan. Assumes nothing.
 use mathlib.Core.Path.{_≡_, refl, sym, ap, _∙_}
 use mathlib.Core.Logic.{_⊎_, inl, inr, ⊎-elim}
 use mathlib.Core.Bool.{Bool, true, false, not, _&&_, _||_, and-eq-true-iff, and-true, and-false, or-true, or-false, true≢false}

@@ -1,15 +1,15 @@
 -- Literal sets and worlds: a world is a complete set, a consistent set has a completion, and results take a world to a world.
--- Assumes nothing.
+-- For the starts, steps and pictures of table and the goals of plan. Assumes nothing.
 use mathlib.Core.Path.{_≡_, refl, sym, ap, ap₂, _∙_, subst}
-use mathlib.Core.Logic.{_⊎_, ⊎-elim}
+use mathlib.Core.Logic.{⊎-elim}
 use mathlib.Core.Bool.{Bool, true, false, not, _&&_, Bool·beq, and-eq-true-iff, true≢false}
-use Prim.Native.Nat.{ℕ, _-_, _^_, _<_}
+use Prim.Native.Nat.{ℕ, _^_, _<_}
 use lib.Dec.{T, ltb}
-use Rattle.sheet.proofs.laws.base.Bools.{T-true, true-T}
 use borrow.Author.Tests.{lt-ltb, ltb-true, not-true, not-false}
 use Rattle.sheet.specs.declared.Literals.{Literals}
 use Rattle.sheet.specs.Literals.{has, mem, within, clash, consistent, join, flip, replace, single, state, below}
 use Rattle.sheet.specs.inner.Masks.{overridden}
+use Rattle.sheet.proofs.laws.base.Bools.{T-true, true-T}
 use Rattle.sheet.proofs.laws.literals.LiteralSets.{mem-state, within-of, of-within, not-within, of-apart, clash-at, clash-here, clash-sym, clash-single, consistent-of, of-consistent, consistent-join, not-not, below-of, of-below, below-trues, below-join, below-single, within-join, within-join-l, within-join-r, within-trans, within-single, within-antisym, consistent-single, consistent-within, consistent-flip, below-within, below-flip}
 use Rattle.sheet.proofs.laws.literals.Results.{consistent-replace, below-replace, within-replace, replace-cases, replace-kept}
 

@@ -1,4 +1,5 @@
--- Numbers in a packed array: what stands there, read part by part; and parts, sets, effects and items laid there. Assumes nothing.
+-- Numbers in a packed array: what stands there, read part by part; and parts, sets, effects and items laid there.
+-- For src/packed.rt, for the functions of src/reader.rt that lay out, and for the packed arrays of table and plan. Assumes nothing.
 use mathlib.Core.Path.{_≡_, refl, sym, ap, ap₂, subst, _∙_}
 use mathlib.Core.List.{List, [], _∷_, _++_, append-assoc, append-nil}
 use Prim.Native.Nat.{ℕ, zero, suc, _+_, _-_, _*_, _≤_, _<_}

@@ -1,11 +1,10 @@
--- What was read of a sheet, in its slots and its packed array, by its answer: an accepted sheet has a proper statement there. Assumes
--- nothing.
+-- What was read of a sheet, by its answer; its sections laid in the packed array; what an accepted sheet keeps within its slots.
+-- For `facts_at`, `sheet_in` and `judge`, and for the callers of `decode` in table and plan. Assumes nothing.
 use mathlib.Core.Path.{_≡_, refl, sym, ap, ap₂, _∙_}
-use mathlib.Core.List.{List, [], _∷_}
-use Prim.Native.Nat.{ℕ, zero, suc, _+_, _≤_, _<_}
-use native.Mathlib.Nat.{le-of-suc-le-suc, not-suc-le-zero}
+use mathlib.Core.List.{List}
+use Prim.Native.Nat.{ℕ, _+_, _≤_, _<_}
 use native.Mathlib.Omega.{arith}
-use lib.ListN.{length, take}
+use lib.ListN.{length}
 use Rattle.sheet.specs.declared.Answer.{Answer}
 use Rattle.sheet.specs.declared.Answer.the-variants.{Accepted, Refused}
 use Rattle.sheet.specs.declared.Literals.{Literals}
@@ -14,19 +13,19 @@ use Rattle.sheet.specs.declared.Sheet.{Sheet}
 use Rattle.sheet.specs.declared.Decoded.{Decoded}
 use Rattle.sheet.specs.declared.reader.Mark.{Mark}
 use Rattle.sheet.specs.declared.reader.Mark.the-variants.{At, Fault}
-use Rattle.sheet.specs.Lists.{All, pad}
-use Rattle.sheet.specs.Problem.{Facts, Action, Problem, problemOf, Statement}
+use Rattle.sheet.specs.Lists.{All}
+use Rattle.sheet.specs.Problem.{Facts, Problem, problemOf, Statement}
 use Rattle.sheet.specs.declared.reader.Facts as read
-use Rattle.sheet.specs.Format.{accepted, refused, sheetOf}
+use Rattle.sheet.specs.Format.{Judgement, accepted, refused, sheetOf}
 use Rattle.sheet.specs.inner.Decoded.{planOf, planIn, problemIn, statementIn, judgedBy, judgementIn, Filled}
-use Rattle.sheet.specs.inner.Packed.{part, orsIn, oneofsIn, goalIn, movesIn, setsIn, clausesAt, actionFrom, actionsAt}
+use Rattle.sheet.specs.inner.Packed.{part, orsIn, oneofsIn, movesIn, setsIn, clausesAt, actionFrom, actionsAt}
 use Rattle.sheet.specs.inner.Marks.{refusedBy, factsIn}
 use Rattle.sheet.specs.Calls.{answerOf, judgeOf}
 use Rattle.sheet.specs.Encoding.{Counted, ProperClause, ProperAction, ProperStatement}
 use Rattle.sheet.proofs.laws.base.ListFacts.{all-map}
 use Rattle.sheet.proofs.laws.format.Encodings.{encoded-iff}
 use Rattle.sheet.proofs.laws.format.Judgements.{accepted-iff}
-use Rattle.sheet.proofs.laws.reader.PackedParts.{items-length, anew, anew-long, part-same, part-before, part-after}
+use Rattle.sheet.proofs.laws.reader.PackedParts.{items-length, part-long, anew, anew-long, part-same, part-before, part-after}
 use Rattle.sheet.proofs.laws.base.Padding.{take-pad}
 
 pub plan-slots : (ks : List ℕ) → length ks ≤ 64 → planIn (planOf ks) ≡ ks
@@ -47,10 +46,15 @@ module _ (d : Decoded) (packed : List ℕ) where
   unfolding judgementIn
   refused-with k p a = rw a
 
-  pub refused-by : (m : Mark) → d .answer ≡ answerOf (refusedBy m) → judgementIn d packed ≡ refusedBy m
+  refused-by : (m : Mark) → d .answer ≡ answerOf (refusedBy m) → judgementIn d packed ≡ refusedBy m
   unfolding refusedBy answerOf
   refused-by (Fault k p) a = refused-with k p a
   refused-by (At p) a = refused-with 0 p a
+
+  -- by the fault of a mark, with what else is known
+  pub refused-so : {N : Type 0} {j : Judgement} (m : Mark) → (d .answer ≡ answerOf (refusedBy m)) × N → j ≡ refusedBy m
+      → (judgementIn d packed ≡ j) × N
+  refused-so m a e = (refused-by m (a .0) ∙ sym e, a .1)
 
   -- ---- what a sheet that was read says
   module _ (s : List ℕ) (e : judgementIn d packed ≡ sheetOf s) where
@@ -74,36 +78,46 @@ pub filled : (d : Decoded) (packed s : List ℕ) → (judgementIn d packed ≡ s
     → length packed ≡ 1409 → Filled (d .sheet) packed
 filled d packed s e a l = record { long = l; plan-most = e .1; proper = accepted-proper d packed s (e .0) a }
 
--- ---- the sections laid in the packed array, each in its turn
+-- ---- the sections laid in the packed array, each by a borrow of its numbers
 -- the clauses
-pub ors-kept : (xs ors : List ℕ) → length xs ≡ 1409 → length ors ≡ 136 → length (anew xs ors 0 136) ≡ 1409
-ors-kept xs ors long ors-long = anew-long xs ors 0 136 (omega (arith, long)) ors-long ∙ long
+module _ (xs ors : List ℕ) (long : length xs ≡ 1409) (ors-lent : length ors ≡ length (part 0 136 xs)) where
+  ors-long : length ors ≡ 136
+  ors-long = ors-lent ∙ part-long 0 136 xs (omega (arith, long))
 
-module _ (xs ors oneofs : List ℕ) (long : length xs ≡ 1409) (ors-long : length ors ≡ 136) (oneofs-long : length oneofs ≡ 136) where
-  one-long : length (anew xs ors 0 136) ≡ 1409
-  one-long = ors-kept xs ors long ors-long
+  pub ors-kept : length (anew xs ors 0 136) ≡ 1409
+  ors-kept = anew-long xs ors 0 136 (omega (arith, long)) ors-long ∙ long
 
-  pub facts-laid : (f : read.Facts)
-      → record { n = f .n; known = f .known; ors = clausesAt (f .ors) ors; oneofs = clausesAt (f .oneofs) oneofs }
-      ≡ factsIn f (anew (anew xs ors 0 136) oneofs 136 136)
-  unfolding factsIn
-  facts-laid f =
-      ap₂ (λ (a b : List ℕ). record { n = f .n; known = f .known; ors = clausesAt (f .ors) a; oneofs = clausesAt (f .oneofs) b })
-      (sym (part-before (anew xs ors 0 136) oneofs 136 136 (omega (arith, one-long)) oneofs-long 0 136 (omega arith)
-      ∙ part-same xs ors 0 136 (omega (arith, long)) ors-long))
-      (sym (part-same (anew xs ors 0 136) oneofs 136 136 (omega (arith, one-long)) oneofs-long))
+  module _ (oneofs : List ℕ) (oneofs-lent : length oneofs ≡ length (part 136 136 (anew xs ors 0 136))) where
+    oneofs-long : length oneofs ≡ 136
+    oneofs-long = oneofs-lent ∙ part-long 136 136 (anew xs ors 0 136) (omega (arith, ors-kept))
+
+    pub facts-laid : (f : read.Facts)
+        → record { n = f .n; known = f .known; ors = clausesAt (f .ors) ors; oneofs = clausesAt (f .oneofs) oneofs }
+        ≡ factsIn f (anew (anew xs ors 0 136) oneofs 136 136)
+    unfolding factsIn
+    facts-laid f =
+        ap₂ (λ (a b : List ℕ). record { n = f .n; known = f .known; ors = clausesAt (f .ors) a; oneofs = clausesAt (f .oneofs) b })
+        (sym (part-before (anew xs ors 0 136) oneofs 136 136 (omega (arith, ors-kept)) oneofs-long 0 136 (omega arith)
+        ∙ part-same xs ors 0 136 (omega (arith, long)) ors-long))
+        (sym (part-same (anew xs ors 0 136) oneofs 136 136 (omega (arith, ors-kept)) oneofs-long))
 
 -- the moves, then the goal
-module _ (xs moves : List ℕ) (long : length xs ≡ 1409) (moves-long : length moves ≡ 1120) where
+module _ (xs moves : List ℕ) (long : length xs ≡ 1409) (moves-lent : length moves ≡ length (part 289 1120 xs)) where
   abbrev one : List ℕ
   one = anew xs moves 289 1120
 
-  pub moves-kept : length one ≡ 1409
+  moves-long : length moves ≡ 1120
+  moves-long = moves-lent ∙ part-long 289 1120 xs (omega (arith, long))
+
+  moves-kept : length one ≡ 1409
   moves-kept = anew-long xs moves 289 1120 (omega (arith, long)) moves-long ∙ long
 
-  module _ (goal : List ℕ) (goal-long : length goal ≡ 17) where
+  module _ (goal : List ℕ) (goal-lent : length goal ≡ length (part 272 17 one)) where
     abbrev whole : List ℕ
     whole = anew one goal 272 17
+
+    goal-long : length goal ≡ 17
+    goal-long = goal-lent ∙ part-long 272 17 one (omega (arith, moves-kept))
 
     pub goal-kept : length whole ≡ 1409
     goal-kept = anew-long one goal 272 17 (omega (arith, moves-kept)) goal-long ∙ moves-kept

@@ -41,14 +41,8 @@ narrow n a =
 returns : tie.Need-returns
 returns c = wide _ _ (omega arith) (omega arith) (c .if1 .taken)
 
-cast-result : tie.Need-cast-result
-cast-result c = search needs
-
-shr-result : tie.Need-shr-result
-shr-result c = search needs
-
 returns-2 : tie.Need-returns-2
 returns-2 c = narrow _ _
 
 pub below-spec : {M : Type 1} → statement M
-below-spec = tie.close (tie.spec returns cast-result shr-result returns-2)
+below-spec = tie.close (tie.spec returns (λ c. search needs) (λ c. search needs) returns-2)

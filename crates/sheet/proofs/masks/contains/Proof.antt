@@ -36,18 +36,6 @@ odd a l e = rw (ne-eqb (l % 2) 0 e) (ap (λ (x : ℕ). eqb x 1) (and-mask (a .fa
 returns : tie.Need-returns
 returns c = far _ _ (omega arith) (omega arith) (c .if1 .taken)
 
-cast-result : tie.Need-cast-result
-cast-result c = search needs
-
-shr-result : tie.Need-shr-result
-shr-result c = search needs
-
-cast-result-2 : tie.Need-cast-result-2
-cast-result-2 c = search needs
-
-shr-result-2 : tie.Need-shr-result-2
-shr-result-2 c = search needs
-
 returns-2 : tie.Need-returns-2
 returns-2 c = even _ _ (c .before .if2 .taken)
 
@@ -57,4 +45,4 @@ returns-3 c = odd _ _ (c .before .if2 .left)
 pub contains-spec : {M : Type 1} → statement M
 contains-spec =
     tie.close
-    (tie.spec returns cast-result shr-result cast-result-2 shr-result-2 returns-2 returns-3)
+    (tie.spec returns (λ c. search needs) (λ c. search needs) (λ c. search needs) (λ c. search needs) returns-2 returns-3)

@@ -22,12 +22,6 @@ odd : (l : ℕ) → l < 64 → (l % 2 ≡ 0 → ⊥) → _≡_ {A = Literals} (r
 unfolding literal single sign
 odd l h e = rw (ne-eqb (l % 2) 0 e, shifted (l / 2) (omega arith))
 
-cast-m : tie.Need-cast-m
-cast-m c = search needs
-
-shl-m : tie.Need-shl-m
-shl-m c = search needs
-
 returns : tie.Need-returns
 returns c = even _ (c .before .pre) (c .if1 .taken)
 
@@ -35,4 +29,4 @@ returns-2 : tie.Need-returns-2
 returns-2 c = odd _ (c .before .pre) (c .if1 .left)
 
 pub literal-spec : {M : Type 1} → statement M
-literal-spec = tie.close (tie.spec cast-m shl-m returns returns-2)
+literal-spec = tie.close (tie.spec (λ c. search needs) (λ c. search needs) returns returns-2)

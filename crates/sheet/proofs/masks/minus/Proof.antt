@@ -4,8 +4,8 @@ use Prim.Native.Nat.{_-_, _^_, _<_}
 use native.Mathlib.Omega.{arith}
 use lib.Bits.{bitAnd}
 use Rattle.sheet.specs.declared.Literals.{Literals}
-use Rattle.sheet.proofs.laws.literals.MaskBits.{and-not}
 use Rattle.sheet.specs.inner.Masks.{minus}
+use Rattle.sheet.proofs.laws.literals.MaskBits.{and-not}
 use Rattle.sheet.proofs.masks.minus.Statement.{statement}
 use Rattle.sheet.proofs.masks.minus.Tie as tie
 

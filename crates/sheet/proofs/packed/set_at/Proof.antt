@@ -6,17 +6,8 @@ use Rattle.sheet.proofs.laws.reader.PackedParts.{from-later}
 use Rattle.sheet.proofs.packed.set_at.Statement.{statement}
 use Rattle.sheet.proofs.packed.set_at.Tie as tie
 
-mul-set-from : tie.Need-mul-set-from
-mul-set-from c = search needs
-
-add-set-from : tie.Need-add-set-from
-add-set-from c = search needs
-
-set-from-requires : tie.Need-set-from-requires
-set-from-requires c κs = search needs
-
 returns : tie.Need-returns
 returns c = c .set-from .ensures ∙ sym (from-later _ 1 _ _ (omega arith))
 
 pub set-at-spec : {M : Type 1} → statement M
-set-at-spec = tie.close (tie.spec mul-set-from add-set-from set-from-requires returns)
+set-at-spec = tie.close (tie.spec (λ c. search needs) (λ c. search needs) (λ c κs. search needs) returns)

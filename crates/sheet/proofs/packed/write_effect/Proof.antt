@@ -1,8 +1,8 @@
 -- `sheet::packed::write_effect` meets its contract. Assumes nothing.
 use native.Mathlib.Omega.{arith}
 use lib.ListN.{length-set}
-use Rattle.sheet.proofs.laws.reader.PackedParts.{four-stores}
 use borrow.Author.Needs.{needs}
+use Rattle.sheet.proofs.laws.reader.PackedParts.{four-stores}
 use Rattle.sheet.proofs.packed.write_effect.Statement.{statement}
 use Rattle.sheet.proofs.packed.write_effect.Tie as tie
 

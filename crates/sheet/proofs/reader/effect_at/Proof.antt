@@ -1,10 +1,10 @@
 -- `sheet::reader::effect_at` meets its contract. Assumes nothing.
 use borrow.Author.Needs.{needs}
+use mathlib.Core.Path.{refl}
 use Rattle.sheet.specs.inner.Marks.{same}
 use Rattle.sheet.specs.Form.{read}
 use Rattle.sheet.specs.Format.{effect}
-use Rattle.sheet.proofs.laws.reader.ReadMarks.{gave-stop, gave-on, gave-item, got-same}
-use mathlib.Core.Path.{refl}
+use Rattle.sheet.proofs.laws.reader.ReadMarks.{gave-stop, gave-on, gave-item}
 use Rattle.sheet.proofs.reader.effect_at.Statement.{statement}
 use Rattle.sheet.proofs.reader.effect_at.Tie as tie
 
@@ -18,7 +18,7 @@ returns-2 c =
     let after-literals-at2 = c .before .before in
     let after-mark = after-literals-at2 .before .before in
     let after-literals-at = after-mark .before .before in
-    gave-on _ _ _ _ same (got-same _ _ _ (after-literals-at .literals-at .ensures) (after-mark .mark .given .1))
+    gave-on _ _ _ _ same (after-literals-at .literals-at .ensures) (after-mark .mark .given .1)
     (gave-stop _ _ _ _ same same (after-literals-at2 .literals-at2 .ensures) (c .enum-told2 .given .1))
 
 returns-3 : tie.Need-returns-3
@@ -28,8 +28,8 @@ returns-3 c =
     let after-literals-at2 = after-end .before .before in
     let after-mark = after-literals-at2 .before .before in
     let after-literals-at = after-mark .before .before in
-    gave-on _ _ _ _ same (got-same _ _ _ (after-literals-at .literals-at .ensures) (after-mark .mark .given .1))
-    (gave-on _ _ _ _ same (got-same _ _ _ (after-literals-at2 .literals-at2 .ensures) (after-end .end .given .1))
+    gave-on _ _ _ _ same (after-literals-at .literals-at .ensures) (after-mark .mark .given .1)
+    (gave-on _ _ _ _ same (after-literals-at2 .literals-at2 .ensures) (after-end .end .given .1)
     (gave-item same _ refl refl refl))
 
 pub effect-at-spec : {M : Type 1} → statement M

@@ -1,8 +1,11 @@
+-- `sheet::reader::literals_from` meets its contract. The invariant: the literals before i are read and joined. Assumes nothing.
 use native.Mathlib.Omega.{arith}
 use borrow.Author.Needs.{needs}
 use Prim.Native.Nat.{_-_}
 use Rattle.sheet.specs.Literals.{noLiteral}
-use Rattle.sheet.proofs.laws.reader.ReadLists.{Ahead, ahead-none, ahead-more, ahead-fault, ahead-all, read-passed, literal-below}
+use Rattle.sheet.proofs.laws.reader.ReadLiterals.{Ahead, ahead-none, ahead-more, ahead-fault, ahead-all}
+use Rattle.sheet.proofs.laws.reader.ReadMarks.{read-passed}
+use Rattle.sheet.proofs.laws.format.ByteRules.{literal-0}
 use Rattle.sheet.proofs.reader.literals_from.Statement.{statement}
 use Rattle.sheet.proofs.reader.literals_from.Tie as tie
 
@@ -26,14 +29,14 @@ returns c =
 
 literal-requires : tie.Need-literal-requires Inv-loop μ-loop
 literal-requires c κs =
-    let h = literal-below _ _ _ (read-passed _ _ _ (c .before .before .before .literal-at .ensures) (c .before .mark .given .1)) in
+    let h = literal-0 _ _ _ .0 (read-passed _ _ _ (c .before .before .before .literal-at .ensures) (c .before .mark .given .1)) in
     omega arith
 
 add-floor : tie.Need-add-floor Inv-loop μ-loop
 add-floor c =
     let after-mark = c .before .before .before in
     let after-literal-at = after-mark .before .before in
-    let h = literal-below _ _ _ (read-passed _ _ _ (after-literal-at .literal-at .ensures) (after-mark .mark .given .1)) in
+    let h = literal-0 _ _ _ .0 (read-passed _ _ _ (after-literal-at .literal-at .ensures) (after-mark .mark .given .1)) in
     omega arith
 
 loop-again : tie.Need-loop-again Inv-loop μ-loop

@@ -3,22 +3,10 @@ use borrow.Author.Needs.{needs}
 use Rattle.sheet.specs.inner.Marks.{same}
 use Rattle.sheet.specs.Format.{listOf, plan}
 use Rattle.sheet.specs.inner.Decoded.{planOf}
-use Rattle.sheet.proofs.laws.reader.ReadMarks.{gave-stop, gave-on, got-same}
-use Rattle.sheet.proofs.laws.reader.ReadLists.{read-passed, count-most}
+use Rattle.sheet.proofs.laws.reader.ReadMarks.{gave-stop, gave-on}
+use Rattle.sheet.proofs.laws.reader.ReadLists.{count-read}
 use Rattle.sheet.proofs.reader.plan_at.Statement.{statement}
 use Rattle.sheet.proofs.reader.plan_at.Tie as tie
-
-count-at-requires : tie.Need-count-at-requires
-count-at-requires c κs = search needs
-
-enum-known-mark : tie.Need-enum-known-mark
-enum-known-mark c = search needs
-
-enum-told : tie.Need-enum-told
-enum-told c = search needs
-
-no-plan-requires : tie.Need-no-plan-requires
-no-plan-requires c κs = search needs
 
 returns : tie.Need-returns
 unfolding plan listOf
@@ -28,16 +16,16 @@ plan-from-requires : tie.Need-plan-from-requires
 plan-from-requires c κs =
     let after-count-at = c .before .before .before in
     let start = after-count-at .before .before in
-    (start .pre, count-most _ _ _ (read-passed _ _ _ (after-count-at .count-at .ensures) (c .before .mark .given .1)))
+    (start .pre, count-read _ _ _ _ (after-count-at .count-at .ensures) (c .before .mark .given .1))
 
 returns-2 : tie.Need-returns-2
 unfolding plan listOf
 returns-2 c =
     let after-mark = c .before .before in
     let after-count-at = after-mark .before .before in
-    gave-on _ _ _ _ planOf (got-same _ _ _ (after-count-at .count-at .ensures) (after-mark .mark .given .1)) (c .plan-from .ensures)
+    gave-on _ _ _ _ planOf (after-count-at .count-at .ensures) (after-mark .mark .given .1) (c .plan-from .ensures)
 
 pub plan-at-spec : {M : Type 1} → statement M
 plan-at-spec =
     tie.close
-    (tie.spec count-at-requires enum-known-mark enum-told no-plan-requires returns plan-from-requires returns-2)
+    (tie.spec (λ c κs. search needs) (λ c. search needs) (λ c. search needs) (λ c κs. search needs) returns plan-from-requires returns-2)

@@ -1,3 +1,4 @@
+-- `sheet::reader::plan_from` meets its contract. The invariant: the numbers before i are read, each in its slot. Assumes nothing.
 use mathlib.Core.Path.{refl}
 use native.Mathlib.Omega.{arith}
 use borrow.Author.Needs.{needs}
@@ -7,8 +8,9 @@ use Rattle.sheet.specs.Form.{judged}
 use Rattle.sheet.specs.Format.{numberFault}
 use Rattle.sheet.specs.inner.Marks.{same}
 use Rattle.sheet.specs.inner.Decoded.{planOf}
-use Rattle.sheet.proofs.laws.reader.ReadMarks.{Taken, taken-none, taken-more, taken-fault, taken-all, map-same}
-use Rattle.sheet.proofs.laws.reader.ReadLists.{read-passed, number-below}
+use Rattle.sheet.proofs.laws.reader.ReadLoops.{Taken, taken-none, taken-more, taken-fault, taken-all, map-same}
+use Rattle.sheet.proofs.laws.reader.ReadMarks.{read-passed}
+use Rattle.sheet.proofs.laws.format.ByteRules.{number-0}
 use Rattle.sheet.proofs.reader.plan_from.Statement.{statement}
 use Rattle.sheet.proofs.reader.plan_from.Tie as tie
 
@@ -34,7 +36,7 @@ cast-numbers : tie.Need-cast-numbers Inv-loop μ-loop
 cast-numbers c =
     let after-mark = c .before .before in
     let after-number-at = after-mark .before .before in
-    let h = number-below _ _ (read-passed _ _ _ (after-number-at .number-at .ensures) (after-mark .mark .given .1)) in
+    let h = number-0 _ _ .0 (read-passed _ _ _ (after-number-at .number-at .ensures) (after-mark .mark .given .1)) in
     omega arith
 
 loop-again : tie.Need-loop-again Inv-loop μ-loop

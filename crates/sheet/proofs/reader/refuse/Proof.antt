@@ -7,12 +7,9 @@ use Rattle.sheet.specs.inner.Decoded.{planOf}
 use Rattle.sheet.proofs.reader.refuse.Statement.{statement}
 use Rattle.sheet.proofs.reader.refuse.Tie as tie
 
-no-plan-requires : tie.Need-no-plan-requires
-no-plan-requires c κs = search needs
-
 returns : tie.Need-returns
 unfolding planOf
 returns c = (refl, omega (arith, ap (λ (p : Plan). p .count) (c .no-plan .ensures)))
 
 pub refuse-spec : {M : Type 1} → statement M
-refuse-spec = tie.close (tie.spec no-plan-requires returns)
+refuse-spec = tie.close (tie.spec (λ c κs. search needs) returns)

@@ -5,8 +5,8 @@ use borrow.Author.Needs.{needs}
 use lib.ListN.{length-set, length-take, length-drop}
 use Rattle.sheet.specs.inner.Marks.{ReadsAs, same}
 use Rattle.sheet.specs.Format.{listOf}
-use Rattle.sheet.proofs.laws.reader.ReadMarks.{gave-stop, gave-on, got-same}
-use Rattle.sheet.proofs.laws.reader.ReadLists.{read-passed, count-most}
+use Rattle.sheet.proofs.laws.reader.ReadMarks.{gave-stop, gave-on}
+use Rattle.sheet.proofs.laws.reader.ReadLists.{count-read}
 use Rattle.sheet.proofs.laws.reader.PackedParts.{sets-laid}
 use Rattle.sheet.proofs.reader.sets_at.Statement.{statement}
 use Rattle.sheet.proofs.reader.sets_at.Tie as tie
@@ -16,7 +16,7 @@ unfolding listOf
 returns c = gave-stop _ _ _ _ same same (c .before .before .count-at .ensures) (c .enum-told .given .1)
 
 cast-item : tie.Need-cast-item
-cast-item c = let h = count-most _ _ _ (read-passed _ _ _ (c .before .before .before .count-at .ensures) (c .before .mark .given .1)) in
+cast-item c = let h = count-read _ _ _ _ (c .before .before .before .count-at .ensures) (c .before .mark .given .1) in
     omega arith
 
 part-sets-from-end : tie.Need-part-sets-from-end
@@ -27,7 +27,7 @@ sets-from-requires c κs =
     let after-mark = c .before .before in
     let after-count-at = after-mark .before .before in (
       omega arith,
-      count-most _ _ _ (read-passed _ _ _ (after-count-at .count-at .ensures) (after-mark .mark .given .1)),
+      count-read _ _ _ _ (after-count-at .count-at .ensures) (after-mark .mark .given .1),
       simp (length-take, length-drop, length-set) (omega arith),
     )
 
@@ -40,11 +40,10 @@ returns-2 c =
     let after-sets-from = c .before .before in
     let after-mark = after-sets-from .before .before .before in
     let after-count-at = after-mark .before .before in
-    let after-10 = after-count-at .before .before .before in
-    let z = after-10 in
+    let start = after-count-at .before .before .before in
     let r = after-count-at .count-at in
-    subst (ReadsAs same _ _) (sym (sets-laid (z .args .item .now) _ (r .result .value) (z .pre .1)))
-    (gave-on _ _ _ _ same (got-same _ _ _ (r .ensures) (after-mark .mark .given .1)) (after-sets-from .sets-from .ensures))
+    subst (ReadsAs same _ _) (sym (sets-laid (start .args .item .now) _ (r .result .value) (start .pre .1)))
+    (gave-on _ _ _ _ same (r .ensures) (after-mark .mark .given .1) (after-sets-from .sets-from .ensures))
 
 pub sets-at-spec : {M : Type 1} → statement M
 sets-at-spec =
