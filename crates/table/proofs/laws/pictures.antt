@@ -7,8 +7,8 @@ pub mod PictureWorlds
 pub mod MaskBytes
 -- ---- for this crate alone
 pub mod ClauseOrder
+pub mod HandedClauses
 pub mod JoinedClauses
 pub mod UnitClauses
 pub mod Insertion
-pub mod PictureFold
 pub mod PictureCall

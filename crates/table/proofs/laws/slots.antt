@@ -4,6 +4,7 @@ pub mod PutLaws
 -- ---- for this crate alone
 pub mod LastWithin
 pub mod PutSlots
+pub mod ConsistentCandidates
 pub mod PutLoops
 pub mod AbsorbedCandidates
 pub mod DescribedTables

@@ -3,7 +3,9 @@
 pub mod StartArrays
 -- ---- for this crate alone
 pub mod LackedLiterals
-pub mod Choosing
+pub mod OtherAlternatives
+pub mod OneofWays
+pub mod FalsifiedAlternatives
 pub mod PackedClauses
 pub mod ClauseCandidates
 pub mod StartWorlds

@@ -5,7 +5,7 @@ use mathlib.Core.List.{List, [], _∷_}
 use Prim.Native.Nat.{ℕ, suc, _+_, _≤_, _<_}
 use native.Mathlib.Numerals.{add-one}
 use native.Mathlib.Omega.{arith}
-use lib.ListN.{length, drop, drop-of-length-le}
+use lib.ListN.{length, getD, drop, drop-of-length-le}
 use lib.Seq.{drop-cons}
 use Rattle.sheet.specs.declared.Literals.{Literals}
 use Rattle.sheet.specs.Literals.{noLiteral, within}
@@ -54,6 +54,10 @@ any-end f xs t e = ap (λ (r : List _). t || anyOf f r) e ∙ alone t
     alone false = refl
 
 -- ---- the entries from i on
+-- what stands at i
+abbrev pub stored : List ℕ → List ℕ → ℕ → Literals
+stored ts fs i = record { trues = getD ts i 0; falses = getD fs i 0 }
+
 module _ (n : ℕ) (ts fs : List ℕ) (i : ℕ) where
   pub entries-next : (e : Literals) → i < n → e ≡ slot ts fs i → drop i (entriesOf n ts fs) ≡ e ∷ drop (i + 1) (entriesOf n ts fs)
   unfolding slot
@@ -62,6 +66,10 @@ module _ (n : ℕ) (ts fs : List ℕ) (i : ℕ) where
       drop-cons (entriesOf n ts fs) i noLiteral lt
       ∙ ap (λ (x : Literals). x ∷ drop (suc i) (entriesOf n ts fs)) (getD-entriesOf n ts fs i h ∙ sym is)
       ∙ ap (λ (j : ℕ). e ∷ drop j (entriesOf n ts fs)) (sym (add-one i))
+
+  pub entries-stored : i < n → drop i (entriesOf n ts fs) ≡ stored ts fs i ∷ drop (i + 1) (entriesOf n ts fs)
+  unfolding slot
+  entries-stored h = entries-next _ h refl
 
   pub entries-done : n ≤ i → drop i (entriesOf n ts fs) ≡ []
   entries-done h = drop-of-length-le (entriesOf n ts fs) {i = i} (rw length-entriesOf h)

@@ -23,7 +23,7 @@ use Rattle.table.specs.inner.Slots.{Holds}
 use Rattle.table.specs.PictureCalls.{refusal, tooLong, given, written, pictureOf, bufferOf}
 use Rattle.table.proofs.laws.arrays.HeldLists.{length-entriesOf, holds-entries}
 use Rattle.table.proofs.laws.slots.DescribedTables.{described-iff}
-use Rattle.table.proofs.laws.pictures.PictureFold.{Handed, full-none, some-held}
+use Rattle.table.proofs.laws.pictures.HandedClauses.{Handed, full-none, some-held}
 
 -- how many entries a table as described has
 pub described-count : (n count : ℕ) (ts fs : List ℕ) → described 128 n (entriesOf count ts fs) ≡ true → (1 ≤ count) × (count ≤ 128)

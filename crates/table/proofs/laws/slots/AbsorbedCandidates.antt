@@ -27,7 +27,7 @@ use Rattle.table.proofs.laws.arrays.Compaction.{keep-length, keep-appen
 use Rattle.table.proofs.laws.slots.PutSlots.{put-dropped, put-added}
 use Rattle.table.proofs.laws.slots.PutLaws.{others, Placed, put-cases}
 use Rattle.table.proofs.laws.pictures.ClausePut.{within-equal}
-use Rattle.table.proofs.laws.starts.Choosing.{left-out, stays-inconsistent}
+use Rattle.table.proofs.laws.slots.ConsistentCandidates.{left-out, stays-inconsistent}
 
 -- ---- c, and candidates that contain it
 module _ (cap : ℕ) (c : Literals) where

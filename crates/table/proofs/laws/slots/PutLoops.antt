@@ -30,6 +30,12 @@ pub puts-is : (cs ds : List Literals) (k : ℕ) (ts fs : List ℕ) (r : Grown) (
     → Puts ds k ts fs r us gs
 puts-is cs ds k ts fs r us gs e w = subst (λ (x : List Literals). Puts x k ts fs r us gs) e w
 
+-- what was put, by the names that the slots and the result have later
+pub puts-later : (cs : List Literals) (k : ℕ) (ts fs : List ℕ) (r : Grown) (us gs : List ℕ) (r′ : Grown) (us′ gs′ : List ℕ) → us′ ≡ us
+    → gs′ ≡ gs → r′ ≡ r
+    → Puts cs k ts fs r us gs → Puts cs k ts fs r′ us′ gs′
+puts-later cs k ts fs r us gs r′ us′ gs′ p q e w = rw (p, q, e) w
+
 -- ---- a loop over candidates: those still to come, ds, after the k entries of ts and fs, give what all give after the k₀ entries of ts₀
 -- and fs₀
 

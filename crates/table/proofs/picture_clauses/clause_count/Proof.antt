@@ -1,5 +1,5 @@
 -- `table::picture_clauses::clause_count` meets its contract. Assumes nothing.
-use Rattle.table.proofs.laws.pictures.PictureFold.{size-full, size-some}
+use Rattle.table.proofs.laws.pictures.HandedClauses.{size-full, size-some}
 use borrow.Author.Needs.{needs}
 use Rattle.table.proofs.picture_clauses.clause_count.Statement.{statement}
 use Rattle.table.proofs.picture_clauses.clause_count.Tie as tie

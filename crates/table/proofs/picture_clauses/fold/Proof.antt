@@ -1,7 +1,7 @@
 -- `table::picture_clauses::fold` meets its contract. Assumes nothing.
 use native.Mathlib.Omega.{arith}
 use Rattle.table.proofs.laws.arrays.HeldLists.{holds-trues-long, holds-falses-long, fresh}
-use Rattle.table.proofs.laws.pictures.PictureFold.{folded}
+use Rattle.table.proofs.laws.pictures.JoinedClauses.{folded}
 use borrow.Author.Needs.{needs}
 use Rattle.table.proofs.picture_clauses.fold.Statement.{statement}
 use Rattle.table.proofs.picture_clauses.fold.Tie as tie

@@ -9,7 +9,7 @@ use Rattle.sheet.specs.Lists.{keep}
 use Rattle.table.specs.Entries.{entriesOf}
 use Rattle.table.proofs.laws.arrays.HeldLists.{holds-trues-long, holds-falses-long, held-own}
 use Rattle.table.proofs.laws.slots.PutLoops.{Going, going-start, going-on, going-full, going-end}
-use Rattle.table.proofs.laws.pictures.JoinedClauses.{put-joined-step, put-joined-end}
+use Rattle.table.proofs.laws.slots.ConsistentCandidates.{joined-entry, joined-none}
 use borrow.Author.Needs.{needs}
 use Rattle.table.proofs.picture_clauses.put_joined.Statement.{statement}
 use Rattle.table.proofs.picture_clauses.put_joined.Tie as tie
@@ -52,7 +52,7 @@ returns c =
     let after-loop-test = after-join .before .before .before .before .before in
     let at-loop = after-loop-test .before in
     going-full _ _ _ _ _ _ _ _ _ _ _ _ _ (at-loop .loop .inv .1)
-    (put-joined-step _ _ _ _ _ _ (after-loop-test .loop-test .taken) (after-join .join .ensures)) (after-admit .admit .ensures)
+    (joined-entry _ _ _ _ _ _ (after-loop-test .loop-test .taken) (after-join .join .ensures)) (after-admit .admit .ensures)
     (c .enum-told .given .1)
 
 loop-again : tie.Need-loop-again Inv-loop μ-loop
@@ -63,7 +63,7 @@ loop-again c =
     let at-loop = after-loop-test .before in (
       omega (arith, after-loop-test .loop-test .taken),
       going-on _ _ _ _ _ _ _ _ _ _ _ _ _ (at-loop .loop .inv .1)
-          (put-joined-step _ _ _ _ _ _ (after-loop-test .loop-test .taken) (after-join .join .ensures)) (after-admit .admit .ensures) _
+          (joined-entry _ _ _ _ _ _ (after-loop-test .loop-test .taken) (after-join .join .ensures)) (after-admit .admit .ensures) _
           (c .before .grown .given .1),
     )
 
@@ -76,7 +76,7 @@ same-length-4 c =
     holds-falses-long _ _ _ _ _ (c .before .loop .inv .1 .held) ∙ sym (holds-falses-long _ _ _ _ _ (start .pre .1))
 
 returns-2 : tie.Need-returns-2 Inv-loop μ-loop
-returns-2 c = going-end _ _ _ _ _ _ _ _ (c .before .loop .inv .1) (put-joined-end _ _ _ _ _ (c .loop-test .left))
+returns-2 c = going-end _ _ _ _ _ _ _ _ (c .before .loop .inv .1) (joined-none _ _ _ _ _ (c .loop-test .left))
 
 pub put-joined-spec : {M : Type 1} → statement M
 put-joined-spec =

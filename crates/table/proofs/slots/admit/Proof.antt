@@ -2,7 +2,7 @@
 use mathlib.Core.Path.{sym, _∙_}
 use borrow.Author.Needs.{needs}
 use Rattle.table.proofs.laws.slots.PutLoops.{nothing-put, puts-is}
-use Rattle.table.proofs.laws.starts.Choosing.{kept-one, left-out}
+use Rattle.table.proofs.laws.slots.ConsistentCandidates.{kept-one, left-out}
 use Rattle.table.proofs.slots.admit.Statement.{statement}
 use Rattle.table.proofs.slots.admit.Tie as tie
 

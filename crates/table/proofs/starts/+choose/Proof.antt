@@ -19,9 +19,9 @@ use Rattle.table.specs.declared.slots.Grown.the-variants as grown
 use Rattle.sheet.specs.inner.Packed.{setsAt}
 use Rattle.table.specs.Start.{falsify}
 use Rattle.table.proofs.laws.arrays.HeldLists.{held-own}
-use Rattle.table.proofs.laws.slots.PutLoops.{puts-is, Going, going-start, going-on, going-full, going-end}
+use Rattle.table.proofs.laws.slots.PutLoops.{puts-is, puts-later, Going, going-start, going-on, going-full, going-end}
 use Rattle.sheet.proofs.laws.reader.PackedParts.{sets-step}
-use Rattle.table.proofs.laws.starts.Choosing.{chosen-all, puts-later, Free, free-start, free-on, chosen-steady, choicesOf, choices-start, choices-step, choices-less, choices-end}
+use Rattle.table.proofs.laws.starts.FalsifiedAlternatives.{chosen-all, Free, free-start, free-on, chosen-steady, choicesOf, choices-start, choices-step, choices-less, choices-end}
 use Rattle.table.proofs.starts.choose.Reads as choose
 use Rattle.table.proofs.starts.choose.Kinds as choose-kinds
 use Rattle.table.proofs.starts.+choose.Lts-choose as choose-lts

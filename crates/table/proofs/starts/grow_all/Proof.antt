@@ -5,12 +5,11 @@ use Prim.Native.Nat.{_≤_, _-_}
 use native.Mathlib.Omega.{arith}
 use lib.ListN.{drop}
 use borrow.Author.Needs.{needs}
-use Rattle.sheet.specs.inner.Packed.{clausesAt}
+use Rattle.sheet.specs.inner.Packed.{clausesAt, setsIn}
 use Rattle.table.specs.Start.{growAll}
 use Rattle.table.specs.Entries.{entriesOf}
 use Rattle.table.specs.inner.Starts.{clauseOf}
 use Rattle.table.proofs.laws.starts.PackedClauses.{clause-is, clause-fits}
-use Rattle.sheet.specs.inner.Packed.{setsIn}
 use Rattle.sheet.proofs.laws.reader.PackedParts.{items-step, items-end}
 use Rattle.table.proofs.laws.starts.StartArrays.{Sections, sections-on, sections-refused, sections-end}
 use Rattle.table.proofs.starts.grow_all.Statement.{statement}

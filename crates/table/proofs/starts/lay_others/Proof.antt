@@ -7,7 +7,7 @@ use borrow.Author.Needs.{needs}
 use lib.ListN.{length, length-set}
 use Rattle.sheet.specs.inner.Packed.{setsIn}
 use Rattle.table.proofs.laws.starts.PackedClauses.{alts-step, alts-end}
-use Rattle.table.proofs.laws.starts.Choosing.{Laying, laying-start, laying-one, laying-none, laying-end}
+use Rattle.table.proofs.laws.starts.OtherAlternatives.{Laying, laying-start, laying-one, laying-none, laying-end}
 use Rattle.table.proofs.starts.lay_others.Statement.{statement}
 use Rattle.table.proofs.starts.lay_others.Tie as tie
 

@@ -12,7 +12,7 @@ use Rattle.table.specs.Start.{candidates}
 use Rattle.table.specs.inner.Starts.{clauseOf}
 use Rattle.table.specs.inner.Slots.{slot}
 use Rattle.table.proofs.laws.arrays.HeldLists.{held-own}
-use Rattle.table.proofs.laws.starts.Choosing.{collect-step, collect-end}
+use Rattle.table.proofs.laws.slots.ConsistentCandidates.{collect-step, collect-end}
 use Rattle.table.proofs.laws.arrays.EntryLoops.{entries-next, entries-done}
 use Rattle.table.proofs.laws.slots.PutLoops.{Going, going-start, going-on, going-full, going-end}
 use Rattle.table.proofs.starts.widen_all.Statement.{statement}

@@ -12,7 +12,7 @@ use Rattle.table.specs.Start.{falsify}
 use Rattle.table.specs.inner.Starts.{others}
 use Rattle.table.proofs.laws.starts.PackedClauses.{alt-at}
 use Rattle.table.proofs.laws.slots.PutLoops.{nothing-put, puts-is}
-use Rattle.table.proofs.laws.starts.Choosing.{cut}
+use Rattle.table.proofs.laws.starts.FalsifiedAlternatives.{cut}
 use borrow.Author.Needs.{needs}
 use Rattle.table.proofs.starts.widen_one.Statement.{statement}
 use Rattle.table.proofs.starts.widen_one.Tie as tie

@@ -7,7 +7,7 @@ use Rattle.sheet.specs.Lists.{keep}
 use Rattle.sheet.specs.inner.Packed.{setsIn}
 use Rattle.table.specs.Start.{candidates, oneOf}
 use Rattle.table.proofs.laws.starts.PackedClauses.{length-alts, alts-end}
-use Rattle.table.proofs.laws.starts.Choosing.{waysFrom, ways-start, ways-step, ways-end}
+use Rattle.table.proofs.laws.starts.OneofWays.{waysFrom, ways-start, ways-step, ways-end}
 use Rattle.table.proofs.laws.arrays.HeldLists.{held-own}
 use Rattle.table.proofs.laws.slots.PutLoops.{Going, going-start, going-on, going-full, going-end}
 use Rattle.table.proofs.starts.widen_oneof.Statement.{statement}

@@ -9,7 +9,7 @@ use Rattle.sheet.specs.Literals as L
 use Rattle.sheet.specs.Lists.{keep}
 use Rattle.sheet.specs.inner.Packed.{setsIn}
 use Rattle.table.proofs.laws.starts.PackedClauses.{alts-step, alts-end}
-use Rattle.table.proofs.laws.starts.Choosing.{or-step, or-end}
+use Rattle.table.proofs.laws.slots.ConsistentCandidates.{joined-step, joined-end}
 use Rattle.table.proofs.laws.arrays.HeldLists.{held-own}
 use Rattle.table.proofs.laws.slots.PutLoops.{Going, going-start, going-on, going-full, going-end}
 use Rattle.table.proofs.starts.widen_or.Statement.{statement}
@@ -39,7 +39,7 @@ returns c =
     let at-loop = after-loop-test .before in
     let after-count-of = at-loop .before in
     going-full _ _ _ _ _ _ _ _ _ _ _ _ _ (at-loop .loop .inv .1)
-    (or-step _ _ _ _ _ (alts-step _ _ _ (after-count-of .count-of .ensures) _ (after-loop-test .loop-test .taken)
+    (joined-step _ _ _ _ _ (alts-step _ _ _ (after-count-of .count-of .ensures) _ (after-loop-test .loop-test .taken)
     (after-set-at .set-at .ensures)) (after-join .join .ensures)) (after-admit .admit .ensures) (c .enum-told .given .1)
 
 loop-again : tie.Need-loop-again Inv-loop μ-loop
@@ -52,13 +52,13 @@ loop-again c =
     let after-count-of = at-loop .before in (
       omega arith,
       going-on _ _ _ _ _ _ _ _ _ _ _ _ _ (at-loop .loop .inv .1)
-          (or-step _ _ _ _ _ (alts-step _ _ _ (after-count-of .count-of .ensures) _ (after-loop-test .loop-test .taken)
+          (joined-step _ _ _ _ _ (alts-step _ _ _ (after-count-of .count-of .ensures) _ (after-loop-test .loop-test .taken)
           (after-set-at .set-at .ensures)) (after-join .join .ensures)) (after-admit .admit .ensures) _ (c .before .grown .given .1),
     )
 
 returns-2 : tie.Need-returns-2 Inv-loop μ-loop
 returns-2 c = going-end _ _ _ _ _ _ _ _ (c .before .loop .inv .1)
-    (or-end _ _ (alts-end _ _ _ (c .before .before .count-of .ensures) (c .loop-test .left)))
+    (joined-end _ _ (alts-end _ _ _ (c .before .before .count-of .ensures) (c .loop-test .left)))
 
 pub widen-or-spec : {M : Type 1} → statement M
 widen-or-spec =
