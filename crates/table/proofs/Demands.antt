@@ -26,8 +26,8 @@ use Rattle.table.specs.inner.Pairs.{contradicts}
 use Rattle.table.specs.Fates.{lastWithin, left, fateOf}
 use Rattle.table.specs.Demands.{RequestW3}
 use Rattle.table.proofs.laws.slots.LastWithin as scan
-use Rattle.table.proofs.laws.slots.PutSlots as slots
-use Rattle.table.proofs.laws.slots.PutLaws as putting
+use Rattle.table.proofs.laws.slots.PutFates as slots
+use Rattle.table.proofs.laws.slots.PutInvariants as putting
 use Rattle.table.proofs.laws.steps.StepWorlds as stepping
 use Rattle.table.proofs.laws.starts.StartWorlds as starting
 use Rattle.table.proofs.laws.slots.DescribedTables as describing

@@ -1,6 +1,5 @@
 -- The picture: prime implicates, their order, their bytes (src/picture_clauses.rt, picture_order.rt, picture_bytes.rt).
 -- ---- may be cited from above
-pub mod ClausePut
 pub mod Primes
 pub mod PictureBytes
 pub mod PictureWorlds

@@ -1,7 +1,4 @@
--- The start: the candidates of a clause by worlds and by choices, the first table over arrays (src/starts.rt).
--- ---- may be cited from above
-pub mod StartArrays
--- ---- for this crate alone
+-- The start: the candidates of a clause by worlds and by choices, the first table over arrays (src/starts.rt). For this crate alone.
 pub mod LackedLiterals
 pub mod OtherAlternatives
 pub mod OneofWays
@@ -9,3 +6,5 @@ pub mod FalsifiedAlternatives
 pub mod PackedClauses
 pub mod ClauseCandidates
 pub mod StartWorlds
+pub mod StartArrays
+pub mod StartCall

@@ -2,9 +2,8 @@
 use mathlib.Core.Path.{sym, _∙_}
 use native.Mathlib.Omega.{arith}
 use borrow.Author.Tests.{not-true, not-false}
-use Rattle.table.specs.Entries.{entries}
-use Rattle.table.specs.Entries.{lent}
-use Rattle.table.proofs.laws.steps.StepArrays.{call-fault, off-sheet, its-most, its-count, undescribed, its-fits, known-step}
+use Rattle.table.specs.Entries.{entries, lent}
+use Rattle.table.proofs.laws.steps.StepCall.{call-fault, off-sheet, its-most, its-count, undescribed, its-fits, known-step}
 use borrow.Author.Needs.{needs}
 use Rattle.table.proofs.step_lent.Statement.{statement}
 use Rattle.table.proofs.step_lent.Tie as tie

@@ -32,7 +32,7 @@ use Rattle.table.specs.Entries.{entries, tableOf}
 use Rattle.table.specs.Calls.{startOf, actionAt, stepOf}
 use Rattle.table.specs.PictureCalls.{refusal, tooLong, given, pictureOf}
 use Rattle.table.specs.CallWords.{OnSheet, AsDescribed, Starts, Unsure, Contradictory, Untaken, StartStops, putImages}
-use Rattle.table.proofs.laws.starts.StartArrays.{at-proper}
+use Rattle.table.proofs.laws.steps.StepWorlds.{at-proper}
 use Rattle.table.proofs.Demands as tables
 use Rattle.table.proofs.laws.steps.StepWorlds as stepping
 use Rattle.table.proofs.laws.answers.CallTables as called

@@ -27,9 +27,8 @@ use Rattle.table.specs.Entries.{entries, tableOf}
 use Rattle.table.specs.Calls.{orGiven, startOf, actionAt, stepOf}
 use Rattle.table.specs.CallWords.{AsDescribed, ZeroAfter, Starts, WorldOf, images}
 use Rattle.table.proofs.laws.arrays.HeldLists.{entriesOf-pad}
-use Rattle.table.proofs.laws.starts.StartArrays.{at-proper}
-use Rattle.table.proofs.laws.steps.StepWorlds.{step-below, put-images}
-use Rattle.table.proofs.laws.pictures.ClausePut.{put-least}
+use Rattle.table.proofs.laws.steps.StepWorlds.{at-proper, step-below, put-images}
+use Rattle.table.proofs.laws.slots.LeastCandidates.{put-least}
 use Rattle.table.proofs.Demands as tables
 
 -- ---- a table in its slots

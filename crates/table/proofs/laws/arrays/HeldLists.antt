@@ -4,15 +4,14 @@ use mathlib.Core.List.{List, [], _∷_, _++_, map, map-append}
 use Prim.Native.Nat.{ℕ, zero, suc, _+_, _≤_, _<_}
 use native.Mathlib.Omega.{arith}
 use native.Mathlib.Nat.{le-of-suc-le-suc, not-suc-le-zero, suc-ne-zero, suc-inj}
-use lib.ListN.{length, getD, set, take, drop, replicate, length-map, length-append}
+use lib.ListN.{length, getD, set, take, replicate, length-map, length-append}
 use lib.Seq.{length-take-le, getD-take, ext-getD}
 use Rattle.sheet.specs.declared.Literals.{Literals}
 use Rattle.sheet.specs.Literals.{noLiteral}
 use Rattle.sheet.specs.Lists.{pad}
 use Rattle.table.specs.declared.Table.{Table}
-use Rattle.table.specs.Entries.{pairs, trues-of, falses-of, entriesOf, tableOf}
+use Rattle.table.specs.Entries.{pairs, trues-of, falses-of, entriesOf, tableOf, lent}
 use Rattle.table.specs.inner.Slots.{Room, Holds, Held}
-use Rattle.table.specs.Entries.{lent}
 use Rattle.sheet.proofs.laws.base.Padding.{length-pad, pad-nil, getD-pad, pad-pad, pad-set}
 
 -- ---- two arrays side by side

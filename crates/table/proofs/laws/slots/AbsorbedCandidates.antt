@@ -23,10 +23,10 @@ use Rattle.table.specs.Minimal.{putLast, putNew, put, putAll}
 use Rattle.table.specs.Entries.{entriesOf}
 use Rattle.table.specs.inner.Slots.{Held, Grew, Puts}
 use Rattle.table.proofs.laws.arrays.HeldLists.{length-entriesOf, holds-trues-long}
-use Rattle.table.proofs.laws.arrays.Compaction.{keep-length, keep-append}
-use Rattle.table.proofs.laws.slots.PutSlots.{put-dropped, put-added}
-use Rattle.table.proofs.laws.slots.PutLaws.{others, Placed, put-cases}
-use Rattle.table.proofs.laws.pictures.ClausePut.{within-equal}
+use Rattle.table.proofs.laws.arrays.KeptMembers.{keep-length, keep-append}
+use Rattle.table.proofs.laws.slots.PutFates.{put-dropped, put-added}
+use Rattle.table.proofs.laws.slots.PutInvariants.{others, Placed, put-cases}
+use Rattle.table.proofs.laws.slots.LeastCandidates.{within-equal}
 use Rattle.table.proofs.laws.slots.ConsistentCandidates.{left-out, stays-inconsistent}
 
 -- ---- c, and candidates that contain it

@@ -9,7 +9,7 @@ use Rattle.sheet.specs.declared.Literals.{Literals}
 use Rattle.sheet.specs.Literals.{join, consistent}
 use Rattle.sheet.specs.Lists.{addIf, keep, collect}
 use Rattle.sheet.proofs.laws.literals.LiteralSets.{consistent-join}
-use Rattle.table.proofs.laws.arrays.Compaction.{keep-append}
+use Rattle.table.proofs.laws.arrays.KeptMembers.{keep-append}
 use Rattle.table.specs.Entries.{entriesOf}
 use Rattle.table.proofs.laws.arrays.EntryLoops.{stored, entries-stored, entries-done}
 

@@ -9,17 +9,16 @@ use lib.ListN.{length, drop}
 use borrow.Author.Tests.{not-true}
 use Rattle.sheet.specs.declared.Literals.{Literals}
 use Rattle.sheet.specs.Literals.{single, sign, join, consistent, flip, literal, contains, members}
-use Rattle.sheet.specs.inner.Masks.{next}
+use Rattle.sheet.specs.inner.Masks.{next, minus}
 use Rattle.sheet.specs.Lists.{addIf, keep, collect}
 use Rattle.sheet.proofs.laws.literals.ProperSets.{flip-literal}
 use Rattle.sheet.proofs.laws.literals.LiteralSets.{consistent-join, consistent-single, clash-sym, clash-single, not-not}
 use Rattle.sheet.proofs.laws.literals.LiteralBytes.{next-found, members-nil}
 use Rattle.table.specs.Start.{falsify}
 use Rattle.table.specs.Step.{missing}
-use Rattle.sheet.specs.inner.Masks.{minus}
 use Rattle.table.proofs.laws.starts.LackedLiterals.{contains-lacks, members-lacks, members-first}
 use Rattle.sheet.specs.inner.Packed.{setsAt}
-use Rattle.table.proofs.laws.arrays.Compaction.{keep-append}
+use Rattle.table.proofs.laws.arrays.KeptMembers.{keep-append}
 use Rattle.sheet.proofs.laws.reader.PackedParts.{sets-end}
 use Rattle.table.proofs.laws.slots.ConsistentCandidates.{kept-one, left-out, stays-inconsistent, keep-split}
 

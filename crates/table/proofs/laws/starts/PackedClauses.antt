@@ -7,9 +7,12 @@ use lib.ListN.{length, getD, take, drop, length-drop}
 use lib.Seq.{length-take-le, getD-drop}
 use Rattle.sheet.specs.declared.Literals.{Literals}
 use Rattle.sheet.specs.Literals.{noLiteral}
-use Rattle.sheet.specs.inner.Packed.{setFrom, setsIn, SetsFit, itemAt}
+use Rattle.sheet.specs.inner.Packed.{setFrom, setsIn, SetsFit, itemAt, orsIn, oneofsIn}
 use Rattle.table.specs.inner.Starts.{ClausesFit}
-use Rattle.sheet.proofs.laws.reader.PackedParts.{sets-long, sets-step, sets-end, item-of-all}
+use Rattle.sheet.proofs.laws.reader.PackedParts.{sets-long, sets-step, sets-end, item-of-all, part-long}
+use Rattle.sheet.specs.declared.Sheet.{Sheet}
+use Rattle.sheet.specs.inner.Decoded.{Filled}
+use Rattle.sheet.proofs.laws.reader.ReadSheets.{ors-few, oneofs-few}
 
 -- ---- the alternatives
 
@@ -55,3 +58,15 @@ clause-fits n xs i fit h =
       ap (λ (k : ℕ). length (take k (drop (i * 17) xs))) e ∙ length-take-le 17 (drop (i * 17) xs) l,
       omega (arith, p, ap length (clause-is xs i), length-alts (clauseItem xs i)),
     )
+
+-- ---- the clauses of a sheet that was read, in their sections
+module _ (x : Sheet) (packed : List ℕ) (h : Filled x packed) where
+  pub ors-fit : ClausesFit (x .ors) (orsIn packed)
+  ors-fit =
+      let f = ors-few x packed (h .proper) in
+      record { room = omega (arith, f .0, part-long 0 136 packed (omega (arith, h .long))); few = f .1 }
+
+  pub oneofs-fit : ClausesFit (x .oneofs) (oneofsIn packed)
+  oneofs-fit =
+      let f = oneofs-few x packed (h .proper) in
+      record { room = omega (arith, f .0, part-long 136 136 packed (omega (arith, h .long))); few = f .1 }

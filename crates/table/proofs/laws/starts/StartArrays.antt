@@ -1,5 +1,6 @@
--- One clause, the clauses of a section, and the first table, on tables in lent arrays. Assumes nothing.
-use Prim.Native.Nat.{ℕ, zero, _+_, _≤_, _<_}
+-- One clause, the clauses of a section, and the first table, on tables in lent arrays. For `starts::grow`, `starts::grow_all` and
+-- `starts::first_into`. Assumes nothing.
+use Prim.Native.Nat.{ℕ, _≤_}
 use mathlib.Core.Path.{_≡_, refl, sym, ap, _∙_, subst}
 use mathlib.Core.List.{List, [], _∷_, _++_}
 use mathlib.Core.Option.{Option, none, some}
@@ -8,36 +9,22 @@ use lib.ListN.{length, replicate, set}
 use Rattle.sheet.specs.declared.Answer.the-variants.{Accepted, Refused}
 use Rattle.sheet.specs.declared.Literals.{Literals}
 use Rattle.sheet.specs.Literals.{consistent}
-use Rattle.sheet.specs.Format.{refused as faulty, sheetOf}
 use Rattle.sheet.specs.Lists.{keep, collect, pad}
-use Rattle.sheet.specs.Problem.{Problem}
-use Rattle.sheet.specs.Encoding.{ProperAction, ProperProblem}
-use Rattle.sheet.proofs.laws.base.ListFacts.{all-at}
 use Rattle.sheet.proofs.laws.reader.ReadSheets.{not-both}
 use Rattle.table.specs.declared.slots.Grown.{Grown}
 use Rattle.table.specs.declared.slots.Grown.the-variants as grown
 use Rattle.table.specs.declared.starts.Started.{Started}
 use Rattle.table.specs.declared.starts.Started.the-variants as started
 use Rattle.table.specs.declared.Table.{Table}
-use Rattle.sheet.specs.declared.Sheet.{Sheet}
-use Rattle.sheet.specs.inner.Packed.{orsIn, oneofsIn}
-use Rattle.sheet.specs.inner.Decoded.{Filled}
-use Rattle.sheet.proofs.laws.reader.PackedParts.{part-long}
-use Rattle.sheet.proofs.laws.reader.ReadSheets.{ors-few, oneofs-few}
 use Rattle.table.specs.declared.TableAnswer.{TableAnswer}
 use Rattle.table.specs.Minimal.{putAll, Outcome, refused, table}
 use Rattle.table.specs.Start.{Clause, candidates, fresh, grow, onTable, growAll}
 use Rattle.table.specs.Entries.{pairs, entriesOf, tableOf}
 use Rattle.table.specs.inner.Slots.{Fresh, Holds, Held, Grew, Puts}
-use Rattle.table.specs.inner.Starts.{ClausesFit, startAnswer}
-use Rattle.table.specs.Calls.{orGiven, startOf, actionAt}
+use Rattle.table.specs.inner.Starts.{startAnswer}
+use Rattle.table.specs.Calls.{orGiven}
 use Rattle.table.proofs.laws.arrays.HeldLists.{length-entriesOf, holds-entries, held as held-of, holds-table, table-holds}
-use Rattle.table.proofs.laws.slots.PutLaws.{put-all-size}
-
--- the moves of a problem are proper
-pub at-proper : (p : Problem) → ProperProblem p → (i : ℕ) → i < length (p .actions) → ProperAction (p .n) (actionAt p i)
-unfolding actionAt
-at-proper p hp i l = all-at (ProperAction (p .n)) (p .actions) i _ l (hp .actions .each)
+use Rattle.table.proofs.laws.slots.PutInvariants.{put-all-size}
 
 -- ---- what is in the arrays
 
@@ -202,28 +189,3 @@ module _ (known : Literals) (ts fs : List ℕ) (zeros : Fresh ts fs) where
 
     pub first-on : r ≡ started.To k → growAll 128 ds (entriesOf k us gs) ≡ growAll 128 (cs ++ ds) (known ∷ [])
     first-on e = sym (ap (λ (y : Outcome). onTable y (λ u. growAll 128 ds u)) (first-ready e .is)) ∙ whole
-
--- ---- the clauses of a sheet that was read, in their sections
-module _ (x : Sheet) (packed : List ℕ) (h : Filled x packed) where
-  pub ors-fit : ClausesFit (x .ors) (orsIn packed)
-  ors-fit =
-      let f = ors-few x packed (h .proper) in
-      record { room = omega (arith, f .0, part-long 0 136 packed (omega (arith, h .long))); few = f .1 }
-
-  pub oneofs-fit : ClausesFit (x .oneofs) (oneofsIn packed)
-  oneofs-fit =
-      let f = oneofs-few x packed (h .proper) in
-      record { room = omega (arith, f .0, part-long 136 136 packed (omega (arith, h .long))); few = f .1 }
-
--- ---- the call on bytes, and by value
-pub start-fault : (s : List ℕ) (k p : ℕ) → sheetOf s ≡ faulty k p → startAnswer (started.Refused k p) [] [] ≡ startOf (sheetOf s)
-unfolding startOf
-start-fault s k p e = sym (ap startOf e)
-
-pub start-by : (r x : Started) (ts fs : List ℕ) (d : TableAnswer) → r ≡ x → startAnswer r ts fs ≡ d → startAnswer x ts fs ≡ d
-start-by r x ts fs d e q = sym (ap (λ (y : Started). startAnswer y ts fs) e) ∙ q
-
--- no table
-pub start-refusal : (c : TableAnswer) (k p : ℕ) → (c .answer ≡ Refused k p) × (c .table ≡ tableOf []) → (d : TableAnswer)
-    → startAnswer (started.Refused k p) [] [] ≡ d → c ≡ d
-start-refusal c k p h d q = (λ j. record { answer = h .0 j; table = h .1 j }) ∙ q

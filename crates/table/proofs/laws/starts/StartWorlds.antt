@@ -20,7 +20,7 @@ use Rattle.sheet.proofs.laws.literals.ProperSets.{any-passed, some-world}
 use Rattle.table.specs.Worlds.{Starting}
 use Rattle.table.specs.Minimal.{In, Described, putAll, Outcome, refused, table}
 use Rattle.table.specs.Start.{Clause, orOf, oneOf, startClauses, candidates, fresh, grow, onTable, growAll, startTable, Stops}
-use Rattle.table.proofs.laws.slots.PutLaws.{put-all-all, put-all-antichain, put-all-size, put-all-in, put-all-out}
+use Rattle.table.proofs.laws.slots.PutInvariants.{put-all-all, put-all-antichain, put-all-size, put-all-in, put-all-out}
 use Rattle.table.proofs.laws.steps.StepWorlds.{code-is, table-refused, table-is}
 use Rattle.table.proofs.laws.starts.ClauseCandidates.{Meets, Alternatives, Low, candidates-low, candidates-in, candidates-out}
 

@@ -8,12 +8,11 @@ use native.Mathlib.Omega.{arith}
 use Rattle.sheet.specs.declared.Literals.{Literals}
 use Rattle.sheet.specs.declared.Effect.{Effect}
 use Rattle.sheet.specs.Literals.{join, flip, literal, within, clash, members}
-use Rattle.sheet.specs.inner.Masks.{next}
+use Rattle.sheet.specs.inner.Masks.{next, minus}
 use Rattle.sheet.specs.Lists.{collect}
 use Rattle.sheet.proofs.laws.literals.LiteralBytes.{scan, next-end, next-here, next-step, next-next, next-ge, members-next, members-loop, members-end}
 use Rattle.table.specs.Step.{splitBy, split, pieces, image}
 use Rattle.table.specs.inner.Carry.{partAt}
-use Rattle.sheet.specs.inner.Masks.{minus}
 use Rattle.table.proofs.laws.starts.LackedLiterals.{members-lacks}
 use Rattle.table.proofs.laws.slots.PutLoops.{Going}
 

@@ -6,7 +6,7 @@ use borrow.Author.Needs.{needs}
 use Rattle.sheet.specs.Literals.{within}
 use Rattle.table.proofs.laws.arrays.HeldLists.{holds-room}
 use Rattle.table.proofs.laws.slots.LastWithin.{tested, hit, found-some}
-use Rattle.table.proofs.laws.slots.PutSlots.{dropped, offered}
+use Rattle.table.proofs.laws.slots.PutFates.{dropped, offered}
 use Rattle.table.proofs.slots.offer_by_newest.Statement.{statement}
 use Rattle.table.proofs.slots.offer_by_newest.Tie as tie
 

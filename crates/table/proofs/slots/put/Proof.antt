@@ -4,7 +4,7 @@ use native.Mathlib.Omega.{arith}
 use borrow.Author.Needs.{needs}
 use Rattle.table.proofs.laws.arrays.HeldLists.{holds-trues-long, holds-falses-long, holds-room}
 use Rattle.table.proofs.laws.slots.LastWithin.{found-some, found-none}
-use Rattle.table.proofs.laws.slots.PutSlots.{dropped, full, placed, fewer}
+use Rattle.table.proofs.laws.slots.PutFates.{dropped, full, placed, fewer}
 use Rattle.table.proofs.slots.put.Statement.{statement}
 use Rattle.table.proofs.slots.put.Tie as tie
 

@@ -12,7 +12,8 @@ use Rattle.sheet.specs.declared.Literals.{Literals}
 use Rattle.sheet.specs.Literals.{within}
 use Rattle.table.specs.inner.Slots.{Holds}
 use Rattle.table.proofs.laws.arrays.HeldLists.{holds-falses-long, holds-room}
-use Rattle.table.proofs.laws.arrays.Compaction.{none-goes, Moved, moved-is, moved-start, moved-gone, moved-kept, moved-end}
+use Rattle.table.proofs.laws.arrays.KeptMembers.{none-goes}
+use Rattle.table.proofs.laws.arrays.Compaction.{Moved, moved-is, moved-start, moved-gone, moved-kept, moved-end}
 use Rattle.table.proofs.slots.remove.Statement.{statement}
 use Rattle.table.proofs.slots.remove.Tie as tie
 

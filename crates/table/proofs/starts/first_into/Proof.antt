@@ -6,7 +6,8 @@ use Rattle.sheet.specs.inner.Decoded.{problemIn}
 use Rattle.table.specs.Start.{orOf, oneOf, startClauses, startTable}
 use Rattle.table.specs.Entries.{tableOf}
 use Rattle.table.specs.Calls.{orGiven}
-use Rattle.table.proofs.laws.starts.StartArrays.{first-held, first-grown, first-on, first-refused, ors-fit, oneofs-fit}
+use Rattle.table.proofs.laws.starts.PackedClauses.{ors-fit, oneofs-fit}
+use Rattle.table.proofs.laws.starts.StartArrays.{first-held, first-grown, first-on, first-refused}
 use borrow.Author.Needs.{needs}
 use Rattle.table.proofs.starts.first_into.Statement.{statement}
 use Rattle.table.proofs.starts.first_into.Tie as tie

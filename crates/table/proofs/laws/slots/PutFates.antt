@@ -22,7 +22,7 @@ use Rattle.table.specs.Fates.{left, fateOf}
 use Rattle.table.specs.inner.Slots.{orElse, listAfter, Holds, Held, Grew, Puts}
 use Rattle.table.specs.Entries.{entriesOf}
 use Rattle.table.proofs.laws.arrays.HeldLists.{length-entriesOf, holds-push, holds-entries, held as held-of}
-use Rattle.table.proofs.laws.arrays.Compaction.{keep-length, keep-all}
+use Rattle.table.proofs.laws.arrays.KeptMembers.{keep-length, keep-all}
 
 -- ---- lists
 
