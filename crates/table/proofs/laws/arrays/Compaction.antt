@@ -51,7 +51,7 @@ pub record Moved (f : Literals → Bool) (n : ℕ) (ts₀ fs₀ : List ℕ) (ts 
 
 module _ (f : Literals → Bool) (n : ℕ) (ts₀ fs₀ : List ℕ) (held : Held (length ts₀) n ts₀ fs₀) where
   falses-long₀ : length fs₀ ≡ length ts₀
-  falses-long₀ = holds-falses-long _ _ _ _ _ held
+  falses-long₀ = holds-falses-long held
 
   -- the first i entries, all of them kept, stand where they are
   pub moved-start : (i : ℕ) → i ≤ n → keep f (entriesOf i ts₀ fs₀) ≡ entriesOf i ts₀ fs₀ → Moved f n ts₀ fs₀ ts₀ fs₀ i i

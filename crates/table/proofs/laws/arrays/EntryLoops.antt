@@ -80,12 +80,12 @@ pub record AllFrom (f : Literals → Bool) (n : ℕ) (ts fs : List ℕ) (i : ℕ
   pub upto : i ≤ n
   pub onwards : allOf f (entriesOf n ts fs) ≡ allOf f (drop i (entriesOf n ts fs))
 
-module _ (f : Literals → Bool) (n : ℕ) (ts fs : List ℕ) where
+module _ {f : Literals → Bool} {n : ℕ} {ts fs : List ℕ} where
   pub all-start : AllFrom f n ts fs 0
   all-start = record { upto = omega arith; onwards = refl }
 
-  module _ (i : ℕ) (g : AllFrom f n ts fs i) where
-    module _ (e : Literals) (b : Bool) (lt : i < n) (read : e ≡ slot ts fs i) (is : b ≡ f e) where
+  module _ {i : ℕ} (g : AllFrom f n ts fs i) where
+    module _ {e : Literals} {b : Bool} (lt : i < n) (read : e ≡ slot ts fs i) (is : b ≡ f e) where
       pub all-fails : b ≡ false → false ≡ allOf f (entriesOf n ts fs)
       all-fails q = all-stop f e _ _ b (entries-next n ts fs i e lt read) is q ∙ sym (g .onwards)
 
@@ -100,12 +100,12 @@ pub record AnyFrom (f : Literals → Bool) (n : ℕ) (ts fs : List ℕ) (t : Boo
   pub upto : i ≤ n
   pub onwards : anyOf f (entriesOf n ts fs) ≡ (t || anyOf f (drop i (entriesOf n ts fs)))
 
-module _ (f : Literals → Bool) (n : ℕ) (ts fs : List ℕ) where
+module _ {f : Literals → Bool} {n : ℕ} {ts fs : List ℕ} where
   pub any-start : AnyFrom f n ts fs false 0
   any-start = record { upto = omega arith; onwards = refl }
 
-  module _ (t : Bool) (i : ℕ) (g : AnyFrom f n ts fs t i) where
-    module _ (e : Literals) (b : Bool) (lt : i < n) (read : e ≡ slot ts fs i) (is : b ≡ f e) (t′ : Bool) where
+  module _ {t : Bool} {i : ℕ} (g : AnyFrom f n ts fs t i) where
+    module _ {e : Literals} {b : Bool} (lt : i < n) (read : e ≡ slot ts fs i) (is : b ≡ f e) {t′ : Bool} where
       from : (x : Bool) → (t || anyOf f (drop i (entriesOf n ts fs))) ≡ (x || anyOf f (drop (i + 1) (entriesOf n ts fs))) → t′ ≡ x
           → AnyFrom f n ts fs t′ (i + 1)
       from x q r = record {

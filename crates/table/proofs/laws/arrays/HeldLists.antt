@@ -70,46 +70,41 @@ entriesOf-pad n es h =
     pad-back f = rw (← length-map es f) (pad-pad n 0 (map f es) (rw (length-map es f) h))
 
 -- ---- what holds a list
+module _ {cap : ℕ} {es : List Literals} {n : ℕ} {ts fs : List ℕ} (h : Holds cap es n ts fs) where
+  pub holds-trues-long : length ts ≡ cap
+  holds-trues-long = ap length (h .trues-are) ∙ length-pad cap 0 (trues-of es)
 
-pub holds-trues-long : (cap : ℕ) (es : List Literals) (n : ℕ) (ts fs : List ℕ) → Holds cap es n ts fs → length ts ≡ cap
-holds-trues-long cap es n ts fs h = ap length (h .trues-are) ∙ length-pad cap 0 (trues-of es)
+  pub holds-falses-long : length fs ≡ cap
+  holds-falses-long = ap length (h .falses-are) ∙ length-pad cap 0 (falses-of es)
 
-pub holds-falses-long : (cap : ℕ) (es : List Literals) (n : ℕ) (ts fs : List ℕ) → Holds cap es n ts fs → length fs ≡ cap
-holds-falses-long cap es n ts fs h = ap length (h .falses-are) ∙ length-pad cap 0 (falses-of es)
+  -- there is room for what is held
+  pub holds-room : Room n ts fs
+  holds-room = record { trues = omega (arith, h .room, holds-trues-long); falses = omega (arith, h .room, holds-falses-long) }
 
--- there is room for what is held
-pub holds-room : (cap : ℕ) (es : List Literals) (n : ℕ) (ts fs : List ℕ) → Holds cap es n ts fs → Room n ts fs
-holds-room cap es n ts fs h = record {
-  trues = omega (arith, h .room, holds-trues-long cap es n ts fs h);
-  falses = omega (arith, h .room, holds-falses-long cap es n ts fs h);
-}
+  -- one entry more
+  pub holds-push : n < cap → (l : Literals) → Holds cap (es ++ l ∷ []) (n + 1) (set ts n (l .trues)) (set fs n (l .falses))
+  holds-push lt l = record {
+    count-is = omega (arith, h .count-is, length-append es (l ∷ []));
+    room = omega arith;
+    trues-are = ap (λ (r : List ℕ). set r n (l .trues)) (h .trues-are) ∙ pushed (λ (e : Literals). e .trues);
+    falses-are = ap (λ (r : List ℕ). set r n (l .falses)) (h .falses-are) ∙ pushed (λ (e : Literals). e .falses);
+  }
+    where
+      pushed : (f : Literals → ℕ) → set (pad cap 0 (map f es)) n (f l) ≡ pad cap 0 (map f (es ++ l ∷ []))
+      pushed f =
+          pad-set cap 0 (map f es) (f l) n (length-map es f ∙ sym (h .count-is)) lt ∙ ap (pad cap 0) (sym (map-append f es (l ∷ [])))
 
--- one entry more
-pub holds-push : (cap : ℕ) (es : List Literals) (n : ℕ) (ts fs : List ℕ) → Holds cap es n ts fs → n < cap → (l : Literals)
-    → Holds cap (es ++ l ∷ []) (n + 1) (set ts n (l .trues)) (set fs n (l .falses))
-holds-push cap es n ts fs h lt l = record {
-  count-is = omega (arith, h .count-is, length-append es (l ∷ []));
-  room = omega arith;
-  trues-are = ap (λ (r : List ℕ). set r n (l .trues)) (h .trues-are) ∙ pushed (λ (e : Literals). e .trues);
-  falses-are = ap (λ (r : List ℕ). set r n (l .falses)) (h .falses-are) ∙ pushed (λ (e : Literals). e .falses);
-}
-  where
-    pushed : (f : Literals → ℕ) → set (pad cap 0 (map f es)) n (f l) ≡ pad cap 0 (map f (es ++ l ∷ []))
-    pushed f =
-        pad-set cap 0 (map f es) (f l) n (length-map es f ∙ sym (h .count-is)) lt ∙ ap (pad cap 0) (sym (map-append f es (l ∷ [])))
+  -- the entries read back
+  pub holds-entries : entriesOf n ts fs ≡ es
+  holds-entries = rw (h .trues-are, h .falses-are, h .count-is) (entriesOf-pad cap es (rw (← h .count-is) (h .room)))
 
--- the entries read back
-pub holds-entries : (cap : ℕ) (es : List Literals) (n : ℕ) (ts fs : List ℕ) → Holds cap es n ts fs → entriesOf n ts fs ≡ es
-holds-entries cap es n ts fs h =
-    rw (h .trues-are, h .falses-are, h .count-is) (entriesOf-pad cap es (rw (← h .count-is) (h .room)))
-
--- so what holds a list holds what is read back
-pub held : (cap : ℕ) (es : List Literals) (n : ℕ) (ts fs : List ℕ) → Holds cap es n ts fs → Held cap n ts fs
-held cap es n ts fs h = subst (λ (x : List Literals). Holds cap x n ts fs) (sym (holds-entries cap es n ts fs h)) h
+  -- so what holds a list holds what is read back
+  pub held : Held cap n ts fs
+  held = subst (λ (x : List Literals). Holds cap x n ts fs) (sym holds-entries) h
 
 -- what is held in slices, at their own length
-pub held-own : (cap n : ℕ) (ts fs : List ℕ) → Held cap n ts fs → Held (length ts) n ts fs
-held-own cap n ts fs h = subst (λ (k : ℕ). Held k n ts fs) (sym (holds-trues-long _ _ _ _ _ h)) h
+pub held-own : {cap n : ℕ} {ts fs : List ℕ} → Held cap n ts fs → Held (length ts) n ts fs
+held-own {n = n} {ts = ts} {fs = fs} h = subst (λ (k : ℕ). Held k n ts fs) (sym (holds-trues-long h)) h
 
 -- ---- a table in lent arrays: the table of the list that they hold
 

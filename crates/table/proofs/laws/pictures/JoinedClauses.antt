@@ -41,7 +41,7 @@ module _ (n : ℕ) (ts fs : List ℕ) (i : ℕ) (u : List Literals) where
 pub folded : (s : List Literals) (e : Literals) (cap m : ℕ) (us vs : List ℕ) (ts fs : List ℕ) (r : Grown) (ts′ fs′ : List ℕ)
     → Holds cap (units e) m us vs
     → Puts (unions s (entriesOf m us vs)) 0 ts fs r ts′ fs′ → Puts (unions s (units e)) 0 ts fs r ts′ fs′
-folded s e cap m us vs ts fs r ts′ fs′ h w = subst (λ (u : List Literals). Puts (unions s u) 0 ts fs r ts′ fs′) (holds-entries _ _ _ _ _ h)
+folded s e cap m us vs ts fs r ts′ fs′ h w = subst (λ (u : List Literals). Puts (unions s u) 0 ts fs r ts′ fs′) (holds-entries h)
     w
 
 -- with i entries joined in, those that are left give z
@@ -56,8 +56,8 @@ folds : (z : Option (List Literals)) (es : List Literals) (i n : ℕ) (ts fs : L
     → fold 256 (entriesOf n ts fs) (drop i es) ≡ z → Folds z es i n ts fs
 folds z es i n ts fs h o = record {
   room = h .room;
-  trues-long = holds-trues-long _ _ _ _ _ h;
-  falses-long = holds-falses-long _ _ _ _ _ h;
+  trues-long = holds-trues-long h;
+  falses-long = holds-falses-long h;
   held = h;
   onwards = o;
 }
@@ -67,8 +67,8 @@ module _ (count : ℕ) (xs ys : List ℕ) where
       → Folds (primes 256 (entriesOf count xs ys)) (entriesOf count xs ys) 1 n ts fs
   unfolding primes slot
   folds-start n ts fs le h =
-      folds _ _ 1 n ts fs (held-of _ _ _ _ _ h)
-      (ap (λ (x : List Literals). fold 256 x (drop 1 (entriesOf count xs ys))) (holds-entries _ _ _ _ _ h)
+      folds _ _ 1 n ts fs (held-of h)
+      (ap (λ (x : List Literals). fold 256 x (drop 1 (entriesOf count xs ys))) (holds-entries h)
       ∙ sym (ap (primes 256) (entries-next count xs ys 0 (record { trues = getD xs 0 0; falses = getD ys 0 0 }) le refl)))
 
   module _ (z : Option (List Literals)) (i n : ℕ) (ts fs : List ℕ) (g : Folds z (entriesOf count xs ys) i n ts fs) where

@@ -84,7 +84,7 @@ module _ (n : ℕ) (es : List Literals) (buffer : List ℕ) where
             (ap (λ (x : ℕ). record { answer = Accepted; clauses = x }) k
             ∙ cond-false (refusal 23 0) (record { answer = Accepted; clauses = length s }) l)
             (w
-            ∙ ap₂ (λ (x : List Literals) (y : ℕ). pictureBytes x ++ drop (2 + 8 * y) buffer) (holds-entries _ _ _ _ _ (clauses-are .2)) k
+            ∙ ap₂ (λ (x : List Literals) (y : ℕ). pictureBytes x ++ drop (2 + 8 * y) buffer) (holds-entries (clauses-are .2)) k
             ∙ cond-false buffer (pictureBytes s ++ drop (2 + 8 * length s) buffer) l)
 
 -- ---- the call

@@ -185,7 +185,7 @@ module _ (c : Literals) (us : List Literals) (h : Any (λ u. T (within u c)) us)
       → Puts (keep consistent (c ∷ [])) k ts fs r ts′ fs′ → Puts joined k ts fs r ts′ fs′
   puts-alone cap m k ts fs r ts′ fs′ g e l w =
       let room : length (entriesOf k ts fs) + length us ≤ length
-      ts = omega (arith, e, l, length-entriesOf k ts fs, g .room, holds-trues-long _ _ _ _ _ g) in
+      ts = omega (arith, e, l, length-entriesOf k ts fs, g .room, holds-trues-long g) in
       record {
         grew = subst (λ (o : Option (List Literals)). Grew (length ts) o r ts′ fs′) (alone (length ts) (entriesOf k ts fs) room)
             (w .grew);

@@ -20,10 +20,10 @@ pub length-alts : (xs : List ℕ) → length (setsIn xs) ≡ getD xs 0 0
 unfolding setsIn
 length-alts xs = sets-long (getD xs 0 0) (drop 1 xs)
 
-module _ (xs : List ℕ) (i n : ℕ) (e : n ≡ getD xs 0 0) where
-  pub alts-step : (a : Literals) → i < n → a ≡ setFrom (drop 1 xs) (2 * i) → drop i (setsIn xs) ≡ a ∷ drop (i + 1) (setsIn xs)
+module _ (xs : List ℕ) {i n : ℕ} (e : n ≡ getD xs 0 0) where
+  pub alts-step : {a : Literals} → i < n → a ≡ setFrom (drop 1 xs) (2 * i) → drop i (setsIn xs) ≡ a ∷ drop (i + 1) (setsIn xs)
   unfolding setsIn
-  alts-step a h q = sets-step (getD xs 0 0) (drop 1 xs) i a (omega arith) q
+  alts-step {a} h q = sets-step (getD xs 0 0) (drop 1 xs) i a (omega arith) q
 
   pub alts-end : n ≤ i → drop i (setsIn xs) ≡ []
   unfolding setsIn
@@ -35,7 +35,7 @@ alt-at xs i a h q =
     let e : i ≡ i + 0 = omega arith in
     ap (λ (k : ℕ). getD (setsIn xs) k noLiteral) e
     ∙ sym (getD-drop i (setsIn xs) 0 noLiteral)
-    ∙ ap (λ (x : List Literals). getD x 0 noLiteral) (alts-step xs i _ refl a h q)
+    ∙ ap (λ (x : List Literals). getD x 0 noLiteral) (alts-step xs refl h q)
 
 -- ---- the clauses
 

@@ -58,7 +58,7 @@ ready o r k ts fs small w e = at o refl (subst (λ (x : Started). Right o x ts f
     at (refused j) q v = not-both Accepted j 0 refl (ap (λ (y : TableAnswer). y .answer) v)
     at (table u) q v =
         let h = table-holds u k ts fs (small u q) (ap (λ (y : TableAnswer). y .table) v) in
-        record { held = held-of _ _ _ _ _ h; is = q ∙ sym (ap table (holds-entries _ _ _ _ _ h)) }
+        record { held = held-of h; is = q ∙ sym (ap table (holds-entries h)) }
 
 -- a refusal stays
 pub refusal : (o : Outcome) (r : Started) (k p : ℕ) (ts fs : List ℕ) (f : List Literals → Outcome) → Right o r ts fs
@@ -167,13 +167,13 @@ module _ (known : Literals) (ts fs : List ℕ) (zeros : Fresh ts fs) where
   }
 
   pub first-held : Held 128 1 (set ts 0 (known .trues)) (set fs 0 (known .falses))
-  first-held = held-of _ _ _ _ _ one
+  first-held = held-of one
 
   module _ (cs ds : List Clause) (r : Started) (us gs : List ℕ)
       (w : Right (growAll 128 cs (entriesOf 1 (set ts 0 (known .trues)) (set fs 0 (known .falses)))) r us gs) (k : ℕ) where
     whole : onTable (growAll 128 cs (entriesOf 1 (set ts 0 (known .trues)) (set fs 0 (known .falses)))) (λ u. growAll 128 ds u)
         ≡ growAll 128 (cs ++ ds) (known ∷ [])
-    whole = ap (λ (y : List Literals). onTable (growAll 128 cs y) (λ u. growAll 128 ds u)) (holds-entries _ _ _ _ _ one)
+    whole = ap (λ (y : List Literals). onTable (growAll 128 cs y) (λ u. growAll 128 ds u)) (holds-entries one)
         ∙ sym (growAll-append cs ds (known ∷ []))
 
     pub first-refused : (p : ℕ) → r ≡ started.Refused k p → Right (growAll 128 (cs ++ ds) (known ∷ [])) (started.Refused k p) us gs

@@ -18,8 +18,8 @@ join-lists-requires c κs =
     record {
       room = o .pre .0;
       others-room = record {
-        trues = omega (arith, h .room, holds-trues-long _ _ _ _ _ h);
-        falses = omega (arith, h .room, holds-falses-long _ _ _ _ _ h);
+        trues = omega (arith, h .room, holds-trues-long h);
+        falses = omega (arith, h .room, holds-falses-long h);
       };
       held = o .pre .1;
     }

@@ -24,26 +24,26 @@ abbrev μ-loop : tie.MeasureT-loop
 μ-loop clause other-trues other-falses others to-trues₀ to-falses₀ count filled₀ i₀ to-trues to-falses filled i = others - i
 
 loop-holds : tie.Need-loop-holds Inv-loop μ-loop
-loop-holds c = (omega arith, going-start _ _ _ _ _ refl (c .before .before .before .before .pre .1))
+loop-holds c = (omega arith, going-start refl (c .before .before .before .before .pre .1))
 
 admit-requires : tie.Need-admit-requires Inv-loop μ-loop
 admit-requires c κs =
     let at-loop = c .before .before .before .before .before .before in
-    held-own _ _ _ _ (at-loop .loop .inv .1 .held)
+    held-own (at-loop .loop .inv .1 .held)
 
 same-length : tie.Need-same-length Inv-loop μ-loop
 same-length c =
     let after-admit = c .before .before .before .before .before .before in
     let at-loop = after-admit .before .before .before .before .before .before .before in
-    after-admit .admit .kept .0 ∙ holds-trues-long _ _ _ _ _ (at-loop .loop .inv .1 .held)
+    after-admit .admit .kept .0 ∙ holds-trues-long (at-loop .loop .inv .1 .held)
 
 same-length-2 : tie.Need-same-length-2 Inv-loop μ-loop
 same-length-2 c =
     let after-admit = c .before .before .before .before .before .before in
     let at-loop = after-admit .before .before .before .before .before .before .before in
     let start = at-loop .before .before .before .before .before in
-    after-admit .admit .kept .1 .0 ∙ holds-falses-long _ _ _ _ _ (at-loop .loop .inv .1 .held)
-    ∙ sym (holds-falses-long _ _ _ _ _ (start .pre .1))
+    after-admit .admit .kept .1 .0 ∙ holds-falses-long (at-loop .loop .inv .1 .held)
+    ∙ sym (holds-falses-long (start .pre .1))
 
 returns : tie.Need-returns Inv-loop μ-loop
 returns c =
@@ -51,7 +51,7 @@ returns c =
     let after-join = after-admit .before in
     let after-loop-test = after-join .before .before .before .before .before in
     let at-loop = after-loop-test .before in
-    going-full _ _ _ _ _ _ _ _ _ _ _ _ _ (at-loop .loop .inv .1)
+    going-full _ (at-loop .loop .inv .1)
     (joined-entry _ _ _ _ _ _ (after-loop-test .loop-test .taken) (after-join .join .ensures)) (after-admit .admit .ensures)
     (c .enum-told .given .1)
 
@@ -62,21 +62,21 @@ loop-again c =
     let after-loop-test = after-join .before .before .before .before .before in
     let at-loop = after-loop-test .before in (
       omega (arith, after-loop-test .loop-test .taken),
-      going-on _ _ _ _ _ _ _ _ _ _ _ _ _ (at-loop .loop .inv .1)
-          (joined-entry _ _ _ _ _ _ (after-loop-test .loop-test .taken) (after-join .join .ensures)) (after-admit .admit .ensures) _
+      going-on _ (at-loop .loop .inv .1)
+          (joined-entry _ _ _ _ _ _ (after-loop-test .loop-test .taken) (after-join .join .ensures)) (after-admit .admit .ensures)
           (c .before .grown .given .1),
     )
 
 same-length-3 : tie.Need-same-length-3 Inv-loop μ-loop
-same-length-3 c = holds-trues-long _ _ _ _ _ (c .before .loop .inv .1 .held)
+same-length-3 c = holds-trues-long (c .before .loop .inv .1 .held)
 
 same-length-4 : tie.Need-same-length-4 Inv-loop μ-loop
 same-length-4 c =
     let start = c .before .before .before .before .before .before in
-    holds-falses-long _ _ _ _ _ (c .before .loop .inv .1 .held) ∙ sym (holds-falses-long _ _ _ _ _ (start .pre .1))
+    holds-falses-long (c .before .loop .inv .1 .held) ∙ sym (holds-falses-long (start .pre .1))
 
 returns-2 : tie.Need-returns-2 Inv-loop μ-loop
-returns-2 c = going-end _ _ _ _ _ _ _ _ (c .before .loop .inv .1) (joined-none _ _ _ _ _ (c .loop-test .left))
+returns-2 c = going-end (c .before .loop .inv .1) (joined-none _ _ _ _ _ (c .loop-test .left))
 
 pub put-joined-spec : {M : Type 1} → statement M
 put-joined-spec =

@@ -23,11 +23,11 @@ returns c =
     let after-offer = c .before .before .before .before in
     let after-if1 = after-offer .before .before .before in
     let after-consistent = after-if1 .before in
-    puts-is _ _ _ _ _ _ _ _ (sym (kept-one _ (sym (after-consistent .consistent .ensures) ∙ after-if1 .if1 .taken)))
+    puts-is (sym (kept-one _ (sym (after-consistent .consistent .ensures) ∙ after-if1 .if1 .taken)))
     (after-offer .offer .ensures)
 
 returns-2 : tie.Need-returns-2
-returns-2 c = nothing-put _ _ _ _ (left-out _ (sym (c .before .consistent .ensures) ∙ c .if1 .left))
+returns-2 c = nothing-put (left-out _ (sym (c .before .consistent .ensures) ∙ c .if1 .left))
     (c .before .before .before .before .pre)
 
 pub admit-spec : {M : Type 1} → statement M

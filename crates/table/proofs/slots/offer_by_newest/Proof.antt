@@ -12,7 +12,7 @@ use Rattle.table.proofs.slots.offer_by_newest.Tie as tie
 
 entry-at-requires : tie.Need-entry-at-requires
 entry-at-requires c κs =
-    let room = holds-room _ _ _ _ _ (c .before .before .before .before .before .pre) in
+    let room = holds-room (c .before .before .before .before .before .pre) in
     record { trues = omega (arith, room .trues); falses = omega (arith, room .falses) }
 
 returns : tie.Need-returns

@@ -9,7 +9,7 @@ use Rattle.table.proofs.slots.put.Statement.{statement}
 use Rattle.table.proofs.slots.put.Tie as tie
 
 last-within-requires : tie.Need-last-within-requires
-last-within-requires c κs = holds-room _ _ _ _ _ (c .before .before .before .before .pre)
+last-within-requires c κs = holds-room (c .before .before .before .before .pre)
 
 returns : tie.Need-returns
 returns c =
@@ -20,7 +20,7 @@ returns c =
     let m = after-5 in
     full _ _ _ _ _ (start .pre) _ _ _ (m .remove .ensures)
     (found-none _ _ _ (after-last-within .last-within .ensures) (after-enum-told2 .enum-told2 .given .1))
-    (c .if1 .taken ∙ holds-trues-long _ _ _ _ _ (m .remove .ensures))
+    (c .if1 .taken ∙ holds-trues-long (m .remove .ensures))
 
 slice-write-falses : tie.Need-slice-write-falses
 slice-write-falses c =
@@ -29,8 +29,8 @@ slice-write-falses c =
       arith,
       m .remove .ensures .room,
       c .if1 .left,
-      holds-trues-long _ _ _ _ _ (m .remove .ensures),
-      holds-falses-long _ _ _ _ _ (m .remove .ensures),
+      holds-trues-long (m .remove .ensures),
+      holds-falses-long (m .remove .ensures),
     )
 
 sub-t16 : tie.Need-sub-t16
@@ -58,7 +58,7 @@ returns-3 c =
     let m = after-5 in
     placed _ _ _ _ _ (start .pre) _ _ _ (m .remove .ensures)
     (found-none _ _ _ (after-last-within .last-within .ensures) (after-enum-told2 .enum-told2 .given .1))
-    (λ e. c .if1 .left (e ∙ sym (holds-trues-long _ _ _ _ _ (m .remove .ensures))))
+    (λ e. c .if1 .left (e ∙ sym (holds-trues-long (m .remove .ensures))))
 
 pub put-spec : {M : Type 1} → statement M
 put-spec =

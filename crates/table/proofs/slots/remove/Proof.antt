@@ -25,7 +25,7 @@ abbrev μ-loop : tie.MeasureT-loop
 μ-loop trues₀ falses₀ count candidate first i₀ filled₀ trues falses i filled = count - i
 
 some-above-requires : tie.Need-some-above-requires Inv-loop μ-loop
-some-above-requires c κs = holds-room _ _ _ _ _ (c .before .before .before .before .pre)
+some-above-requires c κs = holds-room (c .before .before .before .before .pre)
 
 returns : tie.Need-returns Inv-loop μ-loop
 returns c =
@@ -38,7 +38,7 @@ returns c =
 first-above-requires : tie.Need-first-above-requires Inv-loop μ-loop
 first-above-requires c κs =
     let start = c .before .before .before .before .before .before .before .before in
-    holds-room _ _ _ _ _ (start .pre)
+    holds-room (start .pre)
 
 loop-holds : tie.Need-loop-holds Inv-loop μ-loop
 loop-holds c =
@@ -71,7 +71,7 @@ same-length-3 c = c .before .loop .inv .trues-long
 same-length-4 : tie.Need-same-length-4 Inv-loop μ-loop
 same-length-4 c =
     let start = c .before .before .before .before .before .before .before .before .before .before .before in
-    c .before .loop .inv .falses-long ∙ sym (holds-falses-long _ _ _ _ _ (start .pre))
+    c .before .loop .inv .falses-long ∙ sym (holds-falses-long (start .pre))
 
 returns-2 : tie.Need-returns-2 Inv-loop μ-loop
 returns-2 c =

@@ -21,15 +21,15 @@ unfolding slot
 loop-again c =
     let g = c .before .before .before .before .before .loop .inv in
     ⊎-elim
-    (λ v. any-hit _ _ _ _ _ _ g _ _ (omega arith) refl (c .before .within .ensures) _ (v .0 .taken) (v .1))
-    (λ v. any-missed _ _ _ _ _ _ g _ _ (omega arith) refl (c .before .within .ensures) _ (v .0 .left) (v .1))
+    (λ v. any-hit g (omega arith) refl (c .before .within .ensures) (v .0 .taken) (v .1))
+    (λ v. any-missed g (omega arith) refl (c .before .within .ensures) (v .0 .left) (v .1))
     (c .if1 .came)
 
 returns : tie.Need-returns Inv-loop μ-loop
-returns c = any-told _ _ _ _ _ _ (c .before .loop .inv) (omega arith)
+returns c = any-told (c .before .loop .inv) (omega arith)
 
 pub some-above-spec : {M : Type 1} → statement M
 some-above-spec =
     tie.close
-    (tie.spec Inv-loop μ-loop (λ c. any-start _ _ _ _) (λ c. omega arith) (λ c. omega arith) (λ c. omega arith) (λ c. omega arith)
+    (tie.spec Inv-loop μ-loop (λ c. any-start) (λ c. omega arith) (λ c. omega arith) (λ c. omega arith) (λ c. omega arith)
     (λ c κs. search needs) (λ c. omega arith) (λ c. omega arith) loop-again returns)

@@ -78,7 +78,7 @@ choose-offer-by-newest-requires t c κs = c .before .before .before .pre .1 .hel
 choose-returns : (t : ℕ) → choose-lts.Need-returns (claims t) (choose-at t) choose.Post choose-Inv-loop choose-μ-loop
 choose-returns t c =
     let s = c .before .before .before .before in
-    puts-is _ _ _ _ _ _ _ _ (chosen-all (s .args .size) (s .args .laid .now) (s .args .at) _ (omega arith) (s .pre .1 .steady))
+    puts-is (chosen-all (s .args .size) (s .args .laid .now) (s .args .at) _ (omega arith) (s .pre .1 .steady))
     (c .offer-by-newest .ensures)
 
 choose-add-after : (t : ℕ) → choose-lts.Need-add-after (claims t) (choose-at t) choose.Post choose-Inv-loop choose-μ-loop
@@ -99,7 +99,7 @@ choose-next-requires t c κs = search needs
 choose-loop-holds : (t : ℕ) → choose-lts.Need-loop-holds (claims t) (choose-at t) choose.Post choose-Inv-loop choose-μ-loop
 choose-loop-holds t c =
     let s = c .before .before .before .before .before in (
-      going-start _ _ _ _ _ (choices-start _ _ _ _ _ (s .pre .1 .steady)
+      going-start (choices-start _ _ _ _ _ (s .pre .1 .steady)
           (sets-step (s .args .size) (s .args .laid .now) (s .args .at) _ (omega arith) (c .before .before .set-from .ensures))
           (c .before .minus .ensures)) (s .pre .1 .held),
       c .next .ensures,
@@ -125,7 +125,7 @@ choose-choose-requires t c κs =
         room = s .pre .1 .room;
         steady = chosen-steady _ _ _ _ _ _ (s .pre .1 .steady) (w .2) (w .1) (o .before .before .before .loop-test .taken)
             (o .before .before .literal .ensures) (o .before .flip .ensures) (o .join .ensures);
-        held = held-own _ _ _ _ (w .0 .held);
+        held = held-own (w .0 .held);
       },
     )
 
@@ -139,13 +139,13 @@ choose-returns-2 : (t : ℕ) → choose-lts.Need-returns-2 (claims t) (choose-at
 choose-returns-2 t c =
     let o = c .before .before .before .before .before .before in
     let w = o .before .before .before .before .loop .inv in
-    going-full _ _ _ _ _ _ _ _ _ _ _ _ _ (w .0)
+    going-full _ (w .0)
     (choices-step _ _ _ _ _ _ _ _ (w .1) (o .before .before .before .loop-test .taken) (o .before .before .literal .ensures)
     (o .before .flip .ensures) (o .join .ensures) refl) (c .before .before .choose .ensures) (c .enum-told .given .1)
 
 choose-offer-by-newest-requires-2 : (t : ℕ) → choose-lts.Need-offer-by-newest-requires-2 (claims t) (choose-at t) choose.Post
     choose-Inv-loop choose-μ-loop
-choose-offer-by-newest-requires-2 t c κs = held-own _ _ _ _ (c .before .before .before .before .before .before .before .loop .inv .0 .held)
+choose-offer-by-newest-requires-2 t c κs = held-own (c .before .before .before .before .before .before .before .loop .inv .0 .held)
 
 choose-enum-known-grown-2 : (t : ℕ) → choose-lts.Need-enum-known-grown-2 (claims t) (choose-at t) choose.Post choose-Inv-loop choose-μ-loop
 choose-enum-known-grown-2 t c = search needs
@@ -162,9 +162,9 @@ choose-returns-3 t c =
     (o .before .before .literal .ensures) (o .before .flip .ensures) (o .join .ensures) in
     let q = chosen-all (s .args .size) (s .args .laid .now) (s .args .at + 1) _ (c .before .before .before .before .before .if2 .left)
     steady in
-    going-full _ _ _ _ _ _ _ _ _ _ _ _ _ (w .0)
+    going-full _ (w .0)
     (choices-step _ _ _ _ _ _ _ _ (w .1) (o .before .before .before .loop-test .taken) (o .before .before .literal .ensures)
-    (o .before .flip .ensures) (o .join .ensures) refl) (puts-is _ _ _ _ _ _ _ _ q (c .before .before .offer-by-newest2 .ensures))
+    (o .before .flip .ensures) (o .join .ensures) refl) (puts-is q (c .before .before .offer-by-newest2 .ensures))
     (c .enum-told2 .given .1)
 
 choose-lacking-requires-2 : (t : ℕ) → choose-lts.Need-minus-requires-2 (claims t) (choose-at t) choose.Post choose-Inv-loop choose-μ-loop
@@ -186,21 +186,21 @@ choose-loop-again t c =
     let w = o .before .before .before .before .loop .inv in
     let steady = chosen-steady _ _ _ _ _ _ (s .pre .1 .steady) (w .2) (w .1) (o .before .before .before .loop-test .taken)
     (o .before .before .literal .ensures) (o .before .flip .ensures) (o .join .ensures) in (
-      going-on _ _ _ _ _ _ _ _ _ _ _ _ _ (w .0)
+      going-on _ (w .0)
           (choices-step _ _ _ _ _ _ _ _ (w .1) (o .before .before .before .loop-test .taken) (o .before .before .literal .ensures)
           (o .before .flip .ensures) (o .join .ensures) (c .before .minus2 .ensures))
           (⊎-elim
-          (λ v. puts-later _ _ _ _ _ _ _ _ _ _ (v .7) (v .8) (ap grown.To (v .9) ∙ sym (v .5 .given .1)) (v .3 .ensures))
-          (λ v. puts-later _ _ _ _ _ _ _ _ _ _ (v .7) (v .8) (ap grown.To (v .9) ∙ sym (v .5 .given .1))
-          (puts-is _ _ _ _ _ _ _ _ (chosen-all (s .args .size) (s .args .laid .now) (s .args .at + 1) _ (v .0 .left) steady)
+          (λ v. puts-later (v .7) (v .8) (ap grown.To (v .9) ∙ sym (v .5 .given .1)) (v .3 .ensures))
+          (λ v. puts-later (v .7) (v .8) (ap grown.To (v .9) ∙ sym (v .5 .given .1))
+          (puts-is (chosen-all (s .args .size) (s .args .laid .now) (s .args .at + 1) _ (v .0 .left) steady)
           (v .3 .ensures)))
-          (c .before .before .if2 .came)) _ refl,
+          (c .before .before .if2 .came)) refl,
       c .next2 .ensures,
       free-on _ _ _ _ (w .2) (c .before .minus2 .ensures),
     )
 
 choose-returns-4 : (t : ℕ) → choose-lts.Need-returns-4 (claims t) (choose-at t) choose.Post choose-Inv-loop choose-μ-loop
-choose-returns-4 t c = going-end _ _ _ _ _ _ _ _ (c .before .loop .inv .0)
+choose-returns-4 t c = going-end (c .before .loop .inv .0)
     (choices-end _ _ _ _ (c .before .loop .inv .1) (c .loop-test .left))
 
 pub +choose-spec : {M : Type 1} → statement M

@@ -10,7 +10,7 @@ widen-all-requires : tie.Need-widen-all-requires
 widen-all-requires c κs =
     let after-7 = c .before .before .before .before .before .before .before in
     let s = after-7 in
-    record { sets = s .pre .0; room = holds-room _ _ _ _ _ (s .pre .1); held = fresh 128 }
+    record { sets = s .pre .0; room = holds-room (s .pre .1); held = fresh 128 }
 
 returns : tie.Need-returns
 returns c =

@@ -36,12 +36,12 @@ loop-again c =
       omega arith,
       simp length-set (w .1),
       laying-one _ _ _ _ _ _ (w .2)
-          (alts-step alts j _ e _ (c .before .loop-test .taken) (v .1 .ensures)) (v .0 .taken) (omega (arith, w .2 .few)),
+          (alts-step _ e (c .before .loop-test .taken) (v .1 .ensures)) (v .0 .taken) (omega (arith, w .2 .few)),
     ))
     (λ v. rw (v .1, v .2) (
       omega arith,
       w .1,
-      laying-none _ _ _ _ _ _ (w .2) (alts-step alts j _ e _ (c .before .loop-test .taken) refl)
+      laying-none _ _ _ _ _ _ (w .2) (alts-step _ e (c .before .loop-test .taken) refl)
           (v .0 .left),
     )) (c .if1 .came)
 
@@ -51,7 +51,7 @@ same-length c = c .before .loop .inv .1 ∙ sym (c .before .before .before .befo
 returns : tie.Need-returns Inv-loop μ-loop
 returns c =
     let w = c .before .loop .inv in
-    (omega (arith, w .2 .few), laying-end _ _ _ _ _ (w .2) (alts-end _ _ _ (c .before .before .count-of .ensures) (c .loop-test .left)))
+    (omega (arith, w .2 .few), laying-end _ _ _ _ _ (w .2) (alts-end _ (c .before .before .count-of .ensures) (c .loop-test .left)))
 
 pub lay-others-spec : {M : Type 1} → statement M
 lay-others-spec =

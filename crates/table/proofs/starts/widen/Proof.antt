@@ -16,7 +16,7 @@ returns c =
     let after-if1 = c .before .before .before in
     let after-5 = after-if1 .before .before in
     let s = after-5 in
-    puts-is _ _ _ _ _ _ _ _
+    puts-is
     (sym (ap (λ (b : Bool). keep L.consistent (candidates (clauseOf b (setsIn (s .args .alts .now))) (s .args .entry)))
     (after-if1 .if1 .taken)))
     (c .widen-oneof .ensures)
@@ -26,7 +26,7 @@ returns-2 c =
     let after-if1 = c .before .before .before in
     let after-5 = after-if1 .before .before in
     let s = after-5 in
-    puts-is _ _ _ _ _ _ _ _
+    puts-is
     (sym (ap (λ (b : Bool). keep L.consistent (candidates (clauseOf b (setsIn (s .args .alts .now))) (s .args .entry)))
     (after-if1 .if1 .left)))
     (c .widen-or .ensures)

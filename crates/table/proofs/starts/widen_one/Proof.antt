@@ -29,7 +29,7 @@ returns c =
     let after-5 = after-set-at .before .before in
     let s = after-5 in
     let e = picked _ _ _ _ _ (s .pre .1) (after-set-at .set-at .ensures) (after-join .join .ensures) in
-    nothing-put _ _ _ _ (cut (others (s .args .i) 0 (setsIn (s .args .alts .now))) _
+    nothing-put (cut (others (s .args .i) 0 (setsIn (s .args .alts .now))) _
     (ap L.consistent (sym e) ∙ sym (c .before .consistent .ensures) ∙ not-true _ (c .if1 .taken))) (s .pre .0 .held)
 
 choose-requires : tie.Need-choose-requires
@@ -51,7 +51,7 @@ returns-2 c =
     let after-set-at = after-join .before in
     let start = after-set-at .before .before in
     let e = picked _ _ _ _ _ (start .pre .1) (after-set-at .set-at .ensures) (after-join .join .ensures) in
-    puts-is _ _ _ _ _ _ _ _ (ap₂ (λ (x : List Literals) (d : Literals). keep L.consistent (falsify x d))
+    puts-is (ap₂ (λ (x : List Literals) (d : Literals). keep L.consistent (falsify x d))
     (after-lay-others .lay-others .ensures .1) e) (c .choose .ensures)
 
 pub widen-one-spec : {M : Type 1} → statement M

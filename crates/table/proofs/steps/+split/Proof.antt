@@ -1,6 +1,7 @@
 -- The cycle {split}: the measure is the number of conditions left. The invariant: the parts from turn t on give what is left. Assumes
 -- nothing.
-use mathlib.Core.Path.{_≡_, refl, sym, subst}
+use mathlib.Core.Path.{_≡_, refl, sym, ap, _∙_, subst}
+use Rattle.table.specs.declared.slots.Grown.the-variants as grown
 use mathlib.Core.List.{_∷_, map, _++_}
 use mathlib.Core.Logic.{⊎-elim}
 use native.Mathlib.Omega.{arith}
@@ -14,8 +15,8 @@ use Rattle.table.specs.inner.Carry.{Splits}
 use Rattle.table.proofs.laws.steps.CarriedResults.{settles-puts, settles-leaf, past-part}
 use Rattle.sheet.proofs.laws.reader.PackedParts.{effects-step, effects-end}
 use Rattle.table.proofs.laws.arrays.HeldLists.{held-own}
-use Rattle.table.proofs.laws.slots.PutLoops.{Going, going-start, going-on, going-full, going-end}
-use Rattle.table.proofs.laws.steps.PieceWalk.{going-at, Turn, turn-start, turn-on, turn-less, turn-most, partsFrom, parts-start, parts-turn, parts-end}
+use Rattle.table.proofs.laws.slots.PutLoops.{puts-later, Going, going-start, going-on, going-full, going-end}
+use Rattle.table.proofs.laws.steps.PieceWalk.{Turn, turn-start, turn-on, turn-less, turn-most, partsFrom, parts-start, parts-turn, parts-end}
 use Prim.Native.Nat.{ℕ, _≤_, _<_, _-_, _+_}
 use borrow.Fn.Kinds.{In}
 use borrow.Fn.PlainCycle.{Measures, is, falls, and}
@@ -115,7 +116,7 @@ split-loop-holds t c =
     let o = c .before .before .before .before .before in
     let s = splits t (c .before .before) in (
       turn-start _,
-      going-start _ _ _ _ _
+      going-start
           (parts-start (effectsAt (o .args .size) (o .args .effects .now)) _ _ _ (o .args .piece) (here t (c .before .before)) _
           (rw (s .lacking, s .apart)) (c .minus .ensures)) (o .pre .1 .held),
     )
@@ -147,7 +148,7 @@ split-split-requires t c κs =
         below = h;
         splits = s .1 h;
         carried = s .0 .carried;
-        held = held-own _ _ _ _ (c .before .before .before .before .before .before .before .before .loop .inv .1 .held);
+        held = held-own (c .before .before .before .before .before .before .before .before .loop .inv .1 .held);
       },
     )
 
@@ -160,7 +161,7 @@ split-enum-told t c = search needs
 split-returns : (t : ℕ) → split-lts.Need-returns (claims t) (split-at t) split.Post split-Inv-loop split-μ-loop
 split-returns t c =
     let s = c .before .before .before .before .before .before .before in
-    going-full _ _ _ _ _ _ _ _ _ _ _ _ _ (s .before .before .before .before .loop .inv .1) (turned t s _ refl)
+    going-full _ (s .before .before .before .before .loop .inv .1) (turned t s _ refl)
     (settles-puts _ _ _ _ (s .skip-decided .ensures .0) _ _ _ _ _ _ (c .before .before .split .ensures)) (c .enum-told .given .1)
 
 split-replace-requires : (t : ℕ) → split-lts.Need-replace-requires (claims t) (split-at t) split.Post split-Inv-loop split-μ-loop
@@ -168,7 +169,7 @@ split-replace-requires t c κs = search needs
 
 split-offer-by-newest-requires : (t : ℕ) → split-lts.Need-offer-by-newest-requires (claims t) (split-at t) split.Post split-Inv-loop
     split-μ-loop
-split-offer-by-newest-requires t c κs = held-own _ _ _ _
+split-offer-by-newest-requires t c κs = held-own
     (c .before .before .before .before .before .before .before .before .before .loop .inv .1 .held)
 
 split-enum-known-grown-2 : (t : ℕ) → split-lts.Need-enum-known-grown-2 (claims t) (split-at t) split.Post split-Inv-loop split-μ-loop
@@ -181,7 +182,7 @@ split-returns-2 : (t : ℕ) → split-lts.Need-returns-2 (claims t) (split-at t)
 split-returns-2 t c =
     let s = c .before .before .before .before .before .before .before .before in
     let a = s .before .before .before .before .before .before .before .before .before .before .args in
-    going-full _ _ _ _ _ _ _ _ _ _ _ _ _ (s .before .before .before .before .loop .inv .1) (turned t s _ refl)
+    going-full _ (s .before .before .before .before .loop .inv .1) (turned t s _ refl)
     (settles-leaf _ _ _ _ (s .skip-decided .ensures .0)
     (effects-end (a .size) (a .effects .now) (s .skip-decided .result .at)
     (omega (arith, c .before .before .before .before .before .before .if1 .left))) _ (c .before .before .before .replace .ensures)
@@ -205,20 +206,19 @@ split-loop-again t c =
     let a = s .before .before .before .before .before .before .before .before .before .before .args in
     let v = s .before .before .before .before .loop in (
       turn-on _ (v .t) _ (c .next .ensures),
-      ⊎-elim
-          (λ x. going-at _ _ _ _ _ _ _ _ _ _ _ (x .9) (x .7) (x .8)
-          (going-on _ _ _ _ _ _ _ _ _ _ _ _ _ (v .inv .1) (turned t s _ (c .next .ensures))
-          (settles-puts _ _ _ _ (s .skip-decided .ensures .0) _ _ _ _ _ _ (x .3 .ensures)) _ (x .5 .given .1)))
-          (λ x. going-at _ _ _ _ _ _ _ _ _ _ _ (x .10) (x .8) (x .9)
-          (going-on _ _ _ _ _ _ _ _ _ _ _ _ _ (v .inv .1) (turned t s _ (c .next .ensures))
+      going-on _ (v .inv .1) (turned t s _ (c .next .ensures))
+          (⊎-elim
+          (λ x. puts-later (x .7) (x .8) (ap grown.To (x .9) ∙ sym (x .5 .given .1))
+          (settles-puts _ _ _ _ (s .skip-decided .ensures .0) _ _ _ _ _ _ (x .3 .ensures)))
+          (λ x. puts-later (x .8) (x .9) (ap grown.To (x .10) ∙ sym (x .6 .given .1))
           (settles-leaf _ _ _ _ (s .skip-decided .ensures .0)
           (effects-end (a .size) (a .effects .now) (s .skip-decided .result .at) (omega (arith, x .0 .left))) _ (x .3 .ensures) _ _ _ _
-          _ _ (x .4 .ensures)) _ (x .6 .given .1)))
-          (c .before .if1 .came),
+          _ _ (x .4 .ensures)))
+          (c .before .if1 .came)) refl,
     )
 
 split-returns-3 : (t : ℕ) → split-lts.Need-returns-3 (claims t) (split-at t) split.Post split-Inv-loop split-μ-loop
-split-returns-3 t c = going-end _ _ _ _ _ _ _ _ (c .before .loop .inv .1) (parts-end _ _ _ _ _ (c .before .loop .t) (c .loop-test .left))
+split-returns-3 t c = going-end (c .before .loop .inv .1) (parts-end _ _ _ _ _ (c .before .loop .t) (c .loop-test .left))
 
 pub +split-spec : {M : Type 1} → statement M
 +split-spec = close μ-split λ t. split-lts.spec (claims t)
