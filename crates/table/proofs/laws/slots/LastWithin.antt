@@ -127,6 +127,10 @@ module _ (ts fs : List ℕ) (i : ℕ) (l : Literals) where
 pub tested : {r : Bool} {e x : Literals} (l : Literals) → r ≡ within e l → e ≡ x → r ≡ within x l
 tested {r} {e} {x} l p q = p ∙ ap (λ (y : Literals). within y l) q
 
+-- and what came of it
+pub shown : {r b : Bool} {e x : Literals} (l : Literals) → r ≡ within e l → e ≡ x → r ≡ b → within x l ≡ b
+shown l p q k = sym (tested l p q) ∙ k
+
 -- ---- a turn over four entries, the last of the first k
 module _ (ts fs : List ℕ) (k i : ℕ) (l : Literals) (is : i + 4 ≡ k) where
   pub turn-found : {r : ℕ} → At r ≡ lastWithin (entriesOf (i + 4) ts fs) l → At r ≡ lastWithin (entriesOf k ts fs) l

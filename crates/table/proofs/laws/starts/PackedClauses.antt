@@ -1,15 +1,16 @@
 -- The alternatives of a clause in 17 numbers, and the clauses of a section one after the other. Assumes nothing.
 use mathlib.Core.Path.{_≡_, refl, sym, ap, _∙_}
-use mathlib.Core.List.{List, [], _∷_}
+use mathlib.Core.List.{List, [], _∷_, map}
+use mathlib.Core.Bool.{Bool}
+use Rattle.table.specs.inner.Starts.{clauseOf, ClausesFit}
+use Rattle.sheet.specs.inner.Packed.{clausesAt, setFrom, setsIn, SetsFit, itemAt, orsIn, oneofsIn}
+use Rattle.sheet.proofs.laws.reader.PackedParts.{items-step, items-end, sets-long, sets-step, sets-end, item-of-all, part-long}
 use Prim.Native.Nat.{ℕ, _+_, _-_, _*_, _≤_, _<_}
 use native.Mathlib.Omega.{arith}
 use lib.ListN.{length, getD, take, drop, length-drop}
 use lib.Seq.{length-take-le, getD-drop}
 use Rattle.sheet.specs.declared.Literals.{Literals}
 use Rattle.sheet.specs.Literals.{noLiteral}
-use Rattle.sheet.specs.inner.Packed.{setFrom, setsIn, SetsFit, itemAt, orsIn, oneofsIn}
-use Rattle.table.specs.inner.Starts.{ClausesFit}
-use Rattle.sheet.proofs.laws.reader.PackedParts.{sets-long, sets-step, sets-end, item-of-all, part-long}
 use Rattle.sheet.specs.declared.Sheet.{Sheet}
 use Rattle.sheet.specs.inner.Decoded.{Filled}
 use Rattle.sheet.proofs.laws.reader.ReadSheets.{ors-few, oneofs-few}
@@ -58,6 +59,15 @@ clause-fits n xs i fit h =
       ap (λ (k : ℕ). length (take k (drop (i * 17) xs))) e ∙ length-take-le 17 (drop (i * 17) xs) l,
       omega (arith, p, ap length (clause-is xs i), length-alts (clauseItem xs i)),
     )
+
+-- ---- the clauses from i on, one after the other
+module _ (b : Bool) (n : ℕ) (xs : List ℕ) (i : ℕ) where
+  pub clauses-step : i < n → map (clauseOf b) (drop i (clausesAt n xs))
+      ≡ clauseOf b (setsIn (clauseItem xs i)) ∷ map (clauseOf b) (drop (i + 1) (clausesAt n xs))
+  clauses-step lt = ap (map (clauseOf b)) (items-step 17 setsIn n xs i _ lt (clause-is xs i))
+
+  pub clauses-end : n ≤ i → map (clauseOf b) (drop i (clausesAt n xs)) ≡ []
+  clauses-end le = ap (map (clauseOf b)) (items-end 17 setsIn n xs i le)
 
 -- ---- the clauses of a sheet that was read, in their sections
 module _ (x : Sheet) (packed : List ℕ) (h : Filled x packed) where

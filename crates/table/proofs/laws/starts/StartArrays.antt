@@ -115,7 +115,7 @@ pub record Sections (o : Outcome) (cs : List Clause) (k : ℕ) (ts fs : List ℕ
   pub held : Held 128 k ts fs
   pub onwards : growAll 128 cs (entriesOf k ts fs) ≡ o
 
-module _ (o : Outcome) (bs cs : List Clause) (c : Clause) (n : ℕ) (us gs : List ℕ) (g : Sections o bs n us gs) (is : bs ≡ c ∷ cs)
+module _ {o : Outcome} {bs cs : List Clause} {c : Clause} {n : ℕ} {us gs : List ℕ} (g : Sections o bs n us gs) (is : bs ≡ c ∷ cs)
     (r : Started) (ts fs : List ℕ)
     (w : Right (grow 128 c (entriesOf n us gs)) r ts fs) (k : ℕ) where
   unrolled : onTable (grow 128 c (entriesOf n us gs)) (λ u. growAll 128 cs u) ≡ o
@@ -130,9 +130,9 @@ module _ (o : Outcome) (bs cs : List Clause) (c : Clause) (n : ℕ) (us gs : Lis
   sections-refused p e = subst (λ (x : Outcome). Right x (started.Refused k p) ts fs) unrolled
       (refusal _ r k p ts fs (λ u. growAll 128 cs u) w e)
 
-pub sections-end : (o : Outcome) (cs : List Clause) (k : ℕ) (ts fs : List ℕ) → Sections o cs k ts fs → cs ≡ []
+pub sections-end : {o : Outcome} {cs : List Clause} {k : ℕ} {ts fs : List ℕ} → Sections o cs k ts fs → cs ≡ []
     → Right o (started.To k) ts fs
-sections-end o cs k ts fs g e =
+sections-end {o} {cs} {k} {ts} {fs} g e =
     right-table o k ts fs (record { held = g .held; is = sym (g .onwards) ∙ ap (λ (x : List Clause). growAll 128 x (entriesOf k ts fs)) e })
 
 -- ---- the first table

@@ -29,11 +29,10 @@ some-above-requires c κs = holds-room (c .before .before .before .before .pre)
 
 returns : tie.Need-returns Inv-loop μ-loop
 returns c =
-    let after-6 = c .before .before .before .before .before .before in
-    let o = after-6 in
-    let a = o .args in
+    let start = c .before .before .before .before .before .before in
+    let a = start .args in
     subst (λ (x : List Literals). Holds (length (a .trues .now)) x (a .count) (a .trues .now) (a .falses .now))
-    (sym (none-goes (λ e. within (a .candidate) e) _ (sym (c .before .some-above .ensures) ∙ not-true _ (c .if1 .taken)))) (o .pre)
+    (sym (none-goes (λ e. within (a .candidate) e) _ (sym (c .before .some-above .ensures) ∙ not-true _ (c .if1 .taken)))) (start .pre)
 
 first-above-requires : tie.Need-first-above-requires Inv-loop μ-loop
 first-above-requires c κs =
@@ -42,10 +41,9 @@ first-above-requires c κs =
 
 loop-holds : tie.Need-loop-holds Inv-loop μ-loop
 loop-holds c =
-    let after-9 = c .before .before .before .before .before .before .before .before .before in
-    let o = after-9 in
+    let start = c .before .before .before .before .before .before .before .before .before in
     let e = c .first-above .ensures in
-    moved-start _ _ _ _ (o .pre) _ (e .0) (none-goes (λ e. within (o .args .candidate) e) _ (e .1))
+    moved-start _ _ _ _ (start .pre) _ (e .0) (none-goes (λ e. within (start .args .candidate) e) _ (e .1))
 
 slice-write-trues-2 : tie.Need-slice-write-trues-2 Inv-loop μ-loop
 slice-write-trues-2 c = simp length-set (omega arith)

@@ -8,10 +8,9 @@ use Rattle.table.proofs.slots.some_of_four.Tie as tie
 
 returns : tie.Need-returns
 returns c =
-    let after-2 = c .before .before in
-    let start = after-2 .before .before .before .before .before .before .before .before in
+    let b = c .before .before in
+    let start = b .before .before .before .before .before .before .before .before in
     let s = start .args in
-    let b = after-2 in
     let d = b .before .before in
     let e = d .before .before in
     ap₂ (λ (x y : Bool). x || y)

@@ -77,8 +77,8 @@ choose-offer-by-newest-requires t c κs = c .before .before .before .pre .1 .hel
 
 choose-returns : (t : ℕ) → choose-lts.Need-returns (claims t) (choose-at t) choose.Post choose-Inv-loop choose-μ-loop
 choose-returns t c =
-    let s = c .before .before .before .before in
-    puts-is (chosen-all (s .args .size) (s .args .laid .now) (s .args .at) _ (omega arith) (s .pre .1 .steady))
+    let start = c .before .before .before .before in
+    puts-is (chosen-all (start .args .size) (start .args .laid .now) (start .args .at) _ (omega arith) (start .pre .1 .steady))
     (c .offer-by-newest .ensures)
 
 choose-add-after : (t : ℕ) → choose-lts.Need-add-after (claims t) (choose-at t) choose.Post choose-Inv-loop choose-μ-loop
@@ -98,10 +98,10 @@ choose-next-requires t c κs = search needs
 
 choose-loop-holds : (t : ℕ) → choose-lts.Need-loop-holds (claims t) (choose-at t) choose.Post choose-Inv-loop choose-μ-loop
 choose-loop-holds t c =
-    let s = c .before .before .before .before .before in (
-      going-start (choices-start _ _ _ _ _ (s .pre .1 .steady)
-          (sets-step (s .args .size) (s .args .laid .now) (s .args .at) _ (omega arith) (c .before .before .set-from .ensures))
-          (c .before .minus .ensures)) (s .pre .1 .held),
+    let start = c .before .before .before .before .before in (
+      going-start (choices-start _ _ _ _ _ (start .pre .1 .steady)
+          (sets-step (start .args .size) (start .args .laid .now) (start .args .at) _ (omega arith) (c .before .before .set-from .ensures))
+          (c .before .minus .ensures)) (start .pre .1 .held),
       c .next .ensures,
       free-start _ _ _ (c .before .minus .ensures),
     )
@@ -117,13 +117,13 @@ choose-join-requires t c κs = search needs
 
 choose-choose-requires : (t : ℕ) → choose-lts.Need-choose-requires (claims t) (choose-at t) choose.Post choose-Inv-loop choose-μ-loop
 choose-choose-requires t c κs =
-    let s = c .before .before .before .before .before .before .before .before .before .before .before .before .before in
+    let start = c .before .before .before .before .before .before .before .before .before .before .before .before .before in
     let o = c .before .before .before in
     let w = o .before .before .before .before .loop .inv in (
       omega arith,
       record {
-        room = s .pre .1 .room;
-        steady = chosen-steady _ _ _ _ _ _ (s .pre .1 .steady) (w .2) (w .1) (o .before .before .before .loop-test .taken)
+        room = start .pre .1 .room;
+        steady = chosen-steady _ _ _ _ _ _ (start .pre .1 .steady) (w .2) (w .1) (o .before .before .before .loop-test .taken)
             (o .before .before .literal .ensures) (o .before .flip .ensures) (o .join .ensures);
         held = held-own (w .0 .held);
       },
@@ -155,12 +155,12 @@ choose-enum-told-2 t c = search needs
 
 choose-returns-3 : (t : ℕ) → choose-lts.Need-returns-3 (claims t) (choose-at t) choose.Post choose-Inv-loop choose-μ-loop
 choose-returns-3 t c =
-    let s = c .before .before .before .before .before .before .before .before .before .before .before .before .before .before .before .before in
+    let start = c .before .before .before .before .before .before .before .before .before .before .before .before .before .before .before .before in
     let o = c .before .before .before .before .before .before in
     let w = o .before .before .before .before .loop .inv in
-    let steady = chosen-steady _ _ _ _ _ _ (s .pre .1 .steady) (w .2) (w .1) (o .before .before .before .loop-test .taken)
+    let steady = chosen-steady _ _ _ _ _ _ (start .pre .1 .steady) (w .2) (w .1) (o .before .before .before .loop-test .taken)
     (o .before .before .literal .ensures) (o .before .flip .ensures) (o .join .ensures) in
-    let q = chosen-all (s .args .size) (s .args .laid .now) (s .args .at + 1) _ (c .before .before .before .before .before .if2 .left)
+    let q = chosen-all (start .args .size) (start .args .laid .now) (start .args .at + 1) _ (c .before .before .before .before .before .if2 .left)
     steady in
     going-full _ (w .0)
     (choices-step _ _ _ _ _ _ _ _ (w .1) (o .before .before .before .loop-test .taken) (o .before .before .literal .ensures)
@@ -181,10 +181,10 @@ choose-loop-less t c =
 
 choose-loop-again : (t : ℕ) → choose-lts.Need-loop-again (claims t) (choose-at t) choose.Post choose-Inv-loop choose-μ-loop
 choose-loop-again t c =
-    let s = c .before .before .before .before .before .before .before .before .before .before .before .before .before in
+    let start = c .before .before .before .before .before .before .before .before .before .before .before .before .before in
     let o = c .before .before .before in
     let w = o .before .before .before .before .loop .inv in
-    let steady = chosen-steady _ _ _ _ _ _ (s .pre .1 .steady) (w .2) (w .1) (o .before .before .before .loop-test .taken)
+    let steady = chosen-steady _ _ _ _ _ _ (start .pre .1 .steady) (w .2) (w .1) (o .before .before .before .loop-test .taken)
     (o .before .before .literal .ensures) (o .before .flip .ensures) (o .join .ensures) in (
       going-on _ (w .0)
           (choices-step _ _ _ _ _ _ _ _ (w .1) (o .before .before .before .loop-test .taken) (o .before .before .literal .ensures)
@@ -192,7 +192,7 @@ choose-loop-again t c =
           (⊎-elim
           (λ v. puts-later (v .7) (v .8) (ap grown.To (v .9) ∙ sym (v .5 .given .1)) (v .3 .ensures))
           (λ v. puts-later (v .7) (v .8) (ap grown.To (v .9) ∙ sym (v .5 .given .1))
-          (puts-is (chosen-all (s .args .size) (s .args .laid .now) (s .args .at + 1) _ (v .0 .left) steady)
+          (puts-is (chosen-all (start .args .size) (start .args .laid .now) (start .args .at + 1) _ (v .0 .left) steady)
           (v .3 .ensures)))
           (c .before .before .if2 .came)) refl,
       c .next2 .ensures,

@@ -26,11 +26,10 @@ returns : tie.Need-returns
 returns c =
     let after-join = c .before .before in
     let after-set-at = after-join .before in
-    let after-5 = after-set-at .before .before in
-    let s = after-5 in
-    let e = picked _ _ _ _ _ (s .pre .1) (after-set-at .set-at .ensures) (after-join .join .ensures) in
-    nothing-put (cut (others (s .args .i) 0 (setsIn (s .args .alts .now))) _
-    (ap L.consistent (sym e) ∙ sym (c .before .consistent .ensures) ∙ not-true _ (c .if1 .taken))) (s .pre .0 .held)
+    let start = after-set-at .before .before in
+    let e = picked _ _ _ _ _ (start .pre .1) (after-set-at .set-at .ensures) (after-join .join .ensures) in
+    nothing-put (cut (others (start .args .i) 0 (setsIn (start .args .alts .now))) _
+    (ap L.consistent (sym e) ∙ sym (c .before .consistent .ensures) ∙ not-true _ (c .if1 .taken))) (start .pre .0 .held)
 
 choose-requires : tie.Need-choose-requires
 choose-requires c κs =

@@ -80,13 +80,13 @@ here : (t : ℕ) (c : split-lts.After-effect-at (claims t) (split-at t) split.Po
     → let a = c .before .before .before .args in
     let es = effectsAt (a .size) (a .effects .now) in
     drop (a .undecided .at) es ≡ c .effect-at .result ∷ drop (a .undecided .at + 1) es
-here t c = let o = c .before .before .before in effects-step (o .args .size) (o .args .effects .now) (o .args .undecided .at) _
-    (o .pre .1 .below) (c .effect-at .ensures)
+here t c = let start = c .before .before .before in effects-step (start .args .size) (start .args .effects .now) (start .args .undecided .at) _
+    (start .pre .1 .below) (c .effect-at .ensures)
 
 splits : (t : ℕ) (c : split-lts.After-effect-at (claims t) (split-at t) split.Post split-Inv-loop split-μ-loop)
     → Splits (c .effect-at .result .condition) (c .before .before .before .args .piece)
-splits t c = let o = c .before .before .before in subst (λ (e : Effect). Splits (e .condition) (o .args .piece))
-    (sym (c .effect-at .ensures)) (o .pre .1 .splits)
+splits t c = let start = c .before .before .before in subst (λ (e : Effect). Splits (e .condition) (start .args .piece))
+    (sym (c .effect-at .ensures)) (start .pre .1 .splits)
 
 -- the part of this turn comes first, and then those from the next turn on
 turned : (t : ℕ) (c : split-lts.After-skip-decided (claims t) (split-at t) split.Post split-Inv-loop split-μ-loop) (n : ℕ)
@@ -113,12 +113,12 @@ split-add-next t c = search needs
 
 split-loop-holds : (t : ℕ) → split-lts.Need-loop-holds (claims t) (split-at t) split.Post split-Inv-loop split-μ-loop
 split-loop-holds t c =
-    let o = c .before .before .before .before .before in
+    let start = c .before .before .before .before .before in
     let s = splits t (c .before .before) in (
       turn-start _,
       going-start
-          (parts-start (effectsAt (o .args .size) (o .args .effects .now)) _ _ _ (o .args .piece) (here t (c .before .before)) _
-          (rw (s .lacking, s .apart)) (c .minus .ensures)) (o .pre .1 .held),
+          (parts-start (effectsAt (start .args .size) (start .args .effects .now)) _ _ _ (start .args .piece) (here t (c .before .before)) _
+          (rw (s .lacking, s .apart)) (c .minus .ensures)) (start .pre .1 .held),
     )
 
 split-part-requires : (t : ℕ) → split-lts.Need-part-requires (claims t) (split-at t) split.Post split-Inv-loop split-μ-loop
@@ -129,22 +129,22 @@ split-carried-requires t c κs = search needs
 
 split-skip-decided-requires : (t : ℕ) → split-lts.Need-skip-decided-requires (claims t) (split-at t) split.Post split-Inv-loop split-μ-loop
 split-skip-decided-requires t c κs =
-    let o = c .before .before .before .before .before .before .before .before .before in
+    let start = c .before .before .before .before .before .before .before .before .before in
     let v = c .before .before .before .loop in (
-      o .pre .1 .effects-room,
-      past-part _ _ _ _ (here t (c .before .before .before .before .before .before)) _ _ (o .pre .1 .carried) _
+      start .pre .1 .effects-room,
+      past-part _ _ _ _ (here t (c .before .before .before .before .before .before)) _ _ (start .pre .1 .carried) _
           (c .before .before .before .before .minus .ensures) (splits t (c .before .before .before .before .before .before) .apart) (v .t)
           (c .before .before .loop-test .taken) (v .inv .0) _ _ (c .before .part .ensures) (c .carried .ensures),
     )
 
 split-split-requires : (t : ℕ) → split-lts.Need-split-requires (claims t) (split-at t) split.Post split-Inv-loop split-μ-loop
 split-split-requires t c κs =
-    let o = c .before .before .before .before .before .before .before .before .before .before .before .before .before .before in
+    let start = c .before .before .before .before .before .before .before .before .before .before .before .before .before .before in
     let s = c .before .before .before .before .skip-decided .ensures in
-    let h : c .before .before .before .before .skip-decided .result .at < o .args .size = omega arith in (
-      omega (arith, s .0 .upto, o .pre .0, o .pre .1 .below),
+    let h : c .before .before .before .before .skip-decided .result .at < start .args .size = omega arith in (
+      omega (arith, s .0 .upto, start .pre .0, start .pre .1 .below),
       record {
-        effects-room = o .pre .1 .effects-room;
+        effects-room = start .pre .1 .effects-room;
         below = h;
         splits = s .1 h;
         carried = s .0 .carried;

@@ -38,16 +38,15 @@ branch-requires c κs =
     let after-entry-at = c .before .before in
     let after-loop-test = after-entry-at .before in
     let at-loop = after-loop-test .before in
-    let after-8 = at-loop .before .before .before .before in
-    let o = after-8 in
-    let a = o .args in
+    let start = at-loop .before .before .before .before in
+    let a = start .args in
     let v = at-loop .loop in
     record {
-      effects-room = o .pre .effects-room;
-      steady = o .pre .steady;
+      effects-room = start .pre .effects-room;
+      steady = start .pre .steady;
       entry-steady = all-here (λ d. consistent d ≡ true) _ _ (v .i) _
           (entries-next (a .count) (a .trues .now) (a .falses .now) (v .i) _ (after-loop-test .loop-test .taken)
-          (after-entry-at .entry-at .ensures)) (o .pre .entries-steady);
+          (after-entry-at .entry-at .ensures)) (start .pre .entries-steady);
       held = held-own (v .inv .1 .held);
     }
 
