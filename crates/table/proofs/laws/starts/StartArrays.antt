@@ -169,17 +169,8 @@ module _ (known : Literals) (ts fs : List ℕ) (zeros : Fresh ts fs) where
   pub first-held : Held 128 1 (set ts 0 (known .trues)) (set fs 0 (known .falses))
   first-held = held-of one
 
-  module _ (cs ds : List Clause) (r : Started) (us gs : List ℕ)
+  module _ (cs : List Clause) (r : Started) (us gs : List ℕ)
       (w : Right (growAll 128 cs (entriesOf 1 (set ts 0 (known .trues)) (set fs 0 (known .falses)))) r us gs) (k : ℕ) where
-    whole : onTable (growAll 128 cs (entriesOf 1 (set ts 0 (known .trues)) (set fs 0 (known .falses)))) (λ u. growAll 128 ds u)
-        ≡ growAll 128 (cs ++ ds) (known ∷ [])
-    whole = ap (λ (y : List Literals). onTable (growAll 128 cs y) (λ u. growAll 128 ds u)) (holds-entries one)
-        ∙ sym (growAll-append cs ds (known ∷ []))
-
-    pub first-refused : (p : ℕ) → r ≡ started.Refused k p → Right (growAll 128 (cs ++ ds) (known ∷ [])) (started.Refused k p) us gs
-    first-refused p e = subst (λ (y : Outcome). Right y (started.Refused k p) us gs) whole
-        (refusal _ r k p us gs (λ u. growAll 128 ds u) w e)
-
     first-ready : r ≡ started.To k → Readied (growAll 128 cs (entriesOf 1 (set ts 0 (known .trues)) (set fs 0 (known .falses)))) k us gs
     first-ready e = ready _ r k us gs
         (growAll-small cs _ (omega (arith, length-entriesOf 1 (set ts 0 (known .trues)) (set fs 0 (known .falses))))) w e
@@ -187,5 +178,15 @@ module _ (known : Literals) (ts fs : List ℕ) (zeros : Fresh ts fs) where
     pub first-grown : r ≡ started.To k → Held 128 k us gs
     first-grown e = first-ready e .held
 
-    pub first-on : r ≡ started.To k → growAll 128 ds (entriesOf k us gs) ≡ growAll 128 (cs ++ ds) (known ∷ [])
-    first-on e = sym (ap (λ (y : Outcome). onTable y (λ u. growAll 128 ds u)) (first-ready e .is)) ∙ whole
+    module _ (ds : List Clause) where
+      whole : onTable (growAll 128 cs (entriesOf 1 (set ts 0 (known .trues)) (set fs 0 (known .falses)))) (λ u. growAll 128 ds u)
+          ≡ growAll 128 (cs ++ ds) (known ∷ [])
+      whole = ap (λ (y : List Literals). onTable (growAll 128 cs y) (λ u. growAll 128 ds u)) (holds-entries one)
+          ∙ sym (growAll-append cs ds (known ∷ []))
+
+      pub first-refused : (p : ℕ) → r ≡ started.Refused k p → Right (growAll 128 (cs ++ ds) (known ∷ [])) (started.Refused k p) us gs
+      first-refused p e = subst (λ (y : Outcome). Right y (started.Refused k p) us gs) whole
+          (refusal _ r k p us gs (λ u. growAll 128 ds u) w e)
+
+      pub first-on : r ≡ started.To k → growAll 128 ds (entriesOf k us gs) ≡ growAll 128 (cs ++ ds) (known ∷ [])
+      first-on e = sym (ap (λ (y : Outcome). onTable y (λ u. growAll 128 ds u)) (first-ready e .is)) ∙ whole

@@ -5,7 +5,7 @@ use mathlib.Core.List.{List, []}
 use Prim.Native.Nat.{ℕ, _≤_, _<_}
 use native.Mathlib.Omega.{arith}
 use lib.Dec.{ltb}
-use lib.ListN.{take, drop}
+use lib.ListN.{take, drop, length}
 use borrow.Author.Tests.{lt-ltb, le-ltb, ltb-true}
 use Rattle.sheet.specs.declared.Answer.the-variants.{Accepted, Refused}
 use Rattle.sheet.specs.declared.Sheet.{Sheet}
@@ -18,16 +18,17 @@ use Rattle.table.specs.declared.Table.{Table}
 use Rattle.table.specs.declared.TableAnswer.{TableAnswer}
 use Rattle.table.specs.Minimal.{described}
 use Rattle.table.specs.Step.{stepTable}
-use Rattle.table.specs.Entries.{entries}
+use Rattle.table.specs.Entries.{entries, lent}
 use Rattle.table.specs.Calls.{orGiven, actionAt, stepKnown, stepMove, stepOf}
 use Rattle.table.specs.declared.steps.Stepped.{Stepped}
 use Rattle.table.specs.declared.steps.Stepped.the-variants as moved
 use Rattle.sheet.specs.inner.Packed.{movesIn, itemAt, actionFrom, countOf, actionOf}
-use Rattle.table.specs.inner.Steps.{stepAnswer, Fits}
+use Rattle.table.specs.inner.Steps.{stepAnswer, Fits, MoveFits}
 use Rattle.table.proofs.laws.arrays.HeldLists.{length-entriesOf}
 use Rattle.sheet.proofs.laws.reader.PackedParts.{items-length, item-at, item-of-all, effects-long}
 use Rattle.sheet.proofs.laws.reader.ReadSheets.{refused-says, accepted-says, accepted-proper, n-few, moves-few, moves-proper}
 use Rattle.table.proofs.laws.slots.DescribedTables.{described-iff}
+use Rattle.table.specs.inner.Slots.{Room, TableRoom}
 
 module _ (s : List ℕ) (d : Decoded) (packed : List ℕ) (e : judgementIn d packed ≡ sheetOf s) (t : Table) (i : ℕ) where
   abbrev whole : TableAnswer
@@ -68,10 +69,10 @@ module _ (s : List ℕ) (d : Decoded) (packed : List ℕ) (e : judgementIn d pac
       its-action : ProperAction (x .n) its
       its-action = item-of-all 35 actionFrom (ProperAction (x .n)) (x .moves) (movesIn packed) i lt (moves-proper x packed proper)
 
-      pub its-most : i < 32
+      its-most : i < 32
       its-most = omega (arith, lt, moves-few x packed proper .1)
 
-      pub its-count : countOf (movesIn packed) i ≤ 8
+      its-count : countOf (movesIn packed) i ≤ 8
       unfolding actionFrom
       its-count = subst (λ (k : ℕ). k ≤ 8) (effects-long (countOf (movesIn packed) i) (take 32 (drop 3 (itemAt 35 (movesIn packed) i))))
           (its-action .effects .most)
@@ -83,7 +84,7 @@ module _ (s : List ℕ) (d : Decoded) (packed : List ℕ) (e : judgementIn d pac
       undescribed k = by-known false k
 
       module _ (k : described 128 (x .n) (entries t) ≡ true) where
-        pub its-fits : Fits its t
+        its-fits : Fits its t
         unfolding entries
         its-fits =
             let w = described-iff 128 (x .n) (entries t) .0 k in
@@ -95,8 +96,16 @@ module _ (s : List ℕ) (d : Decoded) (packed : List ℕ) (e : judgementIn d pac
               proper = w .proper;
             }
 
+        pub its-move : length packed ≡ 1409 → MoveFits packed i t
+        its-move long = record { long = long; move-most = its-most; effects-few = its-count; fits = its-fits }
+
         pub known-step : orGiven t (stepTable 128 its (entries t)) ≡ whole
         known-step = by-known true k
+
+-- the entries of a table that fits stand in its slots
+pub its-room : {a : Action} {n : ℕ} {ts fs : List ℕ} → TableRoom ts fs → Fits a (lent n ts fs) → Room n ts fs
+its-room room f =
+    record { trues = omega (arith, f .entries-most, room .trues); falses = omega (arith, f .entries-most, room .falses) }
 
 -- the call by value
 pub step-by : (t : Table) (r x : Stepped) (us gs : List ℕ) (d : TableAnswer) → r ≡ x → stepAnswer t r us gs ≡ d → stepAnswer t x us gs ≡ d

@@ -2,7 +2,7 @@
 -- nothing.
 use mathlib.Core.Path.{_≡_, refl, sym, ap, _∙_, subst}
 use Rattle.table.specs.declared.slots.Grown.the-variants as grown
-use mathlib.Core.List.{_∷_, map, _++_}
+use mathlib.Core.List.{[], _∷_, map, _++_}
 use mathlib.Core.Logic.{⊎-elim}
 use native.Mathlib.Omega.{arith}
 use lib.ListN.{drop}
@@ -102,14 +102,15 @@ turned t c n q =
     parts-turn _ _ _ _ _ (c .before .before .before .before .loop .t) n (c .before .before .before .loop-test .taken)
     (c .before .before .before .before .loop .inv .0) q _ (c .before .before .part .ensures)
 
-split-effect-at-requires : (t : ℕ) → split-lts.Need-effect-at-requires (claims t) (split-at t) split.Post split-Inv-loop split-μ-loop
-split-effect-at-requires t c κs = search needs
+-- no condition is left
+none-left : (t : ℕ) (c : split-lts.After-skip-decided (claims t) (split-at t) split.Post split-Inv-loop split-μ-loop)
+    → let a = c .before .before .before .before .before .before .before .before .before .before .args in
+    a .size ≤ c .skip-decided .result .at → drop (c .skip-decided .result .at) (effectsAt (a .size) (a .effects .now)) ≡ []
+none-left t c h =
+    let a = c .before .before .before .before .before .before .before .before .before .before .args in
+    effects-end (a .size) (a .effects .now) (c .skip-decided .result .at) h
 
-split-lacking-requires : (t : ℕ) → split-lts.Need-minus-requires (claims t) (split-at t) split.Post split-Inv-loop split-μ-loop
-split-lacking-requires t c κs = search needs
-
-split-add-next : (t : ℕ) → split-lts.Need-add-next (claims t) (split-at t) split.Post split-Inv-loop split-μ-loop
-split-add-next t c = search needs
+-- ---- the answers
 
 split-loop-holds : (t : ℕ) → split-lts.Need-loop-holds (claims t) (split-at t) split.Post split-Inv-loop split-μ-loop
 split-loop-holds t c =
@@ -120,12 +121,6 @@ split-loop-holds t c =
           (parts-start (effectsAt (start .args .size) (start .args .effects .now)) _ _ _ (start .args .piece) (here t (c .before .before)) _
           (rw (s .lacking, s .apart)) (c .minus .ensures)) (start .pre .1 .held),
     )
-
-split-part-requires : (t : ℕ) → split-lts.Need-part-requires (claims t) (split-at t) split.Post split-Inv-loop split-μ-loop
-split-part-requires t c κs = search needs
-
-split-carried-requires : (t : ℕ) → split-lts.Need-carried-requires (claims t) (split-at t) split.Post split-Inv-loop split-μ-loop
-split-carried-requires t c κs = search needs
 
 split-skip-decided-requires : (t : ℕ) → split-lts.Need-skip-decided-requires (claims t) (split-at t) split.Post split-Inv-loop split-μ-loop
 split-skip-decided-requires t c κs =
@@ -152,44 +147,25 @@ split-split-requires t c κs =
       },
     )
 
-split-enum-known-grown : (t : ℕ) → split-lts.Need-enum-known-grown (claims t) (split-at t) split.Post split-Inv-loop split-μ-loop
-split-enum-known-grown t c = search needs
-
-split-enum-told : (t : ℕ) → split-lts.Need-enum-told (claims t) (split-at t) split.Post split-Inv-loop split-μ-loop
-split-enum-told t c = search needs
-
 split-returns : (t : ℕ) → split-lts.Need-returns (claims t) (split-at t) split.Post split-Inv-loop split-μ-loop
 split-returns t c =
-    let s = c .before .before .before .before .before .before .before in
-    going-full _ (s .before .before .before .before .loop .inv .1) (turned t s _ refl)
-    (settles-puts _ _ _ _ (s .skip-decided .ensures .0) _ _ _ _ _ _ (c .before .before .split .ensures)) (c .enum-told .given .1)
-
-split-replace-requires : (t : ℕ) → split-lts.Need-replace-requires (claims t) (split-at t) split.Post split-Inv-loop split-μ-loop
-split-replace-requires t c κs = search needs
+    let after-skip-decided = c .before .before .before .before .before .before .before in
+    going-full _ (after-skip-decided .before .before .before .before .loop .inv .1) (turned t after-skip-decided _ refl)
+    (settles-puts _ _ _ _ (after-skip-decided .skip-decided .ensures .0) _ _ _ _ _ _ (c .before .before .split .ensures))
+    (c .enum-told .given .1)
 
 split-offer-by-newest-requires : (t : ℕ) → split-lts.Need-offer-by-newest-requires (claims t) (split-at t) split.Post split-Inv-loop
     split-μ-loop
 split-offer-by-newest-requires t c κs = held-own
     (c .before .before .before .before .before .before .before .before .before .loop .inv .1 .held)
 
-split-enum-known-grown-2 : (t : ℕ) → split-lts.Need-enum-known-grown-2 (claims t) (split-at t) split.Post split-Inv-loop split-μ-loop
-split-enum-known-grown-2 t c = search needs
-
-split-enum-told-2 : (t : ℕ) → split-lts.Need-enum-told-2 (claims t) (split-at t) split.Post split-Inv-loop split-μ-loop
-split-enum-told-2 t c = search needs
-
 split-returns-2 : (t : ℕ) → split-lts.Need-returns-2 (claims t) (split-at t) split.Post split-Inv-loop split-μ-loop
 split-returns-2 t c =
-    let s = c .before .before .before .before .before .before .before .before in
-    let a = s .before .before .before .before .before .before .before .before .before .before .args in
-    going-full _ (s .before .before .before .before .loop .inv .1) (turned t s _ refl)
-    (settles-leaf _ _ _ _ (s .skip-decided .ensures .0)
-    (effects-end (a .size) (a .effects .now) (s .skip-decided .result .at)
-    (omega (arith, c .before .before .before .before .before .before .if1 .left))) _ (c .before .before .before .replace .ensures)
-    _ _ _ _ _ _ (c .before .before .offer-by-newest .ensures)) (c .enum-told2 .given .1)
-
-split-next-requires : (t : ℕ) → split-lts.Need-next-requires (claims t) (split-at t) split.Post split-Inv-loop split-μ-loop
-split-next-requires t c κs = search needs
+    let after-skip-decided = c .before .before .before .before .before .before .before .before in
+    going-full _ (after-skip-decided .before .before .before .before .loop .inv .1) (turned t after-skip-decided _ refl)
+    (settles-leaf _ _ _ _ (after-skip-decided .skip-decided .ensures .0)
+    (none-left t after-skip-decided (c .before .before .before .before .before .before .if1 .left)) _
+    (c .before .before .before .replace .ensures) _ _ _ _ _ _ (c .before .before .offer-by-newest .ensures)) (c .enum-told2 .given .1)
 
 split-add-t : (t : ℕ) → split-lts.Need-add-t (claims t) (split-at t) split.Post split-Inv-loop split-μ-loop
 split-add-t t c = let k : c .next .result ≤ 64 = turn-most _ (c .before .before .before .before .before .before .before .loop .t) _
@@ -202,18 +178,15 @@ split-loop-less t c =
 
 split-loop-again : (t : ℕ) → split-lts.Need-loop-again (claims t) (split-at t) split.Post split-Inv-loop split-μ-loop
 split-loop-again t c =
-    let s = c .before .before .before in
-    let a = s .before .before .before .before .before .before .before .before .before .before .args in
-    let v = s .before .before .before .before .loop in (
-      turn-on _ (v .t) _ (c .next .ensures),
-      going-on _ (v .inv .1) (turned t s _ (c .next .ensures))
+    let after-skip-decided = c .before .before .before in
+    let at-loop = after-skip-decided .before .before .before .before in
+    let skipped = after-skip-decided .skip-decided .ensures .0 in (
+      turn-on _ (at-loop .loop .t) _ (c .next .ensures),
+      going-on _ (at-loop .loop .inv .1) (turned t after-skip-decided _ (c .next .ensures))
           (⊎-elim
-          (λ x. puts-later (x .7) (x .8) (ap grown.To (x .9) ∙ sym (x .5 .given .1))
-          (settles-puts _ _ _ _ (s .skip-decided .ensures .0) _ _ _ _ _ _ (x .3 .ensures)))
+          (λ x. puts-later (x .7) (x .8) (ap grown.To (x .9) ∙ sym (x .5 .given .1)) (settles-puts _ _ _ _ skipped _ _ _ _ _ _ (x .3 .ensures)))
           (λ x. puts-later (x .8) (x .9) (ap grown.To (x .10) ∙ sym (x .6 .given .1))
-          (settles-leaf _ _ _ _ (s .skip-decided .ensures .0)
-          (effects-end (a .size) (a .effects .now) (s .skip-decided .result .at) (omega (arith, x .0 .left))) _ (x .3 .ensures) _ _ _ _
-          _ _ (x .4 .ensures)))
+          (settles-leaf _ _ _ _ skipped (none-left t after-skip-decided (x .0 .left)) _ (x .3 .ensures) _ _ _ _ _ _ (x .4 .ensures)))
           (c .before .if1 .came)) refl,
     )
 
@@ -221,29 +194,9 @@ split-returns-3 : (t : ℕ) → split-lts.Need-returns-3 (claims t) (split-at t)
 split-returns-3 t c = going-end (c .before .loop .inv .1) (parts-end _ _ _ _ _ (c .before .loop .t) (c .loop-test .left))
 
 pub +split-spec : {M : Type 1} → statement M
-+split-spec = close μ-split λ t. split-lts.spec (claims t)
-    (split-at t)
-    split.Post
-    split-Inv-loop
-    split-μ-loop
-    (split-effect-at-requires t)
-    (split-lacking-requires t)
-    (split-add-next t)
-    (split-loop-holds t)
-    (split-part-requires t)
-    (split-carried-requires t)
-    (split-skip-decided-requires t)
-    (split-split-requires t)
-    (split-enum-known-grown t)
-    (split-enum-told t)
-    (split-returns t)
-    (split-replace-requires t)
-    (split-offer-by-newest-requires t)
-    (split-enum-known-grown-2 t)
-    (split-enum-told-2 t)
-    (split-returns-2 t)
-    (split-next-requires t)
-    (split-add-t t)
-    (split-loop-less t)
-    (split-loop-again t)
-    (split-returns-3 t)
++split-spec = close μ-split λ t.
+    split-lts.spec (claims t) (split-at t) split.Post split-Inv-loop split-μ-loop (λ c κs. search needs) (λ c κs. search needs)
+    (λ c. search needs) (split-loop-holds t) (λ c κs. search needs) (λ c κs. search needs) (split-skip-decided-requires t)
+    (split-split-requires t) (λ c. search needs) (λ c. search needs) (split-returns t) (λ c κs. search needs)
+    (split-offer-by-newest-requires t) (λ c. search needs) (λ c. search needs) (split-returns-2 t) (λ c κs. search needs)
+    (split-add-t t) (split-loop-less t) (split-loop-again t) (split-returns-3 t)
