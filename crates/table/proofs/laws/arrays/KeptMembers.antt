@@ -1,5 +1,5 @@
--- The members of a list that pass a test: of parts of it, none or all of them, one more. For `slots::remove`, for putting (`slots/`) and for
--- consistent candidates. Assumes nothing.
+-- The members of a list that pass a test: of two parts, all of them, one more. For `slots::remove`, and for putting (`slots/PutInvariants`,
+-- `PutFates`, `ConsistentCandidates`). Assumes nothing.
 use mathlib.Core.Path.{_≡_, refl, ap, _∙_}
 use mathlib.Core.Bool.{Bool, true, false, not, _||_, true≢false}
 use mathlib.Core.List.{List, [], _∷_, _++_, append-nil}

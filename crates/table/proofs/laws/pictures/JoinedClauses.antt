@@ -27,7 +27,8 @@ use Rattle.table.proofs.laws.pictures.HandedClauses.{Handed}
 -- ---- the clause at i joined with the clauses u, and those after it
 module _ (n : ℕ) (ts fs : List ℕ) (i : ℕ) (u : List Literals) where
   pub unions-step : i < n
-      → unions (drop i (entriesOf n ts fs)) u ≡ keep consistent (map (join (stored ts fs i)) u) ++ unions (drop (i + 1) (entriesOf n ts fs)) u
+      → unions (drop i (entriesOf n ts fs)) u ≡ keep consistent (map (join (stored ts fs i)) u)
+      ++ unions (drop (i + 1) (entriesOf n ts fs)) u
   unfolding unions
   unions-step lt = collect-entry n ts fs i (λ c. map (join c) u) lt
 

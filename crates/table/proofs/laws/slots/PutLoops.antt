@@ -47,9 +47,8 @@ going-start {k = k} {ts = ts} {fs = fs} e h =
     record { held = h; onwards = ap (λ (x : List Literals). putAll (length ts) x (entriesOf k ts fs)) (sym e) }
 
 module _ {all : List Literals} {k₀ : ℕ} {ts₀ fs₀ : List ℕ} where
-  module _ (ds : List Literals) {bs cs : List Literals} {k : ℕ} {ts fs : List ℕ} {r : Grown} {ts′ fs′ : List ℕ} (g : Going all k₀ ts₀ fs₀ bs k ts fs)
-      (is : bs ≡ cs ++ ds)
-      (w : Puts cs k ts fs r ts′ fs′) where
+  module _ (ds : List Literals) {bs cs : List Literals} {k : ℕ} {ts fs : List ℕ} {r : Grown} {ts′ fs′ : List ℕ}
+      (g : Going all k₀ ts₀ fs₀ bs k ts fs) (is : bs ≡ cs ++ ds) (w : Puts cs k ts fs r ts′ fs′) where
     abbrev cap : ℕ
     cap = length ts₀
 

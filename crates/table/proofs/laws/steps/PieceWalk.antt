@@ -110,7 +110,8 @@ module _ (es : List Effect) (n : ℕ) (ts fs : List ℕ) (i : ℕ) where
   pub images-step : (e : Literals) → i < n → e ≡ slot ts fs i → images (drop i (entriesOf n ts fs))
       ≡ map (image es) (pieces es e) ++ images (drop (i + 1) (entriesOf n ts fs))
   images-step e lt read =
-      ap images (entries-next n ts fs i e lt read) ∙ map-append (image es) (pieces es e) (collect (pieces es) (drop (i + 1) (entriesOf n ts fs)))
+      ap images (entries-next n ts fs i e lt read)
+      ∙ map-append (image es) (pieces es e) (collect (pieces es) (drop (i + 1) (entriesOf n ts fs)))
 
   pub images-end : n ≤ i → images (drop i (entriesOf n ts fs)) ≡ []
   images-end le = ap images (entries-done n ts fs i le)

@@ -50,8 +50,8 @@ same-length c = c .before .loop .inv .2 .long ∙ simp length-set
 returns : tie.Need-returns Inv-loop μ-loop
 returns c =
     let start = c .before .before .before .before .before in
-    wrote-end _ _ _ _ _ (sym (length-entriesOf (start .args .count) (start .args .trues .now) (start .args .falses .now))) (start .pre .1 .long)
-    (c .loop-test .left) (c .before .loop .inv .2)
+    wrote-end _ _ _ _ _ (sym (length-entriesOf (start .args .count) (start .args .trues .now) (start .args .falses .now)))
+    (start .pre .1 .long) (c .loop-test .left) (c .before .loop .inv .2)
 
 pub write-picture-spec : {M : Type 1} → statement M
 write-picture-spec =

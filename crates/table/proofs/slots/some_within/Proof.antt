@@ -29,5 +29,5 @@ returns c = any-told (c .before .loop .inv) (omega arith)
 pub some-within-spec : {M : Type 1} → statement M
 some-within-spec =
     tie.close
-    (tie.spec Inv-loop μ-loop (λ c. any-start) (λ c κs. search needs) (λ c κs. search needs) (λ c. omega arith) (λ c. omega arith) loop-again
-    returns)
+    (tie.spec Inv-loop μ-loop (λ c. any-start) (λ c κs. search needs) (λ c κs. search needs) (λ c. omega arith) (λ c. omega arith)
+    loop-again returns)

@@ -77,7 +77,8 @@ choose-μ-loop laid size at piece to-trues₀ to-falses₀ count after rest₀ f
 -- ---- a turn, once the literal at hand is chosen
 
 -- what was chosen is consistent
-consistent-choice : (t : ℕ) (c : choose-lts.After-join (claims t) (choose-at t) choose.Post choose-Inv-loop choose-μ-loop) → L.consistent (c .join .result) ≡ true
+consistent-choice : (t : ℕ) (c : choose-lts.After-join (claims t) (choose-at t) choose.Post choose-Inv-loop choose-μ-loop)
+    → L.consistent (c .join .result) ≡ true
 consistent-choice t c =
     let at-loop = c .before .before .before .before in
     let start = at-loop .before .before .before .before .before .before in
@@ -145,8 +146,8 @@ choose-choose-requires t c κs =
 choose-returns-2 : (t : ℕ) → choose-lts.Need-returns-2 (claims t) (choose-at t) choose.Post choose-Inv-loop choose-μ-loop
 choose-returns-2 t c =
     let after-join = c .before .before .before .before .before .before in
-    going-full _ (after-join .before .before .before .before .loop .inv .0) (chosen t after-join _ refl) (c .before .before .choose .ensures)
-    (c .enum-told .given .1)
+    going-full _ (after-join .before .before .before .before .loop .inv .0) (chosen t after-join _ refl)
+    (c .before .before .choose .ensures) (c .enum-told .given .1)
 
 choose-offer-by-newest-requires-2 : (t : ℕ) → choose-lts.Need-offer-by-newest-requires-2 (claims t) (choose-at t) choose.Post
     choose-Inv-loop choose-μ-loop

@@ -38,7 +38,8 @@ returns c =
     let after-loop-test = after-grow .before .before .before .before in
     let at-loop = after-loop-test .before in
     sections-refused (at-loop .loop .inv .1)
-    (clauses-step (at-loop .before .before .args .exclusive) _ _ _ (after-loop-test .loop-test .taken)) _ _ _ (after-grow .grow .ensures) _ _ (c .before .number .given .1)
+    (clauses-step (at-loop .before .before .args .exclusive) _ _ _ (after-loop-test .loop-test .taken)) _ _ _ (after-grow .grow .ensures) _ _
+    (c .before .number .given .1)
 
 loop-again : tie.Need-loop-again Inv-loop μ-loop
 loop-again c =
@@ -47,7 +48,8 @@ loop-again c =
     let at-loop = after-loop-test .before in (
       omega arith,
       sections-on (at-loop .loop .inv .1)
-          (clauses-step (at-loop .before .before .args .exclusive) _ _ _ (after-loop-test .loop-test .taken)) _ _ _ (after-grow .grow .ensures) _ (c .before .grown .given .1),
+          (clauses-step (at-loop .before .before .args .exclusive) _ _ _ (after-loop-test .loop-test .taken)) _ _ _
+          (after-grow .grow .ensures) _ (c .before .grown .given .1),
     )
 
 returns-2 : tie.Need-returns-2 Inv-loop μ-loop

@@ -39,8 +39,8 @@ widen-requires c κs =
 returns : tie.Need-returns Inv-loop μ-loop
 returns c =
     let after-loop-test = c .before .before .before .before .before .before .before in
-    going-full _ (after-loop-test .before .loop .inv .1) (collect-entry _ _ _ _ _ (after-loop-test .loop-test .taken)) (c .before .before .widen .ensures)
-    (c .enum-told .given .1)
+    going-full _ (after-loop-test .before .loop .inv .1) (collect-entry _ _ _ _ _ (after-loop-test .loop-test .taken))
+    (c .before .before .widen .ensures) (c .enum-told .given .1)
 
 loop-again : tie.Need-loop-again Inv-loop μ-loop
 loop-again c =

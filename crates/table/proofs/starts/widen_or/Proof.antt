@@ -36,8 +36,8 @@ returns c =
     let after-set-at = after-join .before .before .before in
     let at-loop = after-set-at .before .before in
     going-full _ (at-loop .loop .inv .1)
-    (joined-step _ _ _ _ _ (alts-step _ (at-loop .before .count-of .ensures) (after-set-at .before .loop-test .taken) (after-set-at .set-at .ensures))
-    (after-join .join .ensures)) (c .before .before .admit .ensures) (c .enum-told .given .1)
+    (joined-step _ _ _ _ _ (alts-step _ (at-loop .before .count-of .ensures) (after-set-at .before .loop-test .taken)
+    (after-set-at .set-at .ensures)) (after-join .join .ensures)) (c .before .before .admit .ensures) (c .enum-told .given .1)
 
 loop-again : tie.Need-loop-again Inv-loop μ-loop
 loop-again c =

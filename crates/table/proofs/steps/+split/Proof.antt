@@ -80,12 +80,16 @@ here : (t : ℕ) (c : split-lts.After-effect-at (claims t) (split-at t) split.Po
     → let a = c .before .before .before .args in
     let es = effectsAt (a .size) (a .effects .now) in
     drop (a .undecided .at) es ≡ c .effect-at .result ∷ drop (a .undecided .at + 1) es
-here t c = let start = c .before .before .before in effects-step (start .args .size) (start .args .effects .now) (start .args .undecided .at) _
-    (start .pre .1 .below) (c .effect-at .ensures)
+here t c =
+    let start = c .before .before .before in
+    let a = start .args in
+    effects-step (a .size) (a .effects .now) (a .undecided .at) _ (start .pre .1 .below) (c .effect-at .ensures)
 
 splits : (t : ℕ) (c : split-lts.After-effect-at (claims t) (split-at t) split.Post split-Inv-loop split-μ-loop)
     → Splits (c .effect-at .result .condition) (c .before .before .before .args .piece)
-splits t c = let start = c .before .before .before in subst (λ (e : Effect). Splits (e .condition) (start .args .piece))
+splits t c =
+    let start = c .before .before .before in
+    subst (λ (e : Effect). Splits (e .condition) (start .args .piece))
     (sym (c .effect-at .ensures)) (start .pre .1 .splits)
 
 -- the part of this turn comes first, and then those from the next turn on
@@ -184,7 +188,8 @@ split-loop-again t c =
       turn-on _ (at-loop .loop .t) _ (c .next .ensures),
       going-on _ (at-loop .loop .inv .1) (turned t after-skip-decided _ (c .next .ensures))
           (⊎-elim
-          (λ x. puts-later (x .7) (x .8) (ap grown.To (x .9) ∙ sym (x .5 .given .1)) (settles-puts _ _ _ _ skipped _ _ _ _ _ _ (x .3 .ensures)))
+          (λ x. puts-later (x .7) (x .8) (ap grown.To (x .9) ∙ sym (x .5 .given .1))
+          (settles-puts _ _ _ _ skipped _ _ _ _ _ _ (x .3 .ensures)))
           (λ x. puts-later (x .8) (x .9) (ap grown.To (x .10) ∙ sym (x .6 .given .1))
           (settles-leaf _ _ _ _ skipped (none-left t after-skip-decided (x .0 .left)) _ (x .3 .ensures) _ _ _ _ _ _ (x .4 .ensures)))
           (c .before .if1 .came)) refl,

@@ -8,7 +8,9 @@ use Rattle.table.proofs.steps.branch.Statement.{statement}
 use Rattle.table.proofs.steps.branch.Tie as tie
 
 skip-decided-requires : tie.Need-skip-decided-requires
-skip-decided-requires c κs = let start = c .before in (start .pre .effects-room, carried-start _ _ (start .pre .steady) (start .pre .entry-steady))
+skip-decided-requires c κs =
+    let start = c .before in
+    (start .pre .effects-room, carried-start _ _ (start .pre .steady) (start .pre .entry-steady))
 
 split-requires : tie.Need-split-requires
 split-requires c κs =
