@@ -1,6 +1,6 @@
 -- The theorems about tables: putting, the start (TH2), the step (TH3), each number on its own condition (TH4), the picture (TH8), the test
 -- of a table, contradictory results by pairs, and the requests that specs/Demands states (W3: the test of a candidate). TH4 and TH8 are
--- passed on from `Answers`, `PictureAnswers` and `Pictures`. Assumes nothing.
+-- passed on from `laws/answers` and `laws/pictures/PictureWorlds`. Assumes nothing.
 use mathlib.Core.Path.{_≡_, refl, sym}
 use mathlib.Core.Bool.{true, false, not}
 use mathlib.Core.List.{List, [], _∷_, map}

@@ -1,4 +1,5 @@
--- The tables that the calls start and step return on an accepted sheet: as described, unused slots zero, and their worlds. Assumes nothing.
+-- The tables that the calls start and step return on an accepted sheet: as described, unused slots zero, and their worlds. For
+-- `answers/CallDemands` and for the crate plan. Assumes nothing.
 use mathlib.Core.Path.{_≡_, sym, ap, _∙_}
 use mathlib.Core.List.{List, [], _∷_, List·Memᴰ}
 use mathlib.Core.Logic.{inl, _↔_}

@@ -13,7 +13,7 @@ use Rattle.sheet.specs.Lists.{keep, pad}
 use Rattle.sheet.proofs.laws.base.Padding.{pad-set, length-pad, pad-suc, pad-over, pad-front}
 use Rattle.table.specs.Entries.{trues-of, falses-of, entriesOf}
 use Rattle.table.specs.inner.Slots.{Holds, Held}
-use Rattle.table.proofs.laws.arrays.KeptMembers.{keep-more, keep-less}
+use Rattle.table.proofs.laws.arrays.KeptMembers.{keep-length, keep-more, keep-less}
 use Rattle.table.proofs.laws.arrays.HeldLists.{length-entriesOf, getD-entriesOf, take-entriesOf, holds-falses-long}
 
 -- ---- one array
@@ -143,37 +143,30 @@ module _ (f : Literals → Bool) (n : ℕ) (ts₀ fs₀ : List ℕ) (held : Held
         }
 
     pub moved-end : n ≤ i → Holds (length ts₀) (keep f (entriesOf n ts₀ fs₀)) k ts fs
-    moved-end le =
-        let j : i ≡ n = omega (arith, m .upto) in
-        let es : List Literals = entriesOf n ts₀ fs₀ in
-        let w : take i (entriesOf n ts₀ fs₀) ≡ entriesOf n ts₀ fs₀ = take-all i (entriesOf n ts₀ fs₀)
-        (omega (arith, length-entriesOf n ts₀ fs₀)) in
-        let c : k ≡ length (keep f (entriesOf n ts₀ fs₀)) = m .count-is ∙ ap (λ (x : List Literals). length (keep f x)) w in
-        record {
-          count-is = c;
-          room = omega (arith, m .behind, held .room);
-          trues-are =
-              m .trues-are
-              ∙ ap (λ (x : List Literals). pad i 0 (trues-of (keep f x)) ++ drop i ts₀) w
-              ∙ ap (λ (x : ℕ). pad x 0 (trues-of (keep f (entriesOf n ts₀ fs₀))) ++ drop x ts₀) j
-              ∙ ap (λ (x : List ℕ). pad n 0 (trues-of (keep f (entriesOf n ts₀ fs₀))) ++ drop n x) (held .trues-are)
-              ∙ over (λ (e : Literals). e .trues) c;
-          falses-are =
-              m .falses-are
-              ∙ ap (λ (x : List Literals). pad i 0 (falses-of (keep f x)) ++ drop i fs₀) w
-              ∙ ap (λ (x : ℕ). pad x 0 (falses-of (keep f (entriesOf n ts₀ fs₀))) ++ drop x fs₀) j
-              ∙ ap (λ (x : List ℕ). pad n 0 (falses-of (keep f (entriesOf n ts₀ fs₀))) ++ drop n x) (held .falses-are)
-              ∙ over (λ (e : Literals). e .falses) c;
-        }
+    moved-end le = record {
+      count-is = m .count-is ∙ ap (λ (x : List Literals). length (keep f x)) whole;
+      room = omega (arith, m .behind, held .room);
+      trues-are = over (λ (e : Literals). e .trues) ts ts₀ (m .trues-are) (held .trues-are);
+      falses-are = over (λ (e : Literals). e .falses) fs fs₀ (m .falses-are) (held .falses-are);
+    }
       where
-        over : (g : Literals → ℕ) → k ≡ length (keep f (entriesOf n ts₀ fs₀))
-            → pad n 0 (map g (keep f (entriesOf n ts₀ fs₀)))
-            ++ drop n (pad (length ts₀) 0 (map g (entriesOf n ts₀ fs₀))) ≡ pad (length ts₀) 0 (map g (keep f (entriesOf n ts₀ fs₀)))
-        over g c =
-            pad-over n (length ts₀) 0 (map g (keep f (entriesOf n ts₀ fs₀))) (map g (entriesOf n ts₀ fs₀))
-            (omega (arith, m .behind, m .upto, length-map (keep f (entriesOf n ts₀ fs₀)) g))
-            (length-map (entriesOf n ts₀ fs₀) g ∙ length-entriesOf n ts₀ fs₀)
-            (held .room)
+        es : List Literals
+        es = entriesOf n ts₀ fs₀
+
+        whole : take i es ≡ es
+        whole = take-all i es (omega (arith, length-entriesOf n ts₀ fs₀))
+
+        over : (g : Literals → ℕ) (xs old : List ℕ) → xs ≡ pad i 0 (map g (keep f (take i es))) ++ drop i old
+            → old ≡ pad (length ts₀) 0 (map g es) → xs ≡ pad (length ts₀) 0 (map g (keep f es))
+        over g xs old p q =
+            let j : i ≡ n = omega (arith, m .upto) in
+            p
+            ∙ ap (λ (x : List Literals). pad i 0 (map g (keep f x)) ++ drop i old) whole
+            ∙ ap (λ (x : ℕ). pad x 0 (map g (keep f es)) ++ drop x old) j
+            ∙ ap (λ (x : List ℕ). pad n 0 (map g (keep f es)) ++ drop n x) q
+            ∙ pad-over n (length ts₀) 0 (map g (keep f es)) (map g es)
+            (omega (arith, keep-length f es, length-entriesOf n ts₀ fs₀, length-map (keep f es) g))
+            (length-map es g ∙ length-entriesOf n ts₀ fs₀) (held .room)
 
 -- the same at equal values
 pub moved-is : (f : Literals → Bool) (n : ℕ) (ts₀ fs₀ ts fs ts′ fs′ : List ℕ) (k k′ i : ℕ) → ts′ ≡ ts → fs′ ≡ fs → k′ ≡ k

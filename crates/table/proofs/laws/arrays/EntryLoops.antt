@@ -1,5 +1,5 @@
--- Loops over the entries of two arrays: what a turn adds, and what they test in the end. For `tables::all_proper`, `tables::is_antichain`,
--- `slots::some_within`, `slots::some_above`, `steps::sure`, `steps::admitted` and `steps::opposes`. Assumes nothing.
+-- Loops over the entries of two arrays, and over any list that is tested: what a turn adds, and what they tell in the end. For the loops
+-- of tables.rt, slots.rt and steps.rt that test, and for goals.rt in the crate plan. Assumes nothing.
 use mathlib.Core.Path.{_≡_, refl, sym, ap, _∙_}
 use mathlib.Core.Bool.{Bool, true, false, not, _&&_, _||_}
 use mathlib.Core.List.{List, [], _∷_}

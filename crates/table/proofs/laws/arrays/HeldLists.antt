@@ -1,4 +1,5 @@
--- Arrays of masks that hold a list, with zeros after it: what is stored, read and pushed, over every capacity. Assumes nothing.
+-- Arrays of masks that hold a list, with zeros after it: what is stored, read and pushed, over every capacity. For every function that has
+-- a table in arrays, and for the crate plan. Assumes nothing.
 use mathlib.Core.Path.{_≡_, refl, sym, ap, _∙_, subst}
 use mathlib.Core.List.{List, [], _∷_, _++_, map, map-append}
 use Prim.Native.Nat.{ℕ, zero, suc, _+_, _≤_, _<_}

@@ -1,4 +1,4 @@
--- The bytes of a picture give its clauses back. Assumes nothing.
+-- The bytes of a picture give its clauses back. For TH8 (`bytes-worlds` in `pictures/PictureWorlds`) and the crate plan. Assumes nothing.
 use mathlib.Core.Path.{_≡_, refl, sym, ap₂, _∙_}
 use mathlib.Core.List.{List, [], _∷_}
 use Prim.Native.Nat.{ℕ, _+_, _*_, _/_, _%_, _^_, _<_}

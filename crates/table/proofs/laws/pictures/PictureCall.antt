@@ -1,4 +1,4 @@
--- The call `picture` from its parts: the order of its tests, and what it writes. Assumes nothing.
+-- The call `picture` from its parts: the order of its tests, and what it writes. For `picture_bytes::draw` and `picture`. Assumes nothing.
 use mathlib.Core.Path.{_≡_, refl, sym, ap, ap₂, _∙_, subst}
 use mathlib.Core.Bool.{true, false, cond}
 use mathlib.Core.List.{List, _++_}

@@ -1,4 +1,5 @@
--- Pictures and worlds: what the clauses of a picture are, their order, and what equal bytes mean. Assumes nothing.
+-- Pictures and worlds: what the clauses of a picture are, their order, and what equal bytes mean. For TH8 (proofs/Demands) and for the
+-- crate plan. Assumes nothing.
 use mathlib.Core.Path.{_≡_, sym, ap, _∙_, subst}
 use mathlib.Core.Logic.{_⊎_, _↔_}
 use mathlib.Core.Option.{some}

@@ -1,4 +1,5 @@
--- Prime implicates: the fold of the picture lists those of the table's worlds, and they say which worlds these are. Assumes nothing.
+-- Prime implicates: the fold of the picture lists those of the table's worlds, and they say which worlds these are. For TH8
+-- (`pictures/PictureWorlds`) and for the crate plan. Assumes nothing.
 use mathlib.Core.Path.{_≡_, refl, sym, ap, ap₂, _∙_, subst}
 use mathlib.Core.Logic.{_⊎_, inl, inr, _↔_}
 use mathlib.Core.Bool.{Bool, true, false, not, cond, true≢false}

@@ -1,4 +1,4 @@
--- The literals of an entry, listed in slices as one-literal clauses. Assumes nothing.
+-- The literals of an entry, listed in slices as one-literal clauses. For `picture_clauses::units`. Assumes nothing.
 use mathlib.Core.Path.{_≡_, sym, ap, _∙_, subst}
 use mathlib.Core.List.{List, [], _∷_, _++_, map, append-nil}
 use Prim.Native.Nat.{ℕ, _+_, _-_, _≤_, _<_}

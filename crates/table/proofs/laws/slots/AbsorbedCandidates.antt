@@ -1,4 +1,5 @@
--- Candidates that all contain one of them: it alone is what they leave, where there is room for all. Assumes nothing.
+-- Candidates that all contain one of them: it alone is what they leave, where there is room for all. For `picture_clauses::distribute`.
+-- Assumes nothing.
 use mathlib.Core.Path.{_≡_, refl, sym, ap, _∙_, subst}
 use mathlib.Core.Bool.{Bool, true, false, not}
 use mathlib.Core.List.{List, [], _∷_, _++_, map, append-nil}

@@ -1,4 +1,5 @@
--- A scan from the last member to the first. Assumes nothing.
+-- A scan from the last member to the first. For W3 (`request-w3` in proofs/Demands), `slots::last_within` and what it calls,
+-- `slots::first_above`, `slots::put` and `slots::offer_by_newest`. Assumes nothing.
 use mathlib.Core.Path.{_≡_, refl, sym, ap, _∙_, subst}
 use mathlib.Core.Bool.{Bool, true, false, not, _||_, cond}
 use mathlib.Core.List.{List, [], _∷_, _++_}

@@ -1,4 +1,4 @@
--- What is left of candidates that are put is the least of them (source document 001, Definition 1). For TH8 (`pictures/Primes`) and for the
+-- What is left of candidates that are put is the least of them (source document 001, Definition 1). For TH8 (`pictures/Primes`) and the
 -- tables that calls return (`answers/CallTables`). Assumes nothing.
 use mathlib.Core.Path.{_≡_, sym, _∙_, subst}
 use mathlib.Core.Logic.{_⊎_, inl, inr, _↔_}

@@ -1,4 +1,5 @@
--- The three cases of putting a candidate, over any capacity, on lists and on the slices that hold them. Assumes nothing.
+-- The three fates of a candidate that is put: dropped, added, no room; on lists, and on the slices that hold them. For `slots::put`,
+-- `slots::offer`, `slots::offer_by_newest` and W3 (proofs/Demands). Assumes nothing.
 use Prim.Native.Nat.{ℕ, _+_, _-_, _≤_, _<_}
 use mathlib.Core.Path.{_≡_, refl, sym, ap, ap₂, _∙_, subst}
 use mathlib.Core.Bool.{Bool, true, false, not, cond}

@@ -1,4 +1,5 @@
--- Candidates put one after the other into slots, until there is no room. Assumes nothing.
+-- Candidates put one after the other into slots, until there is no room. For every loop that puts: `slots::admit`, `starts::widen` to
+-- `widen_all`, `starts::choose`, `steps::split`, `steps::branch_all`, `picture_clauses::join_lists`, `put_joined`. Assumes nothing.
 use Prim.Native.Nat.{ℕ}
 use mathlib.Core.Path.{_≡_, refl, sym, ap, _∙_, subst}
 use mathlib.Core.List.{List, [], _∷_, _++_}
@@ -11,7 +12,7 @@ use Rattle.table.specs.Worlds.{andThen}
 use Rattle.table.specs.Minimal.{put, putAll}
 use Rattle.table.specs.Entries.{entriesOf}
 use Rattle.table.specs.inner.Slots.{Held, Grew, Puts}
-use Rattle.table.proofs.laws.arrays.HeldLists.{holds-trues-long}
+use Rattle.table.proofs.laws.arrays.HeldLists.{holds-trues-long, holds-falses-long}
 
 pub putAll-append : (cap : ℕ) (cs ds s : List Literals) → putAll cap (cs ++ ds) s ≡ andThen (putAll cap cs s) (λ r. putAll cap ds r)
 putAll-append cap [] ds s = refl
@@ -73,6 +74,14 @@ module _ {all : List Literals} {k₀ : ℕ} {ts₀ fs₀ : List ℕ} where
 
     pub going-full : r ≡ grown.Full → Puts all k₀ ts₀ fs₀ grown.Full ts′ fs′
     going-full e = record { grew = sym split-up ∙ ap rest-of (at-cap grown.Full e) }
+
+  -- the slots are as many as they were
+  pub going-trues-long : {ds : List Literals} {k : ℕ} {ts fs : List ℕ} → Going all k₀ ts₀ fs₀ ds k ts fs → length ts ≡ length ts₀
+  going-trues-long g = holds-trues-long (g .held)
+
+  pub going-falses-long : {ds : List Literals} {k : ℕ} {ts fs : List ℕ} → Held (length ts₀) k₀ ts₀ fs₀ → Going all k₀ ts₀ fs₀ ds k ts fs
+      → length fs ≡ length fs₀
+  going-falses-long h g = holds-falses-long (g .held) ∙ sym (holds-falses-long h)
 
   pub going-end : {ds : List Literals} {k : ℕ} {ts fs : List ℕ} → Going all k₀ ts₀ fs₀ ds k ts fs → ds ≡ []
       → Puts all k₀ ts₀ fs₀ (grown.To k) ts fs

@@ -1,4 +1,4 @@
--- The candidates of a clause: their worlds are the entry's worlds that meet the clause. Assumes nothing.
+-- The candidates of a clause: their worlds are the entry's worlds that meet the clause. For TH2 (`starts/StartWorlds`). Assumes nothing.
 use mathlib.Core.Path.{_≡_, refl, sym, subst, ap, _∙_}
 use mathlib.Core.Bool.{Bool, true, false, not}
 use mathlib.Core.List.{List, [], _∷_, _++_}

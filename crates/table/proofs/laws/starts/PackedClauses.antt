@@ -1,4 +1,5 @@
--- The alternatives of a clause in 17 numbers, and the clauses of a section one after the other. Assumes nothing.
+-- Clauses in an array, 17 numbers each: their alternatives, one clause after the other, the sections of a sheet. For `starts::widen_or` to
+-- `widen_oneof`, `starts::lay_others`, `starts::grow_all` and `starts::first_into`. Assumes nothing.
 use mathlib.Core.Path.{_≡_, refl, sym, ap, _∙_}
 use mathlib.Core.List.{List, [], _∷_, map}
 use mathlib.Core.Bool.{Bool}

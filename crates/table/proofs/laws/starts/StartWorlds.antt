@@ -1,4 +1,5 @@
--- The start table stands for exactly the starting worlds; 20 says that there are none; which clause gives 20 or 21. Assumes nothing.
+-- The start table stands for exactly the starting worlds; 20 says that there are none; which clause gives 20 or 21. For TH2
+-- (proofs/Demands). Assumes nothing.
 use mathlib.Core.Path.{_≡_, refl, sym, subst, ap, _∙_}
 use mathlib.Core.List.{List, [], _∷_, _++_, map}
 use mathlib.Core.Logic.{_⊎_, inl, inr, _↔_}

@@ -1,5 +1,5 @@
--- What is carried down where a piece is split, one condition after the other: the results of the conditions that were passed.
--- Assumes nothing.
+-- What is carried down where a piece is split, one condition after the other: the results of the conditions that were passed. For
+-- `steps::skip_decided`, `steps::split`, `steps::branch` and `steps::branch_all`. Assumes nothing.
 use mathlib.Core.Path.{_≡_, refl, sym, ap, ap₂, _∙_, subst}
 use mathlib.Core.Bool.{Bool, true, false, not, _||_, and-eq-true-iff, true≢false}
 use mathlib.Core.List.{List, [], _∷_, _++_, map, append-nil}

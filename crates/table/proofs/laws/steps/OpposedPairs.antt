@@ -1,4 +1,5 @@
--- Contradictory results by pairs: some piece has them exactly if two effects with clashing results can hold together. Assumes nothing.
+-- Contradictory results by pairs: some piece has them exactly if two effects with clashing results can hold together. For
+-- `pairs-contradict` in proofs/Demands and for `steps::step_at` (`steps/StepArrays`). Assumes nothing.
 use mathlib.Core.Path.{_≡_, refl, sym, subst, ap₂, _∙_, ap}
 use mathlib.Core.Bool.{Bool, true, false, not, _&&_, _||_, and-false}
 use mathlib.Core.List.{List, [], _∷_, _++_}

@@ -1,4 +1,5 @@
--- The walk over the pieces of an entry, one condition and one part at a time, and what is put on it. Assumes nothing.
+-- The walk over the pieces of an entry, one condition and one part at a time, and over the entries. For `steps::split`,
+-- `steps::branch_all` and `steps/CarriedResults`. Assumes nothing.
 use mathlib.Core.Path.{_≡_, sym, ap, _∙_, subst}
 use mathlib.Core.Bool.{Bool, true, false, _||_}
 use mathlib.Core.List.{List, [], _∷_, _++_, map, map-append, append-nil}

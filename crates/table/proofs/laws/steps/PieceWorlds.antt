@@ -1,4 +1,5 @@
--- The pieces of an entry: the same worlds, each piece proper, each condition decided. Assumes nothing.
+-- The pieces of an entry: the same worlds, each piece proper, each condition decided. For TH3 (`steps/StepWorlds`) and
+-- `steps/OpposedPairs`. Assumes nothing.
 use mathlib.Core.Path.{_≡_, refl, sym, subst, ap₂, _∙_}
 use mathlib.Core.Bool.{Bool, true, false, not, _||_}
 use mathlib.Core.List.{List, [], _∷_}

@@ -1,4 +1,5 @@
--- A step of a table is exactly the step of each of its worlds. Assumes nothing.
+-- A step of a table is exactly the step of each of its worlds. For TH3 (`step-24` to `step-kind` in proofs/Demands), TH4 and the crate
+-- plan. Assumes nothing.
 use mathlib.Core.Path.{_≡_, refl, sym, subst, ap, _∙_}
 use mathlib.Core.Bool.{Bool, true, false, not}
 use mathlib.Core.List.{List, [], _∷_, map}

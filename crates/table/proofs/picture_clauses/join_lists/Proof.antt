@@ -1,12 +1,12 @@
 -- `table::picture_clauses::join_lists` meets its contract. The invariant: the clauses from i on are still to be joined. Assumes nothing.
-use mathlib.Core.Path.{refl, sym, _∙_}
+use mathlib.Core.Path.{refl, _∙_}
 use Prim.Native.Nat.{_≤_, _-_}
 use native.Mathlib.Omega.{arith}
 use lib.ListN.{drop}
 use Rattle.table.specs.Picture.{unions}
 use Rattle.table.specs.Entries.{entriesOf}
-use Rattle.table.proofs.laws.arrays.HeldLists.{holds-trues-long, holds-falses-long, held-own}
-use Rattle.table.proofs.laws.slots.PutLoops.{Going, going-start, going-on, going-full, going-end}
+use Rattle.table.proofs.laws.arrays.HeldLists.{held-own}
+use Rattle.table.proofs.laws.slots.PutLoops.{Going, going-start, going-on, going-full, going-trues-long, going-falses-long, going-end}
 use Rattle.table.proofs.laws.pictures.JoinedClauses.{unions-step, unions-end}
 use borrow.Author.Needs.{needs}
 use Rattle.table.proofs.picture_clauses.join_lists.Statement.{statement}
@@ -36,15 +36,14 @@ same-length : tie.Need-same-length Inv-loop μ-loop
 same-length c =
     let after-distribute = c .before .before .before .before .before .before in
     let at-loop = after-distribute .before .before .before .before .before .before in
-    after-distribute .distribute .kept .1 .1 .1 .1 .0 ∙ holds-trues-long (at-loop .loop .inv .1 .held)
+    after-distribute .distribute .kept .1 .1 .1 .1 .0 ∙ going-trues-long (at-loop .loop .inv .1)
 
 same-length-2 : tie.Need-same-length-2 Inv-loop μ-loop
 same-length-2 c =
     let after-distribute = c .before .before .before .before .before .before in
     let at-loop = after-distribute .before .before .before .before .before .before in
     let start = at-loop .before .before .before .before .before .before .before in
-    after-distribute .distribute .kept .1 .1 .1 .1 .1 .0 ∙ holds-falses-long (at-loop .loop .inv .1 .held)
-    ∙ sym (holds-falses-long (start .pre .held))
+    after-distribute .distribute .kept .1 .1 .1 .1 .1 .0 ∙ going-falses-long (start .pre .held) (at-loop .loop .inv .1)
 
 returns : tie.Need-returns Inv-loop μ-loop
 returns c =
@@ -65,12 +64,12 @@ loop-again c =
     )
 
 same-length-3 : tie.Need-same-length-3 Inv-loop μ-loop
-same-length-3 c = holds-trues-long (c .before .loop .inv .1 .held)
+same-length-3 c = going-trues-long (c .before .loop .inv .1)
 
 same-length-4 : tie.Need-same-length-4 Inv-loop μ-loop
 same-length-4 c =
     let start = c .before .before .before .before .before .before .before .before in
-    holds-falses-long (c .before .loop .inv .1 .held) ∙ sym (holds-falses-long (start .pre .held))
+    going-falses-long (start .pre .held) (c .before .loop .inv .1)
 
 returns-2 : tie.Need-returns-2 Inv-loop μ-loop
 returns-2 c = going-end (c .before .loop .inv .1) (unions-end _ _ _ _ _ (c .loop-test .left))

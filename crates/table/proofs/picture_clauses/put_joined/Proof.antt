@@ -1,5 +1,5 @@
 -- `table::picture_clauses::put_joined` meets its contract. The invariant: the clauses from i on are still to be joined. Assumes nothing.
-use mathlib.Core.Path.{refl, sym, _∙_}
+use mathlib.Core.Path.{refl, _∙_}
 use mathlib.Core.List.{map}
 use Prim.Native.Nat.{_≤_, _-_}
 use native.Mathlib.Omega.{arith}
@@ -7,8 +7,8 @@ use lib.ListN.{drop}
 use Rattle.sheet.specs.Literals.{join, consistent}
 use Rattle.sheet.specs.Lists.{keep}
 use Rattle.table.specs.Entries.{entriesOf}
-use Rattle.table.proofs.laws.arrays.HeldLists.{holds-trues-long, holds-falses-long, held-own}
-use Rattle.table.proofs.laws.slots.PutLoops.{Going, going-start, going-on, going-full, going-end}
+use Rattle.table.proofs.laws.arrays.HeldLists.{held-own}
+use Rattle.table.proofs.laws.slots.PutLoops.{Going, going-start, going-on, going-full, going-trues-long, going-falses-long, going-end}
 use Rattle.table.proofs.laws.slots.ConsistentCandidates.{joined-entry, joined-none}
 use borrow.Author.Needs.{needs}
 use Rattle.table.proofs.picture_clauses.put_joined.Statement.{statement}
@@ -35,15 +35,14 @@ same-length : tie.Need-same-length Inv-loop μ-loop
 same-length c =
     let after-admit = c .before .before .before .before .before .before in
     let at-loop = after-admit .before .before .before .before .before .before .before in
-    after-admit .admit .kept .0 ∙ holds-trues-long (at-loop .loop .inv .1 .held)
+    after-admit .admit .kept .0 ∙ going-trues-long (at-loop .loop .inv .1)
 
 same-length-2 : tie.Need-same-length-2 Inv-loop μ-loop
 same-length-2 c =
     let after-admit = c .before .before .before .before .before .before in
     let at-loop = after-admit .before .before .before .before .before .before .before in
     let start = at-loop .before .before .before .before .before in
-    after-admit .admit .kept .1 .0 ∙ holds-falses-long (at-loop .loop .inv .1 .held)
-    ∙ sym (holds-falses-long (start .pre .1))
+    after-admit .admit .kept .1 .0 ∙ going-falses-long (start .pre .1) (at-loop .loop .inv .1)
 
 returns : tie.Need-returns Inv-loop μ-loop
 returns c =
@@ -68,12 +67,12 @@ loop-again c =
     )
 
 same-length-3 : tie.Need-same-length-3 Inv-loop μ-loop
-same-length-3 c = holds-trues-long (c .before .loop .inv .1 .held)
+same-length-3 c = going-trues-long (c .before .loop .inv .1)
 
 same-length-4 : tie.Need-same-length-4 Inv-loop μ-loop
 same-length-4 c =
     let start = c .before .before .before .before .before .before in
-    holds-falses-long (c .before .loop .inv .1 .held) ∙ sym (holds-falses-long (start .pre .1))
+    going-falses-long (start .pre .1) (c .before .loop .inv .1)
 
 returns-2 : tie.Need-returns-2 Inv-loop μ-loop
 returns-2 c = going-end (c .before .loop .inv .1) (joined-none _ _ _ _ _ (c .loop-test .left))
