@@ -6,7 +6,7 @@ use mathlib.Core.List.{List, [], _∷_}
 use Prim.Native.Nat.{ℕ, suc, _+_, _≤_, _<_}
 use native.Mathlib.Numerals.{add-one}
 use native.Mathlib.Omega.{arith}
-use lib.ListN.{length, getD, drop, drop-of-length-le}
+use lib.ListN.{getD, drop, drop-of-length-le}
 use lib.Seq.{drop-cons}
 use Rattle.sheet.specs.declared.Literals.{Literals}
 use Rattle.sheet.specs.Literals.{noLiteral, within}
@@ -14,7 +14,7 @@ use Rattle.sheet.specs.Lists.{anyOf, allOf}
 use Rattle.table.specs.Minimal.{apart, antichain}
 use Rattle.table.specs.Entries.{entriesOf}
 use Rattle.table.specs.inner.Slots.{slot}
-use Rattle.table.proofs.laws.arrays.HeldLists.{length-entriesOf, getD-entriesOf}
+use Rattle.table.proofs.laws.arrays.HeldLists.{inside, length-entriesOf, getD-entriesOf}
 
 -- the next member is x, and b its test
 module _ {A : Type 0} (f : A → Bool) (x : A) (xs ys : List A) (b : Bool) (q : xs ≡ x ∷ ys) (is : b ≡ f x) where
@@ -63,8 +63,7 @@ module _ (n : ℕ) (ts fs : List ℕ) (i : ℕ) where
   pub entries-next : (e : Literals) → i < n → e ≡ slot ts fs i → drop i (entriesOf n ts fs) ≡ e ∷ drop (i + 1) (entriesOf n ts fs)
   unfolding slot
   entries-next e h is =
-      let lt : i < length (entriesOf n ts fs) = omega (arith, length-entriesOf n ts fs) in
-      drop-cons (entriesOf n ts fs) i noLiteral lt
+      drop-cons (entriesOf n ts fs) i noLiteral (inside n ts fs h)
       ∙ ap (λ (x : Literals). x ∷ drop (suc i) (entriesOf n ts fs)) (getD-entriesOf n ts fs i h ∙ sym is)
       ∙ ap (λ (j : ℕ). e ∷ drop j (entriesOf n ts fs)) (sym (add-one i))
 

@@ -27,6 +27,10 @@ pub length-entriesOf : (n : ℕ) (ts fs : List ℕ) → length (entriesOf n ts f
 unfolding entriesOf
 length-entriesOf n ts fs = length-pairs n (pad n 0 ts) (pad n 0 fs) (length-pad n 0 ts) (length-pad n 0 fs)
 
+-- a place below the count is one of an entry
+pub inside : (n : ℕ) (ts fs : List ℕ) {i : ℕ} → i < n → i < length (entriesOf n ts fs)
+inside n ts fs h = omega (arith, length-entriesOf n ts fs)
+
 getD-pairs : (n : ℕ) (ts fs : List ℕ) (i : ℕ) → length ts ≡ n → length fs ≡ n → i < n
     → getD (pairs ts fs) i noLiteral ≡ record { trues = getD ts i 0; falses = getD fs i 0 }
 unfolding pairs

@@ -6,18 +6,6 @@ use Rattle.table.proofs.laws.slots.ConsistentCandidates.{kept-one, left
 use Rattle.table.proofs.slots.admit.Statement.{statement}
 use Rattle.table.proofs.slots.admit.Tie as tie
 
-consistent-requires : tie.Need-consistent-requires
-consistent-requires c κs = search needs
-
-offer-requires : tie.Need-offer-requires
-offer-requires c κs = search needs
-
-same-length : tie.Need-same-length
-same-length c = search needs
-
-same-length-2 : tie.Need-same-length-2
-same-length-2 c = search needs
-
 returns : tie.Need-returns
 returns c =
     let after-offer = c .before .before .before .before in
@@ -33,4 +21,4 @@ returns-2 c = nothing-put (left-out _ (sym (c .before .consistent .ensures) ∙ 
 pub admit-spec : {M : Type 1} → statement M
 admit-spec =
     tie.close
-    (tie.spec consistent-requires offer-requires same-length same-length-2 returns returns-2)
+    (tie.spec (λ c κs. search needs) (λ c κs. search needs) (λ c. search needs) (λ c. search needs) returns returns-2)

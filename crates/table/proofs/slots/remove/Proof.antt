@@ -45,12 +45,6 @@ loop-holds c =
     let e = c .first-above .ensures in
     moved-start _ _ _ _ (start .pre) _ (e .0) (none-goes (λ e. within (start .args .candidate) e) _ (e .1))
 
-slice-write-trues-2 : tie.Need-slice-write-trues-2 Inv-loop μ-loop
-slice-write-trues-2 c = simp length-set (omega arith)
-
-slice-write-falses-2 : tie.Need-slice-write-falses-2 Inv-loop μ-loop
-slice-write-falses-2 c = simp length-set (omega arith)
-
 loop-again : tie.Need-loop-again Inv-loop μ-loop
 loop-again c =
     let at-loop = c .before .before .before .before .before in
@@ -81,5 +75,6 @@ remove-spec =
     tie.close
     (tie.spec Inv-loop μ-loop some-above-requires (λ c. search needs) (λ c. search needs) returns first-above-requires loop-holds
     (λ c. omega arith) (λ c. omega arith) (λ c. omega arith) (λ c. omega arith) (λ c. omega arith) (λ c. omega arith) (λ c. omega arith)
-    (λ c. omega arith) (λ c κs. search needs) (λ c. omega arith) slice-write-trues-2 (λ c. omega arith) slice-write-falses-2
-    (λ c. omega arith) (λ c. omega arith) (λ c. omega arith) loop-again same-length-3 same-length-4 returns-2)
+    (λ c. omega arith) (λ c κs. search needs) (λ c. omega arith) (λ c. simp length-set (omega arith)) (λ c. omega arith)
+    (λ c. simp length-set (omega arith)) (λ c. omega arith) (λ c. omega arith) (λ c. omega arith) loop-again same-length-3 same-length-4
+    returns-2)
