@@ -118,36 +118,40 @@ none-left t c h =
 
 split-loop-holds : (t : ℕ) → split-lts.Need-loop-holds (claims t) (split-at t) split.Post split-Inv-loop split-μ-loop
 split-loop-holds t c =
-    let start = c .before .before .before .before .before in
-    let s = splits t (c .before .before) in (
+    let after-effect-at = c .before .before in
+    let start = after-effect-at .before .before .before in
+    let a = start .args in
+    let by = splits t after-effect-at in (
       turn-start _,
-      going-start
-          (parts-start (effectsAt (start .args .size) (start .args .effects .now)) _ _ _ (start .args .piece) (here t (c .before .before)) _
-          (rw (s .lacking, s .apart)) (c .minus .ensures)) (start .pre .1 .held),
+      going-start (parts-start (effectsAt (a .size) (a .effects .now)) _ _ _ (a .piece) (here t after-effect-at) _
+          (rw (by .lacking, by .apart)) (c .minus .ensures)) (start .pre .1 .held),
     )
 
 split-skip-decided-requires : (t : ℕ) → split-lts.Need-skip-decided-requires (claims t) (split-at t) split.Post split-Inv-loop split-μ-loop
 split-skip-decided-requires t c κs =
-    let start = c .before .before .before .before .before .before .before .before .before in
-    let v = c .before .before .before .loop in (
+    let at-loop = c .before .before .before in
+    let after-effect-at = at-loop .before .before .before in
+    let start = after-effect-at .before .before .before in (
       start .pre .1 .effects-room,
-      past-part _ _ _ _ (here t (c .before .before .before .before .before .before)) _ _ (start .pre .1 .carried) _
-          (c .before .before .before .before .minus .ensures) (splits t (c .before .before .before .before .before .before) .apart) (v .t)
-          (c .before .before .loop-test .taken) (v .inv .0) _ _ (c .before .part .ensures) (c .carried .ensures),
+      past-part _ _ _ _ (here t after-effect-at) _ _ (start .pre .1 .carried) _ (at-loop .before .minus .ensures)
+          (splits t after-effect-at .apart) (at-loop .loop .t) (c .before .before .loop-test .taken) (at-loop .loop .inv .0) _ _
+          (c .before .part .ensures) (c .carried .ensures),
     )
 
 split-split-requires : (t : ℕ) → split-lts.Need-split-requires (claims t) (split-at t) split.Post split-Inv-loop split-μ-loop
 split-split-requires t c κs =
-    let start = c .before .before .before .before .before .before .before .before .before .before .before .before .before .before in
-    let s = c .before .before .before .before .skip-decided .ensures in
-    let h : c .before .before .before .before .skip-decided .result .at < start .args .size = omega arith in (
-      omega (arith, s .0 .upto, start .pre .0, start .pre .1 .below),
+    let after-skip-decided = c .before .before .before .before in
+    let at-loop = after-skip-decided .before .before .before .before in
+    let start = at-loop .before .before .before .before .before .before in
+    let skipped = after-skip-decided .skip-decided .ensures in
+    let h : after-skip-decided .skip-decided .result .at < start .args .size = omega arith in (
+      omega (arith, skipped .0 .upto, start .pre .0, start .pre .1 .below),
       record {
         effects-room = start .pre .1 .effects-room;
         below = h;
-        splits = s .1 h;
-        carried = s .0 .carried;
-        held = held-own (c .before .before .before .before .before .before .before .before .loop .inv .1 .held);
+        splits = skipped .1 h;
+        carried = skipped .0 .carried;
+        held = held-own (at-loop .loop .inv .1 .held);
       },
     )
 
