@@ -1,4 +1,5 @@
--- The start: the candidates of a clause by worlds and by choices, the first table over arrays (src/starts.rt). For this crate alone.
+-- The start: the candidates of a clause by worlds and by choices, the first table over arrays (src/starts.rt).
+-- ---- for this crate alone
 pub mod LackedLiterals
 pub mod OtherAlternatives
 pub mod OneofWays

@@ -38,8 +38,8 @@ returns c =
     let after-loop-test = after-grow .before .before .before .before in
     let at-loop = after-loop-test .before in
     sections-refused (at-loop .loop .inv .1)
-    (clauses-step (at-loop .before .before .args .exclusive) _ _ _ (after-loop-test .loop-test .taken)) _ _ _ (after-grow .grow .ensures) _ _
-    (c .before .number .given .1)
+    (clauses-step (at-loop .before .before .args .exclusive) _ _ _ (after-loop-test .loop-test .taken)) _ _ _
+    (after-grow .grow .ensures) _ _ (c .before .number .given .1)
 
 loop-again : tie.Need-loop-again Inv-loop μ-loop
 loop-again c =
