@@ -14,7 +14,7 @@ use Rattle.sheet.proofs.laws.base.Padding.{pad-set, length-pad, pad-suc, pad-ov
 use Rattle.table.specs.Entries.{trues-of, falses-of, entriesOf}
 use Rattle.table.specs.inner.Slots.{Holds, Held}
 use Rattle.table.proofs.laws.arrays.KeptMembers.{keep-length, keep-more, keep-less}
-use Rattle.table.proofs.laws.arrays.HeldLists.{length-entriesOf, getD-entriesOf, take-entriesOf, holds-falses-long}
+use Rattle.table.proofs.laws.arrays.HeldLists.{stored, length-entriesOf, getD-entriesOf, take-entriesOf, holds-falses-long}
 
 -- ---- one array
 
@@ -78,7 +78,7 @@ module _ (f : Literals → Bool) (n : ℕ) (ts₀ fs₀ : List ℕ) (held : Held
 
   module _ (ts fs : List ℕ) (k i : ℕ) (m : Moved f n ts₀ fs₀ ts fs k i) where
     -- the set in slot i, which is not read yet
-    pub moved-read : i < n → getD (entriesOf n ts₀ fs₀) i noLiteral ≡ record { trues = getD ts i 0; falses = getD fs i 0 }
+    pub moved-read : i < n → getD (entriesOf n ts₀ fs₀) i noLiteral ≡ stored ts fs i
     moved-read lt =
         let a : i < length ts₀ = omega (arith, held .room) in
         let b : i < length fs₀ = omega (arith, held .room, falses-long₀) in
@@ -105,7 +105,7 @@ module _ (f : Literals → Bool) (n : ℕ) (ts₀ fs₀ : List ℕ) (held : Held
         ∙ zeroed (falses-of kept) fs₀ i (omega (arith, m .count-is, m .behind, length-map kept (λ (e : Literals). e .falses)))
         (omega (arith, held .room, falses-long₀))
 
-    pub moved-gone : i < n → f (record { trues = getD ts i 0; falses = getD fs i 0 }) ≡ false
+    pub moved-gone : i < n → f (stored ts fs i) ≡ false
         → Moved f n ts₀ fs₀ (set ts i 0) (set fs i 0) k (i + 1)
     moved-gone lt t =
         let s : keep f (take (i + 1) (entriesOf n ts₀ fs₀)) ≡ kept = keep-less f (entriesOf n ts₀ fs₀) i _ (inside lt) (moved-read lt) t in
@@ -119,10 +119,10 @@ module _ (f : Literals → Bool) (n : ℕ) (ts₀ fs₀ : List ℕ) (held : Held
           falses-are = zero-falses lt ∙ ap (λ (x : List Literals). pad (i + 1) 0 (falses-of x) ++ drop (i + 1) fs₀) (sym s);
         }
 
-    pub moved-kept : i < n → f (record { trues = getD ts i 0; falses = getD fs i 0 }) ≡ true
+    pub moved-kept : i < n → f (stored ts fs i) ≡ true
         → Moved f n ts₀ fs₀ (set (set ts i 0) k (getD ts i 0)) (set (set fs i 0) k (getD fs i 0)) (k + 1) (i + 1)
     moved-kept lt t =
-        let e : Literals = record { trues = getD ts i 0; falses = getD fs i 0 } in
+        let e : Literals = stored ts fs i in
         let s : keep f (take (i + 1) (entriesOf n ts₀ fs₀)) ≡ kept
         ++ e ∷ [] = keep-more f (entriesOf n ts₀ fs₀) i e (inside lt) (moved-read lt) t in
         let b : k < i + 1 = omega (arith, m .behind) in

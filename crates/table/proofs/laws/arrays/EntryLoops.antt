@@ -6,7 +6,7 @@ use mathlib.Core.List.{List, [], _∷_}
 use Prim.Native.Nat.{ℕ, suc, _+_, _≤_, _<_}
 use native.Mathlib.Numerals.{add-one}
 use native.Mathlib.Omega.{arith}
-use lib.ListN.{getD, drop, drop-of-length-le}
+use lib.ListN.{drop, drop-of-length-le}
 use lib.Seq.{drop-cons}
 use Rattle.sheet.specs.declared.Literals.{Literals}
 use Rattle.sheet.specs.Literals.{noLiteral, within}
@@ -14,7 +14,7 @@ use Rattle.sheet.specs.Lists.{anyOf, allOf}
 use Rattle.table.specs.Minimal.{apart, antichain}
 use Rattle.table.specs.Entries.{entriesOf}
 use Rattle.table.specs.inner.Slots.{slot}
-use Rattle.table.proofs.laws.arrays.HeldLists.{inside, length-entriesOf, getD-entriesOf}
+use Rattle.table.proofs.laws.arrays.HeldLists.{stored, inside, length-entriesOf, getD-entriesOf}
 
 -- the next member is x, and b its test
 module _ {A : Type 0} (f : A → Bool) (x : A) (xs ys : List A) (b : Bool) (q : xs ≡ x ∷ ys) (is : b ≡ f x) where
@@ -55,10 +55,6 @@ any-end f xs t e = ap (λ (r : List _). t || anyOf f r) e ∙ alone t
     alone false = refl
 
 -- ---- the entries from i on
--- what stands at i
-abbrev pub stored : List ℕ → List ℕ → ℕ → Literals
-stored ts fs i = record { trues = getD ts i 0; falses = getD fs i 0 }
-
 module _ (n : ℕ) (ts fs : List ℕ) (i : ℕ) where
   pub entries-next : (e : Literals) → i < n → e ≡ slot ts fs i → drop i (entriesOf n ts fs) ≡ e ∷ drop (i + 1) (entriesOf n ts fs)
   unfolding slot

@@ -16,6 +16,10 @@ use Rattle.table.specs.inner.Slots.{Room, Holds, Held}
 use Rattle.sheet.proofs.laws.base.Padding.{length-pad, pad-nil, getD-pad, pad-pad, pad-set}
 
 -- ---- two arrays side by side
+-- what stands at i
+abbrev pub stored : List ℕ → List ℕ → ℕ → Literals
+stored ts fs i = record { trues = getD ts i 0; falses = getD fs i 0 }
+
 length-pairs : (n : ℕ) (ts fs : List ℕ) → length ts ≡ n → length fs ≡ n → length (pairs ts fs) ≡ n
 unfolding pairs
 length-pairs n [] fs p q = p
@@ -32,7 +36,7 @@ pub inside : (n : ℕ) (ts fs : List ℕ) {i : ℕ} → i < n → i < length (en
 inside n ts fs h = omega (arith, length-entriesOf n ts fs)
 
 getD-pairs : (n : ℕ) (ts fs : List ℕ) (i : ℕ) → length ts ≡ n → length fs ≡ n → i < n
-    → getD (pairs ts fs) i noLiteral ≡ record { trues = getD ts i 0; falses = getD fs i 0 }
+    → getD (pairs ts fs) i noLiteral ≡ stored ts fs i
 unfolding pairs
 getD-pairs zero ts fs i p q h = absurd (not-suc-le-zero h)
 getD-pairs (suc n) [] fs i p q h = absurd (suc-ne-zero n (sym p))
@@ -42,7 +46,7 @@ getD-pairs (suc n) (t ∷ ts) (f ∷ fs) (suc i) p q h = getD-pairs n ts fs i (s
 
 -- entry i is what stands at i in the two arrays
 pub getD-entriesOf : (n : ℕ) (ts fs : List ℕ) (i : ℕ) → i < n
-    → getD (entriesOf n ts fs) i noLiteral ≡ record { trues = getD ts i 0; falses = getD fs i 0 }
+    → getD (entriesOf n ts fs) i noLiteral ≡ stored ts fs i
 unfolding entriesOf
 getD-entriesOf n ts fs i h =
     getD-pairs n (pad n 0 ts) (pad n 0 fs) i (length-pad n 0 ts) (length-pad n 0 fs) h

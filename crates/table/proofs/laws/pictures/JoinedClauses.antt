@@ -1,12 +1,12 @@
 -- The clauses of a table: clauses joined with clauses from a place on, and one entry joined in after the other. For
 -- `picture_clauses::join_lists`, `picture_clauses::fold` and `picture_clauses::clauses_of`. Assumes nothing.
-use mathlib.Core.Path.{_≡_, refl, sym, ap, _∙_, subst}
+use mathlib.Core.Path.{_≡_, sym, ap, _∙_, subst}
 use mathlib.Core.Bool.{true, false}
 use mathlib.Core.List.{List, [], _++_, map}
 use mathlib.Core.Option.{Option}
 use Prim.Native.Nat.{ℕ, _+_, _≤_, _<_}
 use native.Mathlib.Omega.{arith}
-use lib.ListN.{length, getD, drop, replicate}
+use lib.ListN.{length, drop, replicate}
 use Rattle.sheet.specs.declared.Literals.{Literals}
 use Rattle.table.specs.declared.slots.Grown.{Grown}
 use Rattle.table.specs.declared.slots.Grown.the-variants.{To, Full}
@@ -14,11 +14,11 @@ use Rattle.table.specs.Worlds.{andThen}
 use Rattle.table.specs.Minimal.{putAll}
 use Rattle.table.specs.Picture.{units, unions, fold, primes}
 use Rattle.table.specs.Entries.{entriesOf}
-use Rattle.table.specs.inner.Slots.{Holds, Held, Grew, Puts, slot}
+use Rattle.table.specs.inner.Slots.{Holds, Held, Grew, Puts}
 use Rattle.table.specs.inner.PictureClauses.{clauseSlots}
-use Rattle.table.proofs.laws.arrays.HeldLists.{holds-entries, holds-trues-long, holds-falses-long, held as held-of, entries-none}
+use Rattle.table.proofs.laws.arrays.HeldLists.{stored, holds-entries, holds-trues-long, holds-falses-long, held as held-of, entries-none}
 use Rattle.sheet.proofs.laws.base.Padding.{pad-nil}
-use Rattle.table.proofs.laws.arrays.EntryLoops.{stored, entries-next, entries-done}
+use Rattle.table.proofs.laws.arrays.EntryLoops.{entries-stored, entries-done}
 use Rattle.sheet.specs.Literals.{join, consistent}
 use Rattle.sheet.specs.Lists.{keep}
 use Rattle.table.proofs.laws.slots.ConsistentCandidates.{collect-entry, collect-none}
@@ -64,19 +64,19 @@ folds z es i n ts fs h o = record {
 }
 
 module _ (count : ℕ) (xs ys : List ℕ) where
-  pub folds-start : (n : ℕ) (ts fs : List ℕ) → 1 ≤ count → Holds 256 (units (record { trues = getD xs 0 0; falses = getD ys 0 0 })) n ts fs
+  pub folds-start : (n : ℕ) (ts fs : List ℕ) → 1 ≤ count → Holds 256 (units (stored xs ys 0)) n ts fs
       → Folds (primes 256 (entriesOf count xs ys)) (entriesOf count xs ys) 1 n ts fs
-  unfolding primes slot
+  unfolding primes
   folds-start n ts fs le h =
       folds _ _ 1 n ts fs (held-of h)
       (ap (λ (x : List Literals). fold 256 x (drop 1 (entriesOf count xs ys))) (holds-entries h)
-      ∙ sym (ap (primes 256) (entries-next count xs ys 0 (record { trues = getD xs 0 0; falses = getD ys 0 0 }) le refl)))
+      ∙ sym (ap (primes 256) (entries-stored count xs ys 0 le)))
 
   module _ (z : Option (List Literals)) (i n : ℕ) (ts fs : List ℕ) (g : Folds z (entriesOf count xs ys) i n ts fs) where
     module _ (lt : i < count) (r : Grown) (zs ws ts′ fs′ : List ℕ) (long : length zs ≡ 256)
-        (w : Puts (unions (entriesOf n ts fs) (units (record { trues = getD xs i 0; falses = getD ys i 0 }))) 0 zs ws r ts′ fs′) where
+        (w : Puts (unions (entriesOf n ts fs) (units (stored xs ys i))) 0 zs ws r ts′ fs′) where
       abbrev candidates : List Literals
-      candidates = unions (entriesOf n ts fs) (units (record { trues = getD xs i 0; falses = getD ys i 0 }))
+      candidates = unions (entriesOf n ts fs) (units (stored xs ys i))
 
       told : (x : Grown) → r ≡ x → Grew 256 (putAll 256 candidates []) x ts′ fs′
       told x q =
@@ -85,9 +85,9 @@ module _ (count : ℕ) (xs ys : List ℕ) where
           (subst (λ (y : Grown). Grew (length zs) (putAll (length zs) candidates (entriesOf 0 zs ws)) y ts′ fs′) q (w .grew)))
 
       cut : andThen (putAll 256 candidates []) (λ y. fold 256 y (drop (i + 1) (entriesOf count xs ys))) ≡ z
-      unfolding fold slot
+      unfolding fold
       cut = sym (ap (fold 256 (entriesOf n ts fs))
-          (entries-next count xs ys i (record { trues = getD xs i 0; falses = getD ys i 0 }) lt refl)) ∙ g .onwards
+          (entries-stored count xs ys i lt)) ∙ g .onwards
 
       pub folds-on : (k : ℕ) → r ≡ To k → Folds z (entriesOf count xs ys) (i + 1) k ts′ fs′
       folds-on k q =

@@ -11,7 +11,8 @@ use Rattle.sheet.specs.Lists.{addIf, keep, collect}
 use Rattle.sheet.proofs.laws.literals.LiteralSets.{consistent-join}
 use Rattle.table.proofs.laws.arrays.KeptMembers.{keep-append}
 use Rattle.table.specs.Entries.{entriesOf}
-use Rattle.table.proofs.laws.arrays.EntryLoops.{stored, entries-stored, entries-done}
+use Rattle.table.proofs.laws.arrays.EntryLoops.{entries-stored, entries-done}
+use Rattle.table.proofs.laws.arrays.HeldLists.{stored}
 
 -- ---- one candidate
 
