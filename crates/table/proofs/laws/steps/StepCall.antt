@@ -29,6 +29,7 @@ use Rattle.sheet.proofs.laws.reader.PackedParts.{items-length, item-at, item-of
 use Rattle.sheet.proofs.laws.reader.ReadSheets.{refused-says, accepted-says, accepted-proper, n-few, moves-few, moves-proper}
 use Rattle.table.proofs.laws.slots.DescribedTables.{described-iff}
 use Rattle.table.specs.inner.Slots.{Room, TableRoom}
+use Rattle.sheet.specs.inner.Widths.{packedLength}
 
 module _ (s : List ℕ) (d : Decoded) (packed : List ℕ) (e : judgementIn d packed ≡ sheetOf s) (t : Table) (i : ℕ) where
   abbrev whole : TableAnswer
@@ -96,7 +97,7 @@ module _ (s : List ℕ) (d : Decoded) (packed : List ℕ) (e : judgementIn d pac
               proper = w .proper;
             }
 
-        pub its-move : length packed ≡ 1409 → MoveFits packed i t
+        pub its-move : length packed ≡ packedLength → MoveFits packed i t
         its-move long = record { long = long; move-most = its-most; effects-few = its-count; fits = its-fits }
 
         pub known-step : orGiven t (stepTable 128 its (entries t)) ≡ whole
