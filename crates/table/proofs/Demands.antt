@@ -1,6 +1,6 @@
 -- The theorems about tables: putting, the start (TH2), the step (TH3), each number on its own condition (TH4), the picture (TH8), the test
 -- of a table, contradictory results by pairs, and the requests that specs/Demands states (W3: the test of a candidate). TH4 and TH8 are
--- passed on from `Answers`, `PictureAnswers` and `Pictures`. Assumes nothing.
+-- passed on from `laws/answers` and `laws/pictures/PictureWorlds`. Assumes nothing.
 use mathlib.Core.Path.{_≡_, refl, sym}
 use mathlib.Core.Bool.{true, false, not}
 use mathlib.Core.List.{List, [], _∷_, map}
@@ -26,8 +26,8 @@ use Rattle.table.specs.inner.Pairs.{contradicts}
 use Rattle.table.specs.Fates.{lastWithin, left, fateOf}
 use Rattle.table.specs.Demands.{RequestW3}
 use Rattle.table.proofs.laws.slots.LastWithin as scan
-use Rattle.table.proofs.laws.slots.PutSlots as slots
-use Rattle.table.proofs.laws.slots.PutLaws as putting
+use Rattle.table.proofs.laws.slots.PutFates as slots
+use Rattle.table.proofs.laws.slots.PutInvariants as putting
 use Rattle.table.proofs.laws.steps.StepWorlds as stepping
 use Rattle.table.proofs.laws.starts.StartWorlds as starting
 use Rattle.table.proofs.laws.slots.DescribedTables as describing

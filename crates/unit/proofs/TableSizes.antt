@@ -24,7 +24,7 @@ use Rattle.table.specs.Start.{startTable}
 use Rattle.table.specs.Step.{pieces, image, orFull, stepClear, stepSure, stepTable}
 use Rattle.table.specs.Entries.{entries, tableOf}
 use Rattle.table.specs.Calls.{orGiven, startOf, actionAt, stepKnown, stepMove, stepOf}
-use Rattle.table.proofs.laws.slots.PutLaws.{put-all-size}
+use Rattle.table.proofs.laws.slots.PutInvariants.{put-all-size}
 use Rattle.table.proofs.Demands.{start-table}
 use Rattle.plan.specs.declared.Course.{Course}
 use Rattle.plan.specs.Run.{tableOr, lastTable, actionsOf}

@@ -1,6 +1,8 @@
--- Arrays of masks that hold lists, and loops over them.
+-- Lists and their members; arrays of masks that hold lists, and loops over them.
 -- ---- may be cited from above
 pub mod HeldLists
 pub mod EntryLoops
 -- ---- for this crate alone
+pub mod ListMembers
+pub mod KeptMembers
 pub mod Compaction

@@ -9,3 +9,4 @@ pub mod PairScan
 pub mod PieceWalk
 pub mod CarriedResults
 pub mod StepArrays
+pub mod StepCall

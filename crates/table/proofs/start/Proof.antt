@@ -1,5 +1,5 @@
 -- `table::start` meets its contract. Assumes nothing.
-use Rattle.table.proofs.laws.starts.StartArrays.{start-by, start-refusal}
+use Rattle.table.proofs.laws.starts.StartCall.{start-by, start-refusal}
 use borrow.Author.Needs.{needs}
 use Rattle.table.proofs.start.Statement.{statement}
 use Rattle.table.proofs.start.Tie as tie

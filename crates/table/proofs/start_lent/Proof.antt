@@ -3,7 +3,7 @@ use mathlib.Core.Path.{sym, ap, _∙_}
 use Rattle.sheet.specs.inner.Decoded.{statementIn}
 use Rattle.sheet.proofs.laws.reader.ReadSheets.{refused-says, accepted-says, filled}
 use Rattle.table.specs.Calls.{startOf}
-use Rattle.table.proofs.laws.starts.StartArrays.{start-fault}
+use Rattle.table.proofs.laws.starts.StartCall.{start-fault}
 use borrow.Author.Needs.{needs}
 use Rattle.table.proofs.start_lent.Statement.{statement}
 use Rattle.table.proofs.start_lent.Tie as tie

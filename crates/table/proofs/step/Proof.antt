@@ -1,5 +1,5 @@
 -- `table::step` meets its contract. Assumes nothing.
-use Rattle.table.proofs.laws.steps.StepArrays.{step-by}
+use Rattle.table.proofs.laws.steps.StepCall.{step-by}
 use borrow.Author.Needs.{needs}
 use Rattle.table.proofs.step.Statement.{statement}
 use Rattle.table.proofs.step.Tie as tie

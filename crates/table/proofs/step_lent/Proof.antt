@@ -1,10 +1,8 @@
 -- `table::step_lent` meets its contract. Assumes nothing.
 use mathlib.Core.Path.{sym, _∙_}
-use native.Mathlib.Omega.{arith}
 use borrow.Author.Tests.{not-true, not-false}
 use Rattle.table.specs.Entries.{entries}
-use Rattle.table.specs.Entries.{lent}
-use Rattle.table.proofs.laws.steps.StepArrays.{call-fault, off-sheet, its-most, its-count, undescribed, its-fits, known-step}
+use Rattle.table.proofs.laws.steps.StepCall.{call-fault, off-sheet, undescribed, its-move, its-room, known-step}
 use borrow.Author.Needs.{needs}
 use Rattle.table.proofs.step_lent.Statement.{statement}
 use Rattle.table.proofs.step_lent.Tie as tie
@@ -27,29 +25,14 @@ returns-2 c =
 step-at-requires : tie.Need-step-at-requires
 unfolding entries
 step-at-requires c κs =
-    let t = lent (c .before .before .before .before .before .before .before .before .before .before .before .before .before .before .before .before .args .count) (c .before .before .before .before .before .before .before .before .before .before .before .before .before .before .before .before .args .trues .now) (c .before .before .before .before .before .before .before .before .before .before .before .before .before .before .before .before .args .falses .now) in
-    let e = c .before .before .before .before .before .before .before .before .before .before .before .decode .ensures .0 in
-    let a = c .before .before .before .before .before .before .before .before .before .enum-told .given .1 in
-    let lt = c .before .before .before .before .before .before .if1 .left in
-    let f = its-fits _ _ _ e t _ a lt
-    (sym (c .before .before .before .before .before .described .ensures)
-    ∙ not-false _ (c .before .before .before .before .if2 .left)) in
-    record {
-      move = record { long = search needs; move-most = its-most _ _ _ e t _ a lt; effects-few = its-count _ _ _ e t _ a lt; fits = f };
-      room = record {
-        trues = omega (
-          arith,
-          f .entries-most,
-          c .before .before .before .before .before .before .before .before .before .before .before .before .before .before .before .before .pre .0 .trues,
-        );
-        falses = omega (
-          arith,
-          f .entries-most,
-          c .before .before .before .before .before .before .before .before .before .before .before .before .before .before .before .before .pre .0 .falses,
-        );
-      };
-      fresh = c .before .before .before .before .before .before .before .before .before .before .before .before .before .before .before .before .pre .1;
-    }
+    let after-if2 = c .before .before .before .before in
+    let after-if1 = after-if2 .before .before in
+    let after-enum-told = after-if1 .before .before .before in
+    let after-decode = after-enum-told .before .before in
+    let start = after-decode .before .before .before .before .before in
+    let move = its-move _ _ _ (after-decode .decode .ensures .0) _ _ (after-enum-told .enum-told .given .1) (after-if1 .if1 .left)
+    (sym (after-if2 .before .described .ensures) ∙ not-false _ (after-if2 .if2 .left)) (search needs) in
+    record { move = move; room = its-room (start .pre .0) (move .fits); fresh = start .pre .1 }
 
 returns-3 : tie.Need-returns-3
 returns-3 c = call-fault _ _ _ (c .before .before .before .decode .ensures .0) _ _ _ _ (c .before .answer .given .1)

@@ -25,7 +25,7 @@ use Rattle.table.specs.Entries.{entries}
 use Rattle.table.specs.Calls.{actionAt}
 use Rattle.table.specs.PictureCalls.{pictureOf, bufferOf}
 use Rattle.table.specs.CallWords.{AsDescribed, Starts}
-use Rattle.table.proofs.laws.starts.StartArrays.{at-proper}
+use Rattle.table.proofs.laws.steps.StepWorlds.{at-proper}
 use Rattle.table.proofs.laws.answers.CallTables.{entries-table}
 use Rattle.table.proofs.Demands as tables
 use Rattle.plan.specs.declared.RunAnswer.{RunAnswer}

@@ -17,7 +17,7 @@ use Rattle.table.specs.Picture.{picture, pictureBytes}
 use Rattle.table.specs.Entries.{entries, tableOf}
 use Rattle.table.proofs.Demands.{start-20, start-kind}
 use Rattle.table.proofs.laws.answers.CallTables.{entries-table}
-use Rattle.table.proofs.laws.pictures.ClausePut.{then-some}
+use Rattle.table.proofs.laws.slots.PutInvariants.{then-some}
 use Rattle.plan.specs.declared.RunAnswer.{RunAnswer}
 use Rattle.plan.specs.declared.Verdict as case
 use Rattle.plan.specs.Run.{actionsOf, Verdict, reached, short, stopped, full, runFrom, lastTable, rowsFrom}

@@ -35,7 +35,7 @@ use Rattle.table.specs.PictureCalls.{refusal, tooLong, pictureOf}
 use Rattle.table.specs.PictureCalls as pictured
 use Rattle.table.specs.CallWords.{OnSheet, WorldOf}
 use Rattle.table.proofs.Demands as tables
-use Rattle.table.proofs.laws.starts.StartArrays.{at-proper}
+use Rattle.table.proofs.laws.steps.StepWorlds.{at-proper}
 use Rattle.table.proofs.laws.answers.CallTables.{entries-table}
 use Rattle.plan.specs.declared.Row.{Row}
 use Rattle.plan.specs.declared.RunAnswer.{RunAnswer}

@@ -24,10 +24,9 @@ use Rattle.table.specs.Picture.{picture}
 use Rattle.table.specs.Calls.{actionAt}
 use Rattle.table.proofs.Demands.{start-table}
 use Rattle.table.proofs.laws.steps.StepWorlds as stepping
-use Rattle.table.proofs.laws.steps.StepWorlds.{code-is, table-refused}
+use Rattle.table.proofs.laws.steps.StepWorlds.{at-proper, code-is, table-refused}
 use Rattle.table.proofs.laws.pictures.Primes.{primeList-same}
 use Rattle.table.proofs.laws.pictures.PictureWorlds.{picture-list, picture-ascending, picture-worlds}
-use Rattle.table.proofs.laws.starts.StartArrays.{at-proper}
 use Rattle.plan.specs.Run.{actionsOf, inGoal, Verdict, reached, short, stopped, full, endedIn, haltedBy, runFrom, lastTable}
 use Rattle.plan.specs.inner.TableRuns.{movesTaken}
 use Rattle.plan.specs.Calls.{verdictOf}

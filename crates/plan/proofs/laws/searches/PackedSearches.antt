@@ -30,7 +30,7 @@ use Rattle.plan.specs.Calls.{refusedSearch, answered, searchedFrom, sear
 use Rattle.plan.specs.inner.Course.{courseFrom, Ready}
 use Rattle.plan.specs.inner.Searches.{ranFrom, Searchable, Runnable, searchedBy}
 use Rattle.sheet.proofs.laws.reader.PackedParts.{part-long, sets-long, effects-long, item-at}
-use Rattle.table.proofs.laws.starts.StartArrays.{at-proper}
+use Rattle.table.proofs.laws.steps.StepWorlds.{at-proper}
 use Rattle.plan.proofs.laws.searches.PlanOrder.{out-plans}
 use Rattle.plan.proofs.laws.runs.CourseSteps.{stopped, ready-count, started}
 use Rattle.plan.proofs.laws.searches.FirstAnswers.{same-first}

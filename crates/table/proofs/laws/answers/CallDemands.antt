@@ -1,5 +1,5 @@
--- The calls start, step and picture on an accepted sheet, as the page of demands states them (plan/specs/Demands): each number exactly on
--- its own condition, by worlds where the condition is one of worlds. Assumes nothing.
+-- The calls start, step and picture on an accepted sheet, each number exactly on its own condition, by worlds where it is one of worlds.
+-- For the page of demands (plan/specs/Demands, plan/proofs/Demands). Assumes nothing.
 use mathlib.Core.Path.{_≡_, refl, sym, ap, _∙_}
 use mathlib.Core.Bool.{Bool, true, false, not, cond, true≢false}
 use mathlib.Core.List.{List, [], _∷_}
@@ -32,7 +32,7 @@ use Rattle.table.specs.Entries.{entries, tableOf}
 use Rattle.table.specs.Calls.{startOf, actionAt, stepOf}
 use Rattle.table.specs.PictureCalls.{refusal, tooLong, given, pictureOf}
 use Rattle.table.specs.CallWords.{OnSheet, AsDescribed, Starts, Unsure, Contradictory, Untaken, StartStops, putImages}
-use Rattle.table.proofs.laws.starts.StartArrays.{at-proper}
+use Rattle.table.proofs.laws.steps.StepWorlds.{at-proper}
 use Rattle.table.proofs.Demands as tables
 use Rattle.table.proofs.laws.steps.StepWorlds as stepping
 use Rattle.table.proofs.laws.answers.CallTables as called

@@ -23,7 +23,7 @@ use Rattle.table.specs.Start.{startTable}
 use Rattle.table.specs.Step.{stepTable}
 use Rattle.table.specs.Entries.{entries, tableOf}
 use Rattle.table.specs.Calls.{orGiven, startOf, actionAt, stepKnown, stepMove, stepOf}
-use Rattle.table.proofs.laws.starts.StartArrays.{at-proper}
+use Rattle.table.proofs.laws.steps.StepWorlds.{at-proper}
 use Rattle.table.proofs.laws.steps.StepWorlds as stepping
 use Rattle.table.proofs.laws.slots.DescribedTables.{described-iff}
 

@@ -1,4 +1,4 @@
--- Calls on tables read their entries alone: unused slots are not read. Assumes nothing.
+-- Calls on tables read their entries alone: unused slots are not read. For plan/proofs/Demands. Assumes nothing.
 use mathlib.Core.Path.{_≡_, refl}
 use mathlib.Core.Bool.{Bool, true, false}
 use mathlib.Core.List.{List}

@@ -1,21 +1,20 @@
--- Compaction in place: the members that pass move up, and the slots behind them are zero. Assumes nothing.
+-- Compaction in place: the members that pass move up, and the slots behind them are zero. For `slots::remove`. Assumes nothing.
 use mathlib.Core.Path.{_≡_, refl, sym, ap, ap₂, _∙_}
-use mathlib.Core.Bool.{Bool, true, false, not, _||_, true≢false}
-use mathlib.Core.List.{List, [], _∷_, _++_, map, map-append, append-assoc, append-nil}
+use mathlib.Core.Bool.{Bool, true, false}
+use mathlib.Core.List.{List, [], _∷_, _++_, map, map-append, append-assoc}
 use Prim.Native.Nat.{ℕ, suc, _+_, _≤_, _<_}
-use native.Mathlib.Nat.{le-of-suc-le-suc}
 use native.Mathlib.Numerals.{add-one}
 use native.Mathlib.Omega.{arith}
 use lib.ListN.{length, getD, take, drop, set, length-append, length-set, length-map}
-use lib.Seq.{take-suc, take-all, drop-cons, set-at, getD-at, set-append-left}
+use lib.Seq.{take-all, drop-cons, set-at, getD-at, set-append-left}
 use Rattle.sheet.specs.declared.Literals.{Literals}
 use Rattle.sheet.specs.Literals.{noLiteral}
-use Rattle.sheet.specs.Lists.{anyOf, addIf, keep, pad}
-use Rattle.sheet.proofs.laws.base.Padding.{pad-set}
+use Rattle.sheet.specs.Lists.{keep, pad}
+use Rattle.sheet.proofs.laws.base.Padding.{pad-set, length-pad, pad-suc, pad-over, pad-front}
 use Rattle.table.specs.Entries.{trues-of, falses-of, entriesOf}
 use Rattle.table.specs.inner.Slots.{Holds, Held}
-use Rattle.table.proofs.laws.arrays.HeldLists.{length-entriesOf, getD-entriesOf, take-entriesOf, holds-falses-long}
-use Rattle.sheet.proofs.laws.base.Padding.{length-pad, pad-suc, pad-over, pad-front}
+use Rattle.table.proofs.laws.arrays.KeptMembers.{keep-length, keep-more, keep-less}
+use Rattle.table.proofs.laws.arrays.HeldLists.{stored, length-entriesOf, getD-entriesOf, take-entriesOf, holds-falses-long}
 
 -- ---- one array
 
@@ -39,57 +38,6 @@ written f es e rest i k q lt =
 unread : (xs old : List ℕ) (i : ℕ) → i < length old → getD (pad i 0 xs ++ drop i old) i 0 ≡ getD old i 0
 unread xs old i lt = rw (drop-cons old i 0 lt) (getD-at (pad i 0 xs) (getD old i 0) (drop (suc i) old) 0 i (length-pad i 0 xs))
 
--- ---- the members kept
-
-pub keep-append : (f : Literals → Bool) (s r : List Literals) → keep f (s ++ r) ≡ keep f s ++ keep f r
-keep-append f [] r = refl
-keep-append f (x ∷ s) r = at (f x) (keep-append f s r)
-  where
-    at : (b : Bool) → keep f (s ++ r) ≡ keep f s ++ keep f r → addIf b x (keep f (s ++ r)) ≡ addIf b x (keep f s) ++ keep f r
-    at true e = ap (λ (z : List Literals). x ∷ z) e
-    at false e = e
-
-pub keep-length : (f : Literals → Bool) (s : List Literals) → length (keep f s) ≤ length s
-keep-length f [] = omega arith
-keep-length f (x ∷ s) = at (f x) (keep-length f s)
-  where
-    at : (b : Bool) → length (keep f s) ≤ length s → length (addIf b x (keep f s)) ≤ suc (length s)
-    at true h = omega arith
-    at false h = omega arith
-
--- where none goes, all stay
-pub keep-all : (f : Literals → Bool) (s : List Literals) → length s ≤ length (keep f s) → keep f s ≡ s
-keep-all f [] h = refl
-keep-all f (x ∷ s) h = at (f x) h (λ k. keep-all f s k)
-  where
-    at : (b : Bool) → suc (length s) ≤ length (addIf b x (keep f s)) → (length s ≤ length (keep f s) → keep f s ≡ s)
-        → addIf b x (keep f s) ≡ x ∷ s
-    at true k rec = ap (λ (z : List Literals). x ∷ z) (rec (le-of-suc-le-suc k))
-    at false k rec = absurd (omega (arith, keep-length f s))
-
-one-more : (es : List Literals) (i : ℕ) (e : Literals) → i < length es → getD es i noLiteral ≡ e → take (i + 1) es ≡ take i es ++ e ∷ []
-one-more es i e lt is = ap (λ (j : ℕ). take j es) (add-one i) ∙ take-suc es i noLiteral lt ∙ ap (λ (x : Literals). take i es ++ x ∷ []) is
-
-module _ (f : Literals → Bool) (es : List Literals) (i : ℕ) (e : Literals) (lt : i < length es) (is : getD es i noLiteral ≡ e) where
-  keep-step : keep f (take (i + 1) es) ≡ keep f (take i es) ++ addIf (f e) e []
-  keep-step = ap (keep f) (one-more es i e lt is) ∙ keep-append f (take i es) (e ∷ [])
-
-  keep-more : f e ≡ true → keep f (take (i + 1) es) ≡ keep f (take i es) ++ e ∷ []
-  keep-more t = keep-step ∙ ap (λ (b : Bool). keep f (take i es) ++ addIf b e []) t
-
-  keep-less : f e ≡ false → keep f (take (i + 1) es) ≡ keep f (take i es)
-  keep-less t = keep-step ∙ ap (λ (b : Bool). keep f (take i es) ++ addIf b e []) t ∙ append-nil (keep f (take i es))
-
--- where no member passes, those that do not are all
-pub none-goes : (f : Literals → Bool) (s : List Literals) → anyOf f s ≡ false → keep (λ e. not (f e)) s ≡ s
-none-goes f [] h = refl
-none-goes f (x ∷ s) h = at (f x) h (λ k. none-goes f s k)
-  where
-    at : (b : Bool) → (b || anyOf f s) ≡ false → (anyOf f s ≡ false → keep (λ e. not (f e)) s ≡ s)
-        → addIf (not b) x (keep (λ e. not (f e)) s) ≡ x ∷ s
-    at true k rec = absurd (true≢false k)
-    at false k rec = ap (λ (z : List Literals). x ∷ z) (rec k)
-
 -- ---- a loop over the slots below n: those below i are done, and k members are kept
 
 pub record Moved (f : Literals → Bool) (n : ℕ) (ts₀ fs₀ : List ℕ) (ts fs : List ℕ) (k i : ℕ) : Type 0 where
@@ -103,7 +51,7 @@ pub record Moved (f : Literals → Bool) (n : ℕ) (ts₀ fs₀ : List ℕ) (ts 
 
 module _ (f : Literals → Bool) (n : ℕ) (ts₀ fs₀ : List ℕ) (held : Held (length ts₀) n ts₀ fs₀) where
   falses-long₀ : length fs₀ ≡ length ts₀
-  falses-long₀ = holds-falses-long _ _ _ _ _ held
+  falses-long₀ = holds-falses-long held
 
   -- the first i entries, all of them kept, stand where they are
   pub moved-start : (i : ℕ) → i ≤ n → keep f (entriesOf i ts₀ fs₀) ≡ entriesOf i ts₀ fs₀ → Moved f n ts₀ fs₀ ts₀ fs₀ i i
@@ -130,7 +78,7 @@ module _ (f : Literals → Bool) (n : ℕ) (ts₀ fs₀ : List ℕ) (held : Held
 
   module _ (ts fs : List ℕ) (k i : ℕ) (m : Moved f n ts₀ fs₀ ts fs k i) where
     -- the set in slot i, which is not read yet
-    pub moved-read : i < n → getD (entriesOf n ts₀ fs₀) i noLiteral ≡ record { trues = getD ts i 0; falses = getD fs i 0 }
+    pub moved-read : i < n → getD (entriesOf n ts₀ fs₀) i noLiteral ≡ stored ts fs i
     moved-read lt =
         let a : i < length ts₀ = omega (arith, held .room) in
         let b : i < length fs₀ = omega (arith, held .room, falses-long₀) in
@@ -157,7 +105,7 @@ module _ (f : Literals → Bool) (n : ℕ) (ts₀ fs₀ : List ℕ) (held : Held
         ∙ zeroed (falses-of kept) fs₀ i (omega (arith, m .count-is, m .behind, length-map kept (λ (e : Literals). e .falses)))
         (omega (arith, held .room, falses-long₀))
 
-    pub moved-gone : i < n → f (record { trues = getD ts i 0; falses = getD fs i 0 }) ≡ false
+    pub moved-gone : i < n → f (stored ts fs i) ≡ false
         → Moved f n ts₀ fs₀ (set ts i 0) (set fs i 0) k (i + 1)
     moved-gone lt t =
         let s : keep f (take (i + 1) (entriesOf n ts₀ fs₀)) ≡ kept = keep-less f (entriesOf n ts₀ fs₀) i _ (inside lt) (moved-read lt) t in
@@ -171,10 +119,10 @@ module _ (f : Literals → Bool) (n : ℕ) (ts₀ fs₀ : List ℕ) (held : Held
           falses-are = zero-falses lt ∙ ap (λ (x : List Literals). pad (i + 1) 0 (falses-of x) ++ drop (i + 1) fs₀) (sym s);
         }
 
-    pub moved-kept : i < n → f (record { trues = getD ts i 0; falses = getD fs i 0 }) ≡ true
+    pub moved-kept : i < n → f (stored ts fs i) ≡ true
         → Moved f n ts₀ fs₀ (set (set ts i 0) k (getD ts i 0)) (set (set fs i 0) k (getD fs i 0)) (k + 1) (i + 1)
     moved-kept lt t =
-        let e : Literals = record { trues = getD ts i 0; falses = getD fs i 0 } in
+        let e : Literals = stored ts fs i in
         let s : keep f (take (i + 1) (entriesOf n ts₀ fs₀)) ≡ kept
         ++ e ∷ [] = keep-more f (entriesOf n ts₀ fs₀) i e (inside lt) (moved-read lt) t in
         let b : k < i + 1 = omega (arith, m .behind) in
@@ -195,37 +143,30 @@ module _ (f : Literals → Bool) (n : ℕ) (ts₀ fs₀ : List ℕ) (held : Held
         }
 
     pub moved-end : n ≤ i → Holds (length ts₀) (keep f (entriesOf n ts₀ fs₀)) k ts fs
-    moved-end le =
-        let j : i ≡ n = omega (arith, m .upto) in
-        let es : List Literals = entriesOf n ts₀ fs₀ in
-        let w : take i (entriesOf n ts₀ fs₀) ≡ entriesOf n ts₀ fs₀ = take-all i (entriesOf n ts₀ fs₀)
-        (omega (arith, length-entriesOf n ts₀ fs₀)) in
-        let c : k ≡ length (keep f (entriesOf n ts₀ fs₀)) = m .count-is ∙ ap (λ (x : List Literals). length (keep f x)) w in
-        record {
-          count-is = c;
-          room = omega (arith, m .behind, held .room);
-          trues-are =
-              m .trues-are
-              ∙ ap (λ (x : List Literals). pad i 0 (trues-of (keep f x)) ++ drop i ts₀) w
-              ∙ ap (λ (x : ℕ). pad x 0 (trues-of (keep f (entriesOf n ts₀ fs₀))) ++ drop x ts₀) j
-              ∙ ap (λ (x : List ℕ). pad n 0 (trues-of (keep f (entriesOf n ts₀ fs₀))) ++ drop n x) (held .trues-are)
-              ∙ over (λ (e : Literals). e .trues) c;
-          falses-are =
-              m .falses-are
-              ∙ ap (λ (x : List Literals). pad i 0 (falses-of (keep f x)) ++ drop i fs₀) w
-              ∙ ap (λ (x : ℕ). pad x 0 (falses-of (keep f (entriesOf n ts₀ fs₀))) ++ drop x fs₀) j
-              ∙ ap (λ (x : List ℕ). pad n 0 (falses-of (keep f (entriesOf n ts₀ fs₀))) ++ drop n x) (held .falses-are)
-              ∙ over (λ (e : Literals). e .falses) c;
-        }
+    moved-end le = record {
+      count-is = m .count-is ∙ ap (λ (x : List Literals). length (keep f x)) whole;
+      room = omega (arith, m .behind, held .room);
+      trues-are = over (λ (e : Literals). e .trues) ts ts₀ (m .trues-are) (held .trues-are);
+      falses-are = over (λ (e : Literals). e .falses) fs fs₀ (m .falses-are) (held .falses-are);
+    }
       where
-        over : (g : Literals → ℕ) → k ≡ length (keep f (entriesOf n ts₀ fs₀))
-            → pad n 0 (map g (keep f (entriesOf n ts₀ fs₀)))
-            ++ drop n (pad (length ts₀) 0 (map g (entriesOf n ts₀ fs₀))) ≡ pad (length ts₀) 0 (map g (keep f (entriesOf n ts₀ fs₀)))
-        over g c =
-            pad-over n (length ts₀) 0 (map g (keep f (entriesOf n ts₀ fs₀))) (map g (entriesOf n ts₀ fs₀))
-            (omega (arith, m .behind, m .upto, length-map (keep f (entriesOf n ts₀ fs₀)) g))
-            (length-map (entriesOf n ts₀ fs₀) g ∙ length-entriesOf n ts₀ fs₀)
-            (held .room)
+        es : List Literals
+        es = entriesOf n ts₀ fs₀
+
+        whole : take i es ≡ es
+        whole = take-all i es (omega (arith, length-entriesOf n ts₀ fs₀))
+
+        over : (g : Literals → ℕ) (xs old : List ℕ) → xs ≡ pad i 0 (map g (keep f (take i es))) ++ drop i old
+            → old ≡ pad (length ts₀) 0 (map g es) → xs ≡ pad (length ts₀) 0 (map g (keep f es))
+        over g xs old p q =
+            let j : i ≡ n = omega (arith, m .upto) in
+            p
+            ∙ ap (λ (x : List Literals). pad i 0 (map g (keep f x)) ++ drop i old) whole
+            ∙ ap (λ (x : ℕ). pad x 0 (map g (keep f es)) ++ drop x old) j
+            ∙ ap (λ (x : List ℕ). pad n 0 (map g (keep f es)) ++ drop n x) q
+            ∙ pad-over n (length ts₀) 0 (map g (keep f es)) (map g es)
+            (omega (arith, keep-length f es, length-entriesOf n ts₀ fs₀, length-map (keep f es) g))
+            (length-map es g ∙ length-entriesOf n ts₀ fs₀) (held .room)
 
 -- the same at equal values
 pub moved-is : (f : Literals → Bool) (n : ℕ) (ts₀ fs₀ ts fs ts′ fs′ : List ℕ) (k k′ i : ℕ) → ts′ ≡ ts → fs′ ≡ fs → k′ ≡ k

@@ -1,21 +1,25 @@
--- Arrays of masks that hold a list, with zeros after it: what is stored, read and pushed, over every capacity. Assumes nothing.
+-- Arrays of masks that hold a list, with zeros after it: what is stored, read and pushed, over every capacity. For every function that has
+-- a table in arrays, and for the crate plan. Assumes nothing.
 use mathlib.Core.Path.{_≡_, refl, sym, ap, _∙_, subst}
 use mathlib.Core.List.{List, [], _∷_, _++_, map, map-append}
 use Prim.Native.Nat.{ℕ, zero, suc, _+_, _≤_, _<_}
 use native.Mathlib.Omega.{arith}
 use native.Mathlib.Nat.{le-of-suc-le-suc, not-suc-le-zero, suc-ne-zero, suc-inj}
-use lib.ListN.{length, getD, set, take, drop, replicate, length-map, length-append}
+use lib.ListN.{length, getD, set, take, replicate, length-map, length-append}
 use lib.Seq.{length-take-le, getD-take, ext-getD}
 use Rattle.sheet.specs.declared.Literals.{Literals}
 use Rattle.sheet.specs.Literals.{noLiteral}
 use Rattle.sheet.specs.Lists.{pad}
 use Rattle.table.specs.declared.Table.{Table}
-use Rattle.table.specs.Entries.{pairs, trues-of, falses-of, entriesOf, tableOf}
+use Rattle.table.specs.Entries.{pairs, trues-of, falses-of, entriesOf, tableOf, lent}
 use Rattle.table.specs.inner.Slots.{Room, Holds, Held}
-use Rattle.table.specs.Entries.{lent}
 use Rattle.sheet.proofs.laws.base.Padding.{length-pad, pad-nil, getD-pad, pad-pad, pad-set}
 
 -- ---- two arrays side by side
+-- what stands at i
+abbrev pub stored : List ℕ → List ℕ → ℕ → Literals
+stored ts fs i = record { trues = getD ts i 0; falses = getD fs i 0 }
+
 length-pairs : (n : ℕ) (ts fs : List ℕ) → length ts ≡ n → length fs ≡ n → length (pairs ts fs) ≡ n
 unfolding pairs
 length-pairs n [] fs p q = p
@@ -27,8 +31,12 @@ pub length-entriesOf : (n : ℕ) (ts fs : List ℕ) → length (entriesOf n ts f
 unfolding entriesOf
 length-entriesOf n ts fs = length-pairs n (pad n 0 ts) (pad n 0 fs) (length-pad n 0 ts) (length-pad n 0 fs)
 
+-- a place below the count is one of an entry
+pub inside : (n : ℕ) (ts fs : List ℕ) {i : ℕ} → i < n → i < length (entriesOf n ts fs)
+inside n ts fs h = omega (arith, length-entriesOf n ts fs)
+
 getD-pairs : (n : ℕ) (ts fs : List ℕ) (i : ℕ) → length ts ≡ n → length fs ≡ n → i < n
-    → getD (pairs ts fs) i noLiteral ≡ record { trues = getD ts i 0; falses = getD fs i 0 }
+    → getD (pairs ts fs) i noLiteral ≡ stored ts fs i
 unfolding pairs
 getD-pairs zero ts fs i p q h = absurd (not-suc-le-zero h)
 getD-pairs (suc n) [] fs i p q h = absurd (suc-ne-zero n (sym p))
@@ -38,7 +46,7 @@ getD-pairs (suc n) (t ∷ ts) (f ∷ fs) (suc i) p q h = getD-pairs n ts fs i (s
 
 -- entry i is what stands at i in the two arrays
 pub getD-entriesOf : (n : ℕ) (ts fs : List ℕ) (i : ℕ) → i < n
-    → getD (entriesOf n ts fs) i noLiteral ≡ record { trues = getD ts i 0; falses = getD fs i 0 }
+    → getD (entriesOf n ts fs) i noLiteral ≡ stored ts fs i
 unfolding entriesOf
 getD-entriesOf n ts fs i h =
     getD-pairs n (pad n 0 ts) (pad n 0 fs) i (length-pad n 0 ts) (length-pad n 0 fs) h
@@ -71,46 +79,41 @@ entriesOf-pad n es h =
     pad-back f = rw (← length-map es f) (pad-pad n 0 (map f es) (rw (length-map es f) h))
 
 -- ---- what holds a list
+module _ {cap : ℕ} {es : List Literals} {n : ℕ} {ts fs : List ℕ} (h : Holds cap es n ts fs) where
+  pub holds-trues-long : length ts ≡ cap
+  holds-trues-long = ap length (h .trues-are) ∙ length-pad cap 0 (trues-of es)
 
-pub holds-trues-long : (cap : ℕ) (es : List Literals) (n : ℕ) (ts fs : List ℕ) → Holds cap es n ts fs → length ts ≡ cap
-holds-trues-long cap es n ts fs h = ap length (h .trues-are) ∙ length-pad cap 0 (trues-of es)
+  pub holds-falses-long : length fs ≡ cap
+  holds-falses-long = ap length (h .falses-are) ∙ length-pad cap 0 (falses-of es)
 
-pub holds-falses-long : (cap : ℕ) (es : List Literals) (n : ℕ) (ts fs : List ℕ) → Holds cap es n ts fs → length fs ≡ cap
-holds-falses-long cap es n ts fs h = ap length (h .falses-are) ∙ length-pad cap 0 (falses-of es)
+  -- there is room for what is held
+  pub holds-room : Room n ts fs
+  holds-room = record { trues = omega (arith, h .room, holds-trues-long); falses = omega (arith, h .room, holds-falses-long) }
 
--- there is room for what is held
-pub holds-room : (cap : ℕ) (es : List Literals) (n : ℕ) (ts fs : List ℕ) → Holds cap es n ts fs → Room n ts fs
-holds-room cap es n ts fs h = record {
-  trues = omega (arith, h .room, holds-trues-long cap es n ts fs h);
-  falses = omega (arith, h .room, holds-falses-long cap es n ts fs h);
-}
+  -- one entry more
+  pub holds-push : n < cap → (l : Literals) → Holds cap (es ++ l ∷ []) (n + 1) (set ts n (l .trues)) (set fs n (l .falses))
+  holds-push lt l = record {
+    count-is = omega (arith, h .count-is, length-append es (l ∷ []));
+    room = omega arith;
+    trues-are = ap (λ (r : List ℕ). set r n (l .trues)) (h .trues-are) ∙ pushed (λ (e : Literals). e .trues);
+    falses-are = ap (λ (r : List ℕ). set r n (l .falses)) (h .falses-are) ∙ pushed (λ (e : Literals). e .falses);
+  }
+    where
+      pushed : (f : Literals → ℕ) → set (pad cap 0 (map f es)) n (f l) ≡ pad cap 0 (map f (es ++ l ∷ []))
+      pushed f =
+          pad-set cap 0 (map f es) (f l) n (length-map es f ∙ sym (h .count-is)) lt ∙ ap (pad cap 0) (sym (map-append f es (l ∷ [])))
 
--- one entry more
-pub holds-push : (cap : ℕ) (es : List Literals) (n : ℕ) (ts fs : List ℕ) → Holds cap es n ts fs → n < cap → (l : Literals)
-    → Holds cap (es ++ l ∷ []) (n + 1) (set ts n (l .trues)) (set fs n (l .falses))
-holds-push cap es n ts fs h lt l = record {
-  count-is = omega (arith, h .count-is, length-append es (l ∷ []));
-  room = omega arith;
-  trues-are = ap (λ (r : List ℕ). set r n (l .trues)) (h .trues-are) ∙ pushed (λ (e : Literals). e .trues);
-  falses-are = ap (λ (r : List ℕ). set r n (l .falses)) (h .falses-are) ∙ pushed (λ (e : Literals). e .falses);
-}
-  where
-    pushed : (f : Literals → ℕ) → set (pad cap 0 (map f es)) n (f l) ≡ pad cap 0 (map f (es ++ l ∷ []))
-    pushed f =
-        pad-set cap 0 (map f es) (f l) n (length-map es f ∙ sym (h .count-is)) lt ∙ ap (pad cap 0) (sym (map-append f es (l ∷ [])))
+  -- the entries read back
+  pub holds-entries : entriesOf n ts fs ≡ es
+  holds-entries = rw (h .trues-are, h .falses-are, h .count-is) (entriesOf-pad cap es (rw (← h .count-is) (h .room)))
 
--- the entries read back
-pub holds-entries : (cap : ℕ) (es : List Literals) (n : ℕ) (ts fs : List ℕ) → Holds cap es n ts fs → entriesOf n ts fs ≡ es
-holds-entries cap es n ts fs h =
-    rw (h .trues-are, h .falses-are, h .count-is) (entriesOf-pad cap es (rw (← h .count-is) (h .room)))
-
--- so what holds a list holds what is read back
-pub held : (cap : ℕ) (es : List Literals) (n : ℕ) (ts fs : List ℕ) → Holds cap es n ts fs → Held cap n ts fs
-held cap es n ts fs h = subst (λ (x : List Literals). Holds cap x n ts fs) (sym (holds-entries cap es n ts fs h)) h
+  -- so what holds a list holds what is read back
+  pub held : Held cap n ts fs
+  held = subst (λ (x : List Literals). Holds cap x n ts fs) (sym holds-entries) h
 
 -- what is held in slices, at their own length
-pub held-own : (cap n : ℕ) (ts fs : List ℕ) → Held cap n ts fs → Held (length ts) n ts fs
-held-own cap n ts fs h = subst (λ (k : ℕ). Held k n ts fs) (sym (holds-trues-long _ _ _ _ _ h)) h
+pub held-own : {cap n : ℕ} {ts fs : List ℕ} → Held cap n ts fs → Held (length ts) n ts fs
+held-own {n = n} {ts = ts} {fs = fs} h = subst (λ (k : ℕ). Held k n ts fs) (sym (holds-trues-long h)) h
 
 -- ---- a table in lent arrays: the table of the list that they hold
 

@@ -1,4 +1,5 @@
--- The bench examples M1 to M3, M6 to M10 and M12 of document 01 in one theorem, computed by the definitions. Assumes nothing.
+-- The bench examples M1 to M3, M6 to M10 and M12 of document 01 in one theorem, computed by the definitions. For TH10
+-- (`examples/PictureExamples`) and for the examples in the crate plan. Assumes nothing.
 use mathlib.Core.Path.{_≡_, refl}
 use mathlib.Core.List.{List, [], _∷_}
 use mathlib.Core.Option.{some}

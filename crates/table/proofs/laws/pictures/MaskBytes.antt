@@ -1,4 +1,4 @@
--- Masks written into a buffer, one after the other. Assumes nothing.
+-- Masks written into a buffer, one after the other. For `picture_bytes::write_mask` and `picture_bytes::write_picture`. Assumes nothing.
 use mathlib.Core.Path.{_≡_, refl, sym, ap, ap₂, _∙_}
 use mathlib.Core.List.{List, [], _∷_, _++_, append-assoc, append-nil}
 use Prim.Native.Nat.{ℕ, suc, _+_, _*_, _/_, _%_, _≤_, _<_}

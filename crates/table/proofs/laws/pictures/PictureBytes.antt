@@ -1,4 +1,4 @@
--- The bytes of a picture give its clauses back. Assumes nothing.
+-- The bytes of a picture give its clauses back. For TH8 (`bytes-worlds` in `pictures/PictureWorlds`) and the crate plan. Assumes nothing.
 use mathlib.Core.Path.{_≡_, refl, sym, ap₂, _∙_}
 use mathlib.Core.List.{List, [], _∷_}
 use Prim.Native.Nat.{ℕ, _+_, _*_, _/_, _%_, _^_, _<_}
@@ -8,7 +8,7 @@ use lib.Pow.{shr-shr, shr-mod}
 use Rattle.sheet.specs.declared.Literals.{Literals}
 use Rattle.sheet.specs.Lists.{All}
 use Rattle.table.specs.Picture.{maskBytes, clauseBytes, pictureBytes}
-use Rattle.table.proofs.laws.pictures.ClausePut.{same-masks}
+use Rattle.table.proofs.laws.pictures.ClauseOrder.{same-masks}
 
 -- four bytes give a mask back
 four : (a b : ℕ) → a < 2 ^ 32 → b < 2 ^ 32 → a / 2 ^ 24 % 256 ≡ b / 2 ^ 24 % 256 → a / 2 ^ 16 % 256 ≡ b / 2 ^ 16 % 256

@@ -1,4 +1,4 @@
--- The call `picture` from its parts: the order of its tests, and what it writes. Assumes nothing.
+-- The call `picture` from its parts: the order of its tests, and what it writes. For `picture_bytes::draw` and `picture`. Assumes nothing.
 use mathlib.Core.Path.{_≡_, refl, sym, ap, ap₂, _∙_, subst}
 use mathlib.Core.Bool.{true, false, cond}
 use mathlib.Core.List.{List, _++_}
@@ -23,7 +23,7 @@ use Rattle.table.specs.inner.Slots.{Holds}
 use Rattle.table.specs.PictureCalls.{refusal, tooLong, given, written, pictureOf, bufferOf}
 use Rattle.table.proofs.laws.arrays.HeldLists.{length-entriesOf, holds-entries}
 use Rattle.table.proofs.laws.slots.DescribedTables.{described-iff}
-use Rattle.table.proofs.laws.pictures.PictureFold.{Handed, full-none, some-held}
+use Rattle.table.proofs.laws.pictures.HandedClauses.{Handed, full-none, some-held}
 
 -- how many entries a table as described has
 pub described-count : (n count : ℕ) (ts fs : List ℕ) → described 128 n (entriesOf count ts fs) ≡ true → (1 ≤ count) × (count ≤ 128)
@@ -84,7 +84,7 @@ module _ (n : ℕ) (es : List Literals) (buffer : List ℕ) where
             (ap (λ (x : ℕ). record { answer = Accepted; clauses = x }) k
             ∙ cond-false (refusal 23 0) (record { answer = Accepted; clauses = length s }) l)
             (w
-            ∙ ap₂ (λ (x : List Literals) (y : ℕ). pictureBytes x ++ drop (2 + 8 * y) buffer) (holds-entries _ _ _ _ _ (clauses-are .2)) k
+            ∙ ap₂ (λ (x : List Literals) (y : ℕ). pictureBytes x ++ drop (2 + 8 * y) buffer) (holds-entries (clauses-are .2)) k
             ∙ cond-false buffer (pictureBytes s ++ drop (2 + 8 * length s) buffer) l)
 
 -- ---- the call

@@ -1,4 +1,5 @@
--- Pictures and worlds: what the clauses of a picture are, their order, and what equal bytes mean. Assumes nothing.
+-- Pictures and worlds: what the clauses of a picture are, their order, and what equal bytes mean. For TH8 (proofs/Demands) and for the
+-- crate plan. Assumes nothing.
 use mathlib.Core.Path.{_≡_, sym, ap, _∙_, subst}
 use mathlib.Core.Logic.{_⊎_, _↔_}
 use mathlib.Core.Option.{some}
@@ -16,7 +17,7 @@ use Rattle.sheet.proofs.laws.literals.ProperSets.{all-members}
 use Rattle.table.specs.Minimal.{In, Antichain, Described, putAll}
 use Rattle.table.specs.Picture.{unions, primes, Ascending, sort, picture, pictureBytes}
 use Rattle.table.specs.Prime.{Prime, Exactly}
-use Rattle.table.proofs.laws.pictures.ClausePut.{then-some}
+use Rattle.table.proofs.laws.slots.PutInvariants.{then-some}
 use Rattle.table.proofs.laws.pictures.Primes.{PrimeList, list-exactly, exactly-list, primeList-same, union-primeList, primes-primeList, primes-length, clauses-world, in-or-not}
 use Rattle.table.proofs.laws.pictures.ClauseOrder.{ascending-unique, sort-mem, sort-sorted, sort-length}
 use Rattle.table.proofs.laws.pictures.PictureBytes.{Fit, bytes-injective}

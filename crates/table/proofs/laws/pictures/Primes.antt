@@ -1,4 +1,5 @@
--- Prime implicates: the fold of the picture lists those of the table's worlds, and they say which worlds these are. Assumes nothing.
+-- Prime implicates: the fold of the picture lists those of the table's worlds, and they say which worlds these are. For TH8
+-- (`pictures/PictureWorlds`) and for the crate plan. Assumes nothing.
 use mathlib.Core.Path.{_≡_, refl, sym, ap, ap₂, _∙_, subst}
 use mathlib.Core.Logic.{_⊎_, inl, inr, _↔_}
 use mathlib.Core.Bool.{Bool, true, false, not, cond, true≢false}
@@ -13,20 +14,21 @@ use borrow.Author.Tests.{not-true}
 use Rattle.sheet.specs.declared.Literals.{Literals}
 use Rattle.sheet.specs.Literals.{noLiteral, mem, within, clash, consistent, join, flip, sign, literal, contains, state, meets, Proper, membersFrom, members}
 use Rattle.sheet.specs.inner.Masks.{byte}
-use Rattle.sheet.specs.Lists.{All, anyOf}
+use Rattle.sheet.specs.Lists.{All, anyOf, collect}
 use Rattle.sheet.proofs.laws.base.Bools.{test, both, T-true, true-T, and-l, and-r, not-in}
 use Rattle.sheet.proofs.laws.base.ListFacts.{any-test, any-none, any-out, all-map, all-imaged}
-use Rattle.sheet.proofs.laws.literals.LiteralSets.{of-within, within-of, of-consistent, consistent-within, consistent-clash, mem-self, single-is, consistent-single, consistent-flip, meet-at, meet-here, below-within, below-join, below-flip, proper-of, proper-consistent, proper-below}
+use Rattle.sheet.proofs.laws.literals.LiteralSets.{of-within, within-of, of-consistent, consistent-within, consistent-clash, mem-self, single-is, consistent-single, consistent-flip, meet-at, meet-here, below-within, below-join, below-flip, proper-of, proper-consistent, proper-below, within-refl, within-trans, within-join-l, within-join-r}
 use Rattle.sheet.proofs.laws.literals.LiteralBytes.{byte-of, contains-byte, contains-lt, within-literal, down, members-end, members-here, members-step, of-member, member-of}
 use Rattle.sheet.proofs.laws.literals.Worlds.{state-below, state-consistent, within-state, state-within, implied-clause}
 use Rattle.sheet.proofs.laws.literals.AscendingBytes.{mem-none}
 use Rattle.sheet.proofs.laws.literals.ProperSets.{below-none, all-members, join-within}
-use Rattle.sheet.proofs.laws.literals.LiteralSets.{within-refl, within-trans, within-join-l, within-join-r}
 use Rattle.table.specs.Minimal.{In, Antichain, putAll}
 use Rattle.table.specs.Picture.{units, unions, fold, primes}
 use Rattle.table.specs.Prime.{Implicate, Prime, Exactly}
-use Rattle.table.proofs.laws.slots.PutLaws.{put-all-antichain, put-all-size}
-use Rattle.table.proofs.laws.pictures.ClausePut.{same-masks, within-equal, some-member, each-member, unions-member, member-unions, Besides, antichain-equal, then-some, put-from, put-covers}
+use Rattle.table.proofs.laws.slots.PutInvariants.{then-some, put-all-antichain, put-all-size}
+use Rattle.table.proofs.laws.slots.LeastCandidates.{within-equal, Besides, antichain-equal, put-from, put-covers}
+use Rattle.table.proofs.laws.arrays.ListMembers.{some-member, each-member, keep-member, member-keep, collect-member, member-collect}
+use Rattle.table.proofs.laws.pictures.ClauseOrder.{same-masks}
 
 -- ---- clauses that hold
 
@@ -249,6 +251,23 @@ none-primeList n = record {
     nothing s p k = true≢false (sym k ∙ mem-none s p)
 
 -- ---- the union of two sets of worlds
+
+-- a joined clause, by the two that it joins
+unions-member : (s u : List Literals) (x : Literals) → List·Memᴰ x (unions s u)
+    → (c : Literals) × (l : Literals) × List·Memᴰ c s × List·Memᴰ l u × (join c l ≡ x) × T (consistent x)
+unfolding unions
+unions-member s u x m =
+    let k = keep-member consistent (collect (λ c. map (join c) u) s) x m in
+    let c = collect-member (λ c. map (join c) u) s x (k .0) in
+    let l = Memᴰ·of-map (join (c .0)) u (c .2) in
+    (c .0, l .0, c .1, l .1, l .2, k .1)
+
+member-unions : (s u : List Literals) (c l : Literals) → List·Memᴰ c s → List·Memᴰ l u → T (consistent (join c l))
+    → List·Memᴰ (join c l) (unions s u)
+unfolding unions
+member-unions s u c l m k t =
+    member-keep consistent (collect (λ c. map (join c) u) s) (join c l)
+    (member-collect (λ c. map (join c) u) s c (join c l) m (Memᴰ·map (join c) k)) t
 
 -- the clauses of the one joined with those of the other are a list of the union
 pub union-primeList : (cap n : ℕ) (v u : ℕ → Type 0) (s t r : List Literals) → PrimeList n v s → PrimeList n u t

@@ -1,4 +1,4 @@
--- The literals of an entry, listed in slices as one-literal clauses. Assumes nothing.
+-- The literals of an entry, listed in slices as one-literal clauses. For `picture_clauses::units`. Assumes nothing.
 use mathlib.Core.Path.{_≡_, sym, ap, _∙_, subst}
 use mathlib.Core.List.{List, [], _∷_, _++_, map, append-nil}
 use Prim.Native.Nat.{ℕ, _+_, _-_, _≤_, _<_}
@@ -28,8 +28,8 @@ unfolding units
 listed-start cap e l ts fs h q = record {
   here = ap (next e) q ∙ next-next e 0 ∙ sym q;
   few = omega arith;
-  trues-long = holds-trues-long _ _ _ _ _ h;
-  falses-long = holds-falses-long _ _ _ _ _ h;
+  trues-long = holds-trues-long h;
+  falses-long = holds-falses-long h;
   done = [];
   holds = subst (λ (x : List Literals). Holds cap x 0 ts fs) (entries-none ts fs) h;
   onwards = ap (λ (k : ℕ). map literal (members e k)) q ∙ ap (map literal) (sym (members-next e 0));
@@ -39,12 +39,12 @@ module _ (cap : ℕ) (e : Literals) (l n : ℕ) (ts fs : List ℕ) (g : Listed c
   pub listed-on : l < 64 → 64 ≤ cap → (one : Literals) → one ≡ literal l → (m : ℕ) → m ≡ next e (l + 1)
       → Listed cap e m (n + 1) (set ts n (one .trues)) (set fs n (one .falses))
   listed-on lt room one is m q =
-      let h = holds-push cap (g .done) n ts fs (g .holds) (omega (arith, g .few)) one in
+      let h = holds-push (g .holds) (omega (arith, g .few)) one in
       record {
         here = ap (next e) q ∙ next-next e (l + 1) ∙ sym q;
         few = omega (arith, g .few, q, next-ge e (l + 1));
-        trues-long = holds-trues-long _ _ _ _ _ h;
-        falses-long = holds-falses-long _ _ _ _ _ h;
+        trues-long = holds-trues-long h;
+        falses-long = holds-falses-long h;
         done = g .done ++ (one ∷ []);
         holds = h;
         onwards =

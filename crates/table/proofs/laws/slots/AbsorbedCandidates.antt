@@ -1,4 +1,5 @@
--- Candidates that all contain one of them: it alone is what they leave, where there is room for all. Assumes nothing.
+-- Candidates that all contain one of them: it alone is what they leave, where there is room for all. For `picture_clauses::distribute`.
+-- Assumes nothing.
 use mathlib.Core.Path.{_≡_, refl, sym, ap, _∙_, subst}
 use mathlib.Core.Bool.{Bool, true, false, not}
 use mathlib.Core.List.{List, [], _∷_, _++_, map, append-nil}
@@ -23,11 +24,11 @@ use Rattle.table.specs.Minimal.{putLast, putNew, put, putAll}
 use Rattle.table.specs.Entries.{entriesOf}
 use Rattle.table.specs.inner.Slots.{Held, Grew, Puts}
 use Rattle.table.proofs.laws.arrays.HeldLists.{length-entriesOf, holds-trues-long}
-use Rattle.table.proofs.laws.arrays.Compaction.{keep-length, keep-append}
-use Rattle.table.proofs.laws.slots.PutSlots.{put-dropped, put-added}
-use Rattle.table.proofs.laws.slots.PutLaws.{others, Placed, put-cases}
-use Rattle.table.proofs.laws.pictures.ClausePut.{within-equal}
-use Rattle.table.proofs.laws.starts.Choosing.{left-out, stays-inconsistent}
+use Rattle.table.proofs.laws.arrays.KeptMembers.{keep-length, keep-append}
+use Rattle.table.proofs.laws.slots.PutFates.{put-dropped, put-added}
+use Rattle.table.proofs.laws.slots.PutInvariants.{others, Placed, put-cases}
+use Rattle.table.proofs.laws.slots.LeastCandidates.{within-equal}
+use Rattle.table.proofs.laws.slots.ConsistentCandidates.{left-out, stays-inconsistent}
 
 -- ---- c, and candidates that contain it
 module _ (cap : ℕ) (c : Literals) where
@@ -185,7 +186,7 @@ module _ (c : Literals) (us : List Literals) (h : Any (λ u. T (within u c)) us)
       → Puts (keep consistent (c ∷ [])) k ts fs r ts′ fs′ → Puts joined k ts fs r ts′ fs′
   puts-alone cap m k ts fs r ts′ fs′ g e l w =
       let room : length (entriesOf k ts fs) + length us ≤ length
-      ts = omega (arith, e, l, length-entriesOf k ts fs, g .room, holds-trues-long _ _ _ _ _ g) in
+      ts = omega (arith, e, l, length-entriesOf k ts fs, g .room, holds-trues-long g) in
       record {
         grew = subst (λ (o : Option (List Literals)). Grew (length ts) o r ts′ fs′) (alone (length ts) (entriesOf k ts fs) room)
             (w .grew);

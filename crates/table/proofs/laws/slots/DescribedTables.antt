@@ -1,4 +1,5 @@
--- The test of a table is what document 01 says of tables. Assumes nothing.
+-- The test of a table is what document 01 says of tables. For `described-iff` in proofs/Demands, `steps/StepCall`, `pictures/PictureCall`
+-- and TH4. Assumes nothing.
 use mathlib.Core.Path.{_≡_}
 use mathlib.Core.Bool.{true, not, _&&_, _||_}
 use mathlib.Core.List.{List, [], _∷_}

@@ -1,4 +1,5 @@
--- A scan from the last member to the first. Assumes nothing.
+-- A scan from the last member to the first. For W3 (`request-w3` in proofs/Demands), `slots::last_within` and what it calls,
+-- `slots::first_above`, `slots::put` and `slots::offer_by_newest`. Assumes nothing.
 use mathlib.Core.Path.{_≡_, refl, sym, ap, _∙_, subst}
 use mathlib.Core.Bool.{Bool, true, false, not, _||_, cond}
 use mathlib.Core.List.{List, [], _∷_, _++_}
@@ -126,6 +127,10 @@ module _ (ts fs : List ℕ) (i : ℕ) (l : Literals) where
 -- what a test of an entry that was read says
 pub tested : {r : Bool} {e x : Literals} (l : Literals) → r ≡ within e l → e ≡ x → r ≡ within x l
 tested {r} {e} {x} l p q = p ∙ ap (λ (y : Literals). within y l) q
+
+-- and what came of it
+pub shown : {r b : Bool} {e x : Literals} (l : Literals) → r ≡ within e l → e ≡ x → r ≡ b → within x l ≡ b
+shown l p q k = sym (tested l p q) ∙ k
 
 -- ---- a turn over four entries, the last of the first k
 module _ (ts fs : List ℕ) (k i : ℕ) (l : Literals) (is : i + 4 ≡ k) where

@@ -1,4 +1,4 @@
--- The candidates of a clause: their worlds are the entry's worlds that meet the clause. Assumes nothing.
+-- The candidates of a clause: their worlds are the entry's worlds that meet the clause. For TH2 (`starts/StartWorlds`). Assumes nothing.
 use mathlib.Core.Path.{_≡_, refl, sym, subst, ap, _∙_}
 use mathlib.Core.Bool.{Bool, true, false, not}
 use mathlib.Core.List.{List, [], _∷_, _++_}
@@ -11,10 +11,9 @@ use Rattle.sheet.specs.Literals.{within, join, flip, single, sign, literal, con
 use Rattle.sheet.specs.Lists.{Any, All}
 use Rattle.sheet.proofs.laws.base.Bools.{T-true, T-false, true-T, false-T}
 use Rattle.sheet.proofs.laws.base.ListFacts.{any-map, all-map, any-with, any-out, all-append, all-parts, any-image, any-imaged, all-imaged, any-collect, any-collected, all-collected}
-use Rattle.sheet.proofs.laws.literals.LiteralSets.{both, within-single, below-of, below-join, below-single, proper-below}
+use Rattle.sheet.proofs.laws.literals.LiteralSets.{both, within-single, below-of, below-join, below-single, proper-below, within-trans, within-join-l, within-join-r}
 use Rattle.sheet.proofs.laws.literals.Worlds.{fails-at, fails-here}
 use Rattle.sheet.proofs.laws.literals.ProperSets.{join-within, members-all, members-any, flip-literal, flip-byte}
-use Rattle.sheet.proofs.laws.literals.LiteralSets.{within-trans, within-join-l, within-join-r}
 use Rattle.table.specs.Worlds.{addOne, howMany}
 use Rattle.table.specs.Minimal.{In}
 use Rattle.table.specs.Start.{Clause, orOf, oneOf, falsify, Pick, picks, candidates}

@@ -1,4 +1,5 @@
--- The literals of one set that another lacks, and a set without its first literal. Assumes nothing.
+-- The literals of one set that another lacks, and a set without its first literal. For `starts::choose` (`starts/FalsifiedAlternatives`)
+-- and `steps::split` (`steps/PieceWalk`, `steps/CarriedResults`). Assumes nothing.
 use mathlib.Core.Path.{_≡_, refl, sym, ap, _∙_}
 use mathlib.Core.Bool.{Bool, true, false, not, cond, _&&_}
 use mathlib.Core.List.{List, _∷_}

@@ -1,5 +1,6 @@
--- One clause, the clauses of a section, and the first table, on tables in lent arrays. Assumes nothing.
-use Prim.Native.Nat.{ℕ, zero, _+_, _≤_, _<_}
+-- One clause, the clauses of a section, and the first table, on tables in lent arrays. For `starts::grow`, `starts::grow_all` and
+-- `starts::first_into`. Assumes nothing.
+use Prim.Native.Nat.{ℕ, _≤_}
 use mathlib.Core.Path.{_≡_, refl, sym, ap, _∙_, subst}
 use mathlib.Core.List.{List, [], _∷_, _++_}
 use mathlib.Core.Option.{Option, none, some}
@@ -8,36 +9,22 @@ use lib.ListN.{length, replicate, set}
 use Rattle.sheet.specs.declared.Answer.the-variants.{Accepted, Refused}
 use Rattle.sheet.specs.declared.Literals.{Literals}
 use Rattle.sheet.specs.Literals.{consistent}
-use Rattle.sheet.specs.Format.{refused as faulty, sheetOf}
 use Rattle.sheet.specs.Lists.{keep, collect, pad}
-use Rattle.sheet.specs.Problem.{Problem}
-use Rattle.sheet.specs.Encoding.{ProperAction, ProperProblem}
-use Rattle.sheet.proofs.laws.base.ListFacts.{all-at}
 use Rattle.sheet.proofs.laws.reader.ReadSheets.{not-both}
 use Rattle.table.specs.declared.slots.Grown.{Grown}
 use Rattle.table.specs.declared.slots.Grown.the-variants as grown
 use Rattle.table.specs.declared.starts.Started.{Started}
 use Rattle.table.specs.declared.starts.Started.the-variants as started
 use Rattle.table.specs.declared.Table.{Table}
-use Rattle.sheet.specs.declared.Sheet.{Sheet}
-use Rattle.sheet.specs.inner.Packed.{orsIn, oneofsIn}
-use Rattle.sheet.specs.inner.Decoded.{Filled}
-use Rattle.sheet.proofs.laws.reader.PackedParts.{part-long}
-use Rattle.sheet.proofs.laws.reader.ReadSheets.{ors-few, oneofs-few}
 use Rattle.table.specs.declared.TableAnswer.{TableAnswer}
 use Rattle.table.specs.Minimal.{putAll, Outcome, refused, table}
 use Rattle.table.specs.Start.{Clause, candidates, fresh, grow, onTable, growAll}
 use Rattle.table.specs.Entries.{pairs, entriesOf, tableOf}
 use Rattle.table.specs.inner.Slots.{Fresh, Holds, Held, Grew, Puts}
-use Rattle.table.specs.inner.Starts.{ClausesFit, startAnswer}
-use Rattle.table.specs.Calls.{orGiven, startOf, actionAt}
+use Rattle.table.specs.inner.Starts.{startAnswer}
+use Rattle.table.specs.Calls.{orGiven}
 use Rattle.table.proofs.laws.arrays.HeldLists.{length-entriesOf, holds-entries, held as held-of, holds-table, table-holds}
-use Rattle.table.proofs.laws.slots.PutLaws.{put-all-size}
-
--- the moves of a problem are proper
-pub at-proper : (p : Problem) → ProperProblem p → (i : ℕ) → i < length (p .actions) → ProperAction (p .n) (actionAt p i)
-unfolding actionAt
-at-proper p hp i l = all-at (ProperAction (p .n)) (p .actions) i _ l (hp .actions .each)
+use Rattle.table.proofs.laws.slots.PutInvariants.{put-all-size}
 
 -- ---- what is in the arrays
 
@@ -71,7 +58,7 @@ ready o r k ts fs small w e = at o refl (subst (λ (x : Started). Right o x ts f
     at (refused j) q v = not-both Accepted j 0 refl (ap (λ (y : TableAnswer). y .answer) v)
     at (table u) q v =
         let h = table-holds u k ts fs (small u q) (ap (λ (y : TableAnswer). y .table) v) in
-        record { held = held-of _ _ _ _ _ h; is = q ∙ sym (ap table (holds-entries _ _ _ _ _ h)) }
+        record { held = held-of h; is = q ∙ sym (ap table (holds-entries h)) }
 
 -- a refusal stays
 pub refusal : (o : Outcome) (r : Started) (k p : ℕ) (ts fs : List ℕ) (f : List Literals → Outcome) → Right o r ts fs
@@ -128,7 +115,7 @@ pub record Sections (o : Outcome) (cs : List Clause) (k : ℕ) (ts fs : List ℕ
   pub held : Held 128 k ts fs
   pub onwards : growAll 128 cs (entriesOf k ts fs) ≡ o
 
-module _ (o : Outcome) (bs cs : List Clause) (c : Clause) (n : ℕ) (us gs : List ℕ) (g : Sections o bs n us gs) (is : bs ≡ c ∷ cs)
+module _ {o : Outcome} {bs cs : List Clause} {c : Clause} {n : ℕ} {us gs : List ℕ} (g : Sections o bs n us gs) (is : bs ≡ c ∷ cs)
     (r : Started) (ts fs : List ℕ)
     (w : Right (grow 128 c (entriesOf n us gs)) r ts fs) (k : ℕ) where
   unrolled : onTable (grow 128 c (entriesOf n us gs)) (λ u. growAll 128 cs u) ≡ o
@@ -143,9 +130,9 @@ module _ (o : Outcome) (bs cs : List Clause) (c : Clause) (n : ℕ) (us gs : Lis
   sections-refused p e = subst (λ (x : Outcome). Right x (started.Refused k p) ts fs) unrolled
       (refusal _ r k p ts fs (λ u. growAll 128 cs u) w e)
 
-pub sections-end : (o : Outcome) (cs : List Clause) (k : ℕ) (ts fs : List ℕ) → Sections o cs k ts fs → cs ≡ []
+pub sections-end : {o : Outcome} {cs : List Clause} {k : ℕ} {ts fs : List ℕ} → Sections o cs k ts fs → cs ≡ []
     → Right o (started.To k) ts fs
-sections-end o cs k ts fs g e =
+sections-end {o} {cs} {k} {ts} {fs} g e =
     right-table o k ts fs (record { held = g .held; is = sym (g .onwards) ∙ ap (λ (x : List Clause). growAll 128 x (entriesOf k ts fs)) e })
 
 -- ---- the first table
@@ -180,19 +167,10 @@ module _ (known : Literals) (ts fs : List ℕ) (zeros : Fresh ts fs) where
   }
 
   pub first-held : Held 128 1 (set ts 0 (known .trues)) (set fs 0 (known .falses))
-  first-held = held-of _ _ _ _ _ one
+  first-held = held-of one
 
-  module _ (cs ds : List Clause) (r : Started) (us gs : List ℕ)
+  module _ (cs : List Clause) (r : Started) (us gs : List ℕ)
       (w : Right (growAll 128 cs (entriesOf 1 (set ts 0 (known .trues)) (set fs 0 (known .falses)))) r us gs) (k : ℕ) where
-    whole : onTable (growAll 128 cs (entriesOf 1 (set ts 0 (known .trues)) (set fs 0 (known .falses)))) (λ u. growAll 128 ds u)
-        ≡ growAll 128 (cs ++ ds) (known ∷ [])
-    whole = ap (λ (y : List Literals). onTable (growAll 128 cs y) (λ u. growAll 128 ds u)) (holds-entries _ _ _ _ _ one)
-        ∙ sym (growAll-append cs ds (known ∷ []))
-
-    pub first-refused : (p : ℕ) → r ≡ started.Refused k p → Right (growAll 128 (cs ++ ds) (known ∷ [])) (started.Refused k p) us gs
-    first-refused p e = subst (λ (y : Outcome). Right y (started.Refused k p) us gs) whole
-        (refusal _ r k p us gs (λ u. growAll 128 ds u) w e)
-
     first-ready : r ≡ started.To k → Readied (growAll 128 cs (entriesOf 1 (set ts 0 (known .trues)) (set fs 0 (known .falses)))) k us gs
     first-ready e = ready _ r k us gs
         (growAll-small cs _ (omega (arith, length-entriesOf 1 (set ts 0 (known .trues)) (set fs 0 (known .falses))))) w e
@@ -200,30 +178,15 @@ module _ (known : Literals) (ts fs : List ℕ) (zeros : Fresh ts fs) where
     pub first-grown : r ≡ started.To k → Held 128 k us gs
     first-grown e = first-ready e .held
 
-    pub first-on : r ≡ started.To k → growAll 128 ds (entriesOf k us gs) ≡ growAll 128 (cs ++ ds) (known ∷ [])
-    first-on e = sym (ap (λ (y : Outcome). onTable y (λ u. growAll 128 ds u)) (first-ready e .is)) ∙ whole
+    module _ (ds : List Clause) where
+      whole : onTable (growAll 128 cs (entriesOf 1 (set ts 0 (known .trues)) (set fs 0 (known .falses)))) (λ u. growAll 128 ds u)
+          ≡ growAll 128 (cs ++ ds) (known ∷ [])
+      whole = ap (λ (y : List Literals). onTable (growAll 128 cs y) (λ u. growAll 128 ds u)) (holds-entries one)
+          ∙ sym (growAll-append cs ds (known ∷ []))
 
--- ---- the clauses of a sheet that was read, in their sections
-module _ (x : Sheet) (packed : List ℕ) (h : Filled x packed) where
-  pub ors-fit : ClausesFit (x .ors) (orsIn packed)
-  ors-fit =
-      let f = ors-few x packed (h .proper) in
-      record { room = omega (arith, f .0, part-long 0 136 packed (omega (arith, h .long))); few = f .1 }
+      pub first-refused : (p : ℕ) → r ≡ started.Refused k p → Right (growAll 128 (cs ++ ds) (known ∷ [])) (started.Refused k p) us gs
+      first-refused p e = subst (λ (y : Outcome). Right y (started.Refused k p) us gs) whole
+          (refusal _ r k p us gs (λ u. growAll 128 ds u) w e)
 
-  pub oneofs-fit : ClausesFit (x .oneofs) (oneofsIn packed)
-  oneofs-fit =
-      let f = oneofs-few x packed (h .proper) in
-      record { room = omega (arith, f .0, part-long 136 136 packed (omega (arith, h .long))); few = f .1 }
-
--- ---- the call on bytes, and by value
-pub start-fault : (s : List ℕ) (k p : ℕ) → sheetOf s ≡ faulty k p → startAnswer (started.Refused k p) [] [] ≡ startOf (sheetOf s)
-unfolding startOf
-start-fault s k p e = sym (ap startOf e)
-
-pub start-by : (r x : Started) (ts fs : List ℕ) (d : TableAnswer) → r ≡ x → startAnswer r ts fs ≡ d → startAnswer x ts fs ≡ d
-start-by r x ts fs d e q = sym (ap (λ (y : Started). startAnswer y ts fs) e) ∙ q
-
--- no table
-pub start-refusal : (c : TableAnswer) (k p : ℕ) → (c .answer ≡ Refused k p) × (c .table ≡ tableOf []) → (d : TableAnswer)
-    → startAnswer (started.Refused k p) [] [] ≡ d → c ≡ d
-start-refusal c k p h d q = (λ j. record { answer = h .0 j; table = h .1 j }) ∙ q
+      pub first-on : r ≡ started.To k → growAll 128 ds (entriesOf k us gs) ≡ growAll 128 (cs ++ ds) (known ∷ [])
+      first-on e = sym (ap (λ (y : Outcome). onTable y (λ u. growAll 128 ds u)) (first-ready e .is)) ∙ whole

@@ -1,4 +1,5 @@
--- The start table stands for exactly the starting worlds; 20 says that there are none; which clause gives 20 or 21. Assumes nothing.
+-- The start table stands for exactly the starting worlds; 20 says that there are none; which clause gives 20 or 21. For TH2
+-- (proofs/Demands). Assumes nothing.
 use mathlib.Core.Path.{_≡_, refl, sym, subst, ap, _∙_}
 use mathlib.Core.List.{List, [], _∷_, _++_, map}
 use mathlib.Core.Logic.{_⊎_, inl, inr, _↔_}
@@ -20,7 +21,7 @@ use Rattle.sheet.proofs.laws.literals.ProperSets.{any-passed, some-world}
 use Rattle.table.specs.Worlds.{Starting}
 use Rattle.table.specs.Minimal.{In, Described, putAll, Outcome, refused, table}
 use Rattle.table.specs.Start.{Clause, orOf, oneOf, startClauses, candidates, fresh, grow, onTable, growAll, startTable, Stops}
-use Rattle.table.proofs.laws.slots.PutLaws.{put-all-all, put-all-antichain, put-all-size, put-all-in, put-all-out}
+use Rattle.table.proofs.laws.slots.PutInvariants.{put-all-all, put-all-antichain, put-all-size, put-all-in, put-all-out}
 use Rattle.table.proofs.laws.steps.StepWorlds.{code-is, table-refused, table-is}
 use Rattle.table.proofs.laws.starts.ClauseCandidates.{Meets, Alternatives, Low, candidates-low, candidates-in, candidates-out}
 

@@ -1,5 +1,5 @@
--- What is carried down where a piece is split, one condition after the other: the results of the conditions that were passed.
--- Assumes nothing.
+-- What is carried down where a piece is split, one condition after the other: the results of the conditions that were passed. For
+-- `steps::skip_decided`, `steps::split`, `steps::branch` and `steps::branch_all`. Assumes nothing.
 use mathlib.Core.Path.{_≡_, refl, sym, ap, ap₂, _∙_, subst}
 use mathlib.Core.Bool.{Bool, true, false, not, _||_, and-eq-true-iff, true≢false}
 use mathlib.Core.List.{List, [], _∷_, _++_, map, append-nil}
@@ -146,7 +146,7 @@ module _ (es : List Effect) (at : ℕ) (d : Literals) (r : Undecided) (g : Skips
   pub settles-puts : (k : ℕ) (ts fs : List ℕ) (o : Grown) (us gs : List ℕ)
       → Puts (map (image es) (pieces (drop (r .at) es) d)) k ts fs o us gs
       → Puts (map (image es) (pieces (drop at es) d)) k ts fs o us gs
-  settles-puts k ts fs o us gs w = puts-is _ _ _ _ _ _ _ _ (ap (map (image es)) (g .whole)) w
+  settles-puts k ts fs o us gs w = puts-is (ap (map (image es)) (g .whole)) w
 
   -- no effect is left
   pub settles-leaf : drop (r .at) es ≡ [] → (w : Literals) → w ≡ replace d (r .results)
@@ -155,7 +155,7 @@ module _ (es : List Effect) (at : ℕ) (d : Literals) (r : Undecided) (g : Skips
   unfolding image
   settles-leaf q w e k ts fs o us gs p =
       settles-puts k ts fs o us gs
-      (puts-is _ _ _ _ _ _ _ _ (ap (λ (x : Literals). x ∷ []) (e ∙ ap (replace d) (sym last)) ∙ at-leaf es (drop (r .at) es) d q) p)
+      (puts-is (ap (λ (x : Literals). x ∷ []) (e ∙ ap (replace d) (sym last)) ∙ at-leaf es (drop (r .at) es) d q) p)
     where
       all : take (r .at) es ≡ es
       all = sym (append-nil (take (r .at) es)) ∙ ap (λ (x : List Effect). take (r .at) es ++ x) (sym q) ∙ take-append-drop (r .at) es

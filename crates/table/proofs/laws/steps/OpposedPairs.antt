@@ -1,21 +1,21 @@
--- Contradictory results by pairs: some piece has them exactly if two effects with clashing results can hold together. Assumes nothing.
-use mathlib.Core.Path.{_≡_, refl, sym, subst, ap₂, _∙_}
+-- Contradictory results by pairs: some piece has them exactly if two effects with clashing results can hold together. For
+-- `pairs-contradict` in proofs/Demands and for `steps::step_at` (`steps/StepArrays`). Assumes nothing.
+use mathlib.Core.Path.{_≡_, refl, sym, subst, ap₂, _∙_, ap}
 use mathlib.Core.Bool.{Bool, true, false, not, _&&_, _||_, and-false}
-use mathlib.Core.List.{List, [], _∷_}
+use mathlib.Core.List.{List, [], _∷_, _++_}
 use mathlib.Core.Logic.{_⊎_, inl, inr}
 use Prim.Native.Nat.{ℕ, _^_, _≤_, _<_}
 use lib.Dec.{T}
 use Rattle.sheet.specs.declared.Literals.{Literals}
 use Rattle.sheet.specs.declared.Effect.{Effect}
 use Rattle.sheet.specs.Literals.{noLiteral, within, join, clash, consistent, state, Proper}
-use Rattle.sheet.specs.Lists.{All, anyOf, allOf}
+use Rattle.sheet.specs.Lists.{All, anyOf, allOf, collect}
 use Rattle.sheet.specs.Encoding.{ProperEffect}
 use Rattle.sheet.proofs.laws.base.Bools.{test, both, T-true, T-false, true-T, false-T, T-ext, and-l, and-r, and-in, or-l, or-r, or-out, not-in}
 use Rattle.sheet.proofs.laws.base.ListFacts.{all-map, any-with, all-with, any-out, any-choose, any-test, all-test, all-fails, any-tested}
-use Rattle.sheet.proofs.laws.literals.LiteralSets.{of-apart, clash-sym, clash-join, of-consistent, consistent-join, consistent-within, below-join, proper-of, proper-below}
+use Rattle.sheet.proofs.laws.literals.LiteralSets.{of-apart, clash-sym, clash-join, of-consistent, consistent-join, consistent-within, below-join, proper-of, proper-below, within-trans, within-join-l, within-join-r}
 use Rattle.sheet.proofs.laws.literals.AscendingBytes.{mem-none}
 use Rattle.sheet.proofs.laws.literals.ProperSets.{join-within, some-world}
-use Rattle.sheet.proofs.laws.literals.LiteralSets.{within-trans, within-join-l, within-join-r}
 use Rattle.table.specs.Worlds.{addResult, results}
 use Rattle.table.specs.Step.{pieces}
 use Rattle.table.specs.inner.Pairs.{contradicts}
@@ -200,3 +200,24 @@ module _ (n : ℕ) where
           (λ q m c. (m, c)) (pieces es d)
           (pieces-parts n es he d hd) (all-test (clear es) (pieces es d) k))
           (pieces-in n hn es he d hd (x .0) (x .1 .0) (x .1 .1 .0)))
+
+-- ---- over all entries: 25 by pairs of effects is 25 by pieces
+all-both : {A : Type 0} (f : A → Bool) (xs ys : List A) → allOf f (xs ++ ys) ≡ (allOf f xs && allOf f ys)
+all-both f [] ys = refl
+all-both f (x ∷ xs) ys = ap (λ (b : Bool). f x && b) (all-both f xs ys) ∙ regroup (f x) (allOf f xs) (allOf f ys)
+  where
+    regroup : (a b c : Bool) → (a && (b && c)) ≡ ((a && b) && c)
+    regroup true b c = refl
+    regroup false b c = refl
+
+neither : (a b : Bool) → (not a && not b) ≡ not (a || b)
+neither true b = refl
+neither false b = refl
+
+pub all-clear : (n : ℕ) → n ≤ 32 → (es : List Effect) → All (ProperEffect n) es → (t : List Literals) → All (Proper n) t
+    → allOf (λ d. consistent (results es d)) (collect (pieces es) t) ≡ not (anyOf (λ d. contradicts es d) t)
+all-clear n hn es he [] h = refl
+all-clear n hn es he (d ∷ t) h =
+    all-both (λ q. consistent (results es q)) (pieces es d) (collect (pieces es) t)
+    ∙ ap₂ (λ (a b : Bool). a && b) (sym (pairs-contradict n hn es he d (h .0))) (all-clear n hn es he t (h .1))
+    ∙ neither (contradicts es d) (anyOf (λ q. contradicts es q) t)

@@ -1,4 +1,4 @@
--- 25 asked pair by pair, over all entries at once. Assumes nothing.
+-- 25 asked pair by pair, over all entries at once. For `steps::opposed` and `steps::conflicting`. Assumes nothing.
 use mathlib.Core.Path.{_≡_, refl, sym, ap, _∙_}
 use mathlib.Core.Bool.{Bool, true, false, _&&_, _||_}
 use mathlib.Core.List.{List, [], _∷_}

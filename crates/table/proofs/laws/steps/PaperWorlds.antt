@@ -1,4 +1,5 @@
--- The step of a world is equations (1) and (2) of source document 000, section 2, literal by literal. Assumes nothing.
+-- The step of a world is equations (1) and (2) of source document 000, section 2, literal by literal. For plan/proofs/Demands.
+-- Assumes nothing.
 use mathlib.Core.Path.{_≡_, refl, sym, ap, _∙_}
 use mathlib.Core.Bool.{Bool, true, false, not, _&&_, _||_}
 use mathlib.Core.List.{List, [], _∷_}

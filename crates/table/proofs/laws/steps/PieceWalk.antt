@@ -1,4 +1,5 @@
--- The walk over the pieces of an entry, one condition and one part at a time, and what is put on it. Assumes nothing.
+-- The walk over the pieces of an entry, one condition and one part at a time, and over the entries. For `steps::split`,
+-- `steps::branch_all` and `steps/CarriedResults`. Assumes nothing.
 use mathlib.Core.Path.{_≡_, sym, ap, _∙_, subst}
 use mathlib.Core.Bool.{Bool, true, false, _||_}
 use mathlib.Core.List.{List, [], _∷_, _++_, map, map-append, append-nil}
@@ -8,19 +9,16 @@ use native.Mathlib.Omega.{arith}
 use Rattle.sheet.specs.declared.Literals.{Literals}
 use Rattle.sheet.specs.declared.Effect.{Effect}
 use Rattle.sheet.specs.Literals.{join, flip, literal, within, clash, members}
-use Rattle.sheet.specs.inner.Masks.{next}
+use Rattle.sheet.specs.inner.Masks.{next, minus}
 use Rattle.sheet.specs.Lists.{collect}
 use Rattle.sheet.proofs.laws.literals.LiteralBytes.{scan, next-end, next-here, next-step, next-next, next-ge, members-next, members-loop, members-end}
 use Rattle.table.specs.Step.{splitBy, split, pieces, image}
 use Rattle.table.specs.inner.Carry.{partAt}
-use Rattle.sheet.specs.inner.Masks.{minus}
 use Rattle.table.proofs.laws.starts.LackedLiterals.{members-lacks}
-use Rattle.table.proofs.laws.slots.PutLoops.{Going}
-
--- the same at equal values
-pub going-at : (all : List Literals) (k₀ : ℕ) (ts₀ fs₀ : List ℕ) (ds : List Literals) (k k′ : ℕ) (ts fs ts′ fs′ : List ℕ)
-    → k′ ≡ k → ts′ ≡ ts → fs′ ≡ fs → Going all k₀ ts₀ fs₀ ds k ts fs → Going all k₀ ts₀ fs₀ ds k′ ts′ fs′
-going-at all k₀ ts₀ fs₀ ds k k′ ts fs ts′ fs′ p q r g = rw (p, q, r) g
+use lib.ListN.{drop}
+use Rattle.table.specs.Entries.{entriesOf}
+use Rattle.table.specs.inner.Slots.{slot}
+use Rattle.table.proofs.laws.arrays.EntryLoops.{entries-next, entries-done}
 
 -- the next literal is one
 next-fixed : (c : Literals) (l m : ℕ) → m ≡ next c l → next c m ≡ m
@@ -105,8 +103,16 @@ module _ (c d m : Literals) where
       ap (λ (x : List ℕ). map (image es) (collect (pieces hs) (map (λ j. join d (flip (literal j))) x)))
       (members-end m l (omega (arith, h)))
 
--- ---- the entries, one after the other
-pub entries-ways : (es : List Effect) (e : Literals) (xs ys : List Literals) → xs ≡ e ∷ ys
-    → map (image es) (collect (pieces es) xs) ≡ map (image es) (pieces es e) ++ map (image es) (collect (pieces es) ys)
-entries-ways es e xs ys q =
-    ap (λ (x : List Literals). map (image es) (collect (pieces es) x)) q ∙ map-append (image es) (pieces es e) (collect (pieces es) ys)
+-- ---- the entries from i on, one after the other
+module _ (es : List Effect) (n : ℕ) (ts fs : List ℕ) (i : ℕ) where
+  abbrev images : List Literals → List Literals
+  images xs = map (image es) (collect (pieces es) xs)
+
+  pub images-step : (e : Literals) → i < n → e ≡ slot ts fs i → images (drop i (entriesOf n ts fs))
+      ≡ map (image es) (pieces es e) ++ images (drop (i + 1) (entriesOf n ts fs))
+  images-step e lt read =
+      ap images (entries-next n ts fs i e lt read)
+      ∙ map-append (image es) (pieces es e) (collect (pieces es) (drop (i + 1) (entriesOf n ts fs)))
+
+  pub images-end : n ≤ i → images (drop i (entriesOf n ts fs)) ≡ []
+  images-end le = ap images (entries-done n ts fs i le)

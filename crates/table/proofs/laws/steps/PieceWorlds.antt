@@ -1,4 +1,5 @@
--- The pieces of an entry: the same worlds, each piece proper, each condition decided. Assumes nothing.
+-- The pieces of an entry: the same worlds, each piece proper, each condition decided. For TH3 (`steps/StepWorlds`) and
+-- `steps/OpposedPairs`. Assumes nothing.
 use mathlib.Core.Path.{_≡_, refl, sym, subst, ap₂, _∙_}
 use mathlib.Core.Bool.{Bool, true, false, not, _||_}
 use mathlib.Core.List.{List, [], _∷_}
@@ -13,12 +14,10 @@ use Rattle.sheet.specs.Lists.{All}
 use Rattle.sheet.specs.Encoding.{ProperEffect}
 use Rattle.sheet.proofs.laws.base.Bools.{test, both, T-true, T-false, true-T, false-T, T-ext, or-out, or-not-r}
 use Rattle.sheet.proofs.laws.base.ListFacts.{all-map, any-with, any-out, all-keep, any-imaged, all-imaged, any-collected, all-collected}
-use Rattle.sheet.proofs.laws.literals.LiteralSets.{within-of, mem-self, clash-at, clash-here, clash-sym, clash-within, below-of, proper-below}
-use Rattle.sheet.proofs.laws.literals.LiteralSets as sets
+use Rattle.sheet.proofs.laws.literals.LiteralSets.{within-of, mem-self, clash-at, clash-here, clash-sym, clash-within, below-of, proper-below, within-refl, within-trans, within-join-l, within-join-r}
 use Rattle.sheet.proofs.laws.literals.Worlds.{fails-here, split-world}
 use Rattle.sheet.proofs.laws.literals.LiteralBytes.{contains-byte}
 use Rattle.sheet.proofs.laws.literals.ProperSets.{any-passed, join-within, join-proper, deny-proper, members-all, members-any, flip-literal, flip-byte}
-use Rattle.sheet.proofs.laws.literals.LiteralSets.{within-refl, within-trans, within-join-l, within-join-r}
 use Rattle.table.specs.Worlds.{addResult, results}
 use Rattle.table.specs.Minimal.{In}
 use Rattle.table.specs.Step.{missing, splitBy, split, pieces}

@@ -1,68 +1,34 @@
--- The step of a table on arrays: its tests in their order; the move of a number on a sheet; the call on bytes. Assumes nothing.
-use mathlib.Core.Path.{_≡_, refl, sym, ap, ap₂, _∙_, subst}
-use mathlib.Core.Bool.{Bool, true, false, not, _&&_, _||_}
-use mathlib.Core.List.{List, [], _∷_, _++_, map}
-use Prim.Native.Nat.{ℕ, _≤_, _<_, _+_, _*_}
-use native.Mathlib.Omega.{arith}
-use lib.Dec.{ltb}
+-- The step of a table on arrays: its tests in their order, on the move that was read. For `steps::step_at`. Assumes nothing.
+use mathlib.Core.Path.{_≡_, sym, ap, ap₂, _∙_, subst}
+use mathlib.Core.Bool.{Bool, true, false, not}
+use mathlib.Core.List.{List, [], map}
+use Prim.Native.Nat.{ℕ}
 use lib.ListN.{length, take, drop, replicate}
-use borrow.Author.Tests.{lt-ltb, le-ltb, ltb-true}
-use Rattle.sheet.specs.declared.Answer.the-variants.{Accepted, Refused}
+use Rattle.sheet.specs.declared.Answer.the-variants.{Refused}
 use Rattle.sheet.specs.declared.Literals.{Literals}
 use Rattle.sheet.specs.declared.Effect.{Effect}
 use Rattle.sheet.specs.Literals.{consistent, within, Proper}
 use Rattle.sheet.specs.Lists.{All, anyOf, allOf, collect, pad}
-use Rattle.sheet.specs.declared.Sheet.{Sheet}
 use Rattle.sheet.specs.Problem.{Action}
-use Rattle.sheet.specs.Format.{Judgement, sheetOf}
-use Rattle.sheet.specs.declared.Decoded.{Decoded}
-use Rattle.sheet.specs.inner.Decoded.{problemIn, statementIn, judgementIn}
-use Rattle.sheet.specs.Encoding.{ProperEffect, ProperAction, ProperStatement}
+use Rattle.sheet.specs.Encoding.{ProperEffect}
 use Rattle.sheet.proofs.laws.base.ListFacts.{all-map}
 use Rattle.sheet.proofs.laws.literals.LiteralSets.{proper-consistent}
 use Rattle.table.specs.declared.slots.Grown.{Grown}
 use Rattle.table.specs.declared.slots.Grown.the-variants as grown
 use Rattle.table.specs.declared.Table.{Table}
 use Rattle.table.specs.declared.TableAnswer.{TableAnswer}
-use Rattle.table.specs.Worlds.{results}
-use Rattle.table.specs.Minimal.{described, putAll, Outcome, refused}
+use Rattle.table.specs.Minimal.{putAll, Outcome, refused}
 use Rattle.table.specs.Step.{pieces, image, orFull, stepClear, stepSure, stepTable}
 use Rattle.table.specs.inner.Pairs.{contradicts}
-use Rattle.table.specs.Entries.{pairs, entriesOf, entries, tableOf}
+use Rattle.table.specs.Entries.{pairs, entriesOf, entries, tableOf, lent}
 use Rattle.table.specs.inner.Slots.{Fresh, Grew, Held, Puts}
-use Rattle.table.specs.Calls.{orGiven, actionAt, stepKnown, stepMove, stepOf}
-use Rattle.table.specs.declared.steps.Stepped.{Stepped}
+use Rattle.table.specs.Calls.{orGiven}
 use Rattle.table.specs.declared.steps.Stepped.the-variants as moved
-use Rattle.sheet.specs.inner.Packed.{movesIn, setFrom, actionBy, itemAt, countIn, actionFrom, countOf, actionOf}
-use Rattle.table.specs.Entries.{lent}
+use Rattle.sheet.specs.inner.Packed.{setFrom, actionBy, itemAt, countIn, actionFrom, actionOf}
 use Rattle.table.specs.inner.Steps.{stepAnswer, Fits}
 use Rattle.table.specs.inner.Carry.{Steady}
-use Rattle.table.proofs.laws.arrays.HeldLists.{length-entriesOf, fresh}
-use Rattle.sheet.proofs.laws.reader.PackedParts.{items-length, item-at, item-of-all, effects-long}
-use Rattle.sheet.proofs.laws.reader.ReadSheets.{refused-says, accepted-says, accepted-proper, n-few, moves-few, moves-proper}
-use Rattle.table.proofs.laws.steps.OpposedPairs.{pairs-contradict}
-use Rattle.table.proofs.laws.slots.DescribedTables.{described-iff}
-
--- ---- 25 by pairs of effects is 25 by pieces
-all-both : {A : Type 0} (f : A → Bool) (xs ys : List A) → allOf f (xs ++ ys) ≡ (allOf f xs && allOf f ys)
-all-both f [] ys = refl
-all-both f (x ∷ xs) ys = ap (λ (b : Bool). f x && b) (all-both f xs ys) ∙ regroup (f x) (allOf f xs) (allOf f ys)
-  where
-    regroup : (a b c : Bool) → (a && (b && c)) ≡ ((a && b) && c)
-    regroup true b c = refl
-    regroup false b c = refl
-
-neither : (a b : Bool) → (not a && not b) ≡ not (a || b)
-neither true b = refl
-neither false b = refl
-
-pub all-clear : (n : ℕ) → n ≤ 32 → (es : List Effect) → All (ProperEffect n) es → (t : List Literals) → All (Proper n) t
-    → allOf (λ d. consistent (results es d)) (collect (pieces es) t) ≡ not (anyOf (λ d. contradicts es d) t)
-all-clear n hn es he [] h = refl
-all-clear n hn es he (d ∷ t) h =
-    all-both (λ q. consistent (results es q)) (pieces es d) (collect (pieces es) t)
-    ∙ ap₂ (λ (a b : Bool). a && b) (sym (pairs-contradict n hn es he d (h .0))) (all-clear n hn es he t (h .1))
-    ∙ neither (contradicts es d) (anyOf (λ q. contradicts es q) t)
+use Rattle.table.proofs.laws.arrays.HeldLists.{fresh}
+use Rattle.table.proofs.laws.steps.OpposedPairs.{all-clear}
 
 -- ---- the outcome, by the tests in their order
 module _ (a : Action) (t : Table) (h : Fits a t) where
@@ -171,77 +137,3 @@ pub action-is : (moves : List ℕ) (m : ℕ) (item : List ℕ) (p : Literals) (s
     → actionBy p size (take 32 (drop 3 item)) ≡ actionOf moves m
 unfolding actionFrom
 action-is moves m item p size r a b = ap₂ (λ (q : Literals) (n : ℕ). actionBy q n (take 32 (drop 3 item))) a b ∙ ap actionFrom r
-
--- ---- the call on bytes
-module _ (s : List ℕ) (d : Decoded) (packed : List ℕ) (e : judgementIn d packed ≡ sheetOf s) (t : Table) (i : ℕ) where
-  abbrev whole : TableAnswer
-  whole = stepOf (sheetOf s) t i
-
-  pub call-fault : (k p : ℕ) → d .answer ≡ Refused k p → stepAnswer t (moved.Refused k p) [] [] ≡ whole
-  unfolding stepOf
-  call-fault k p a = sym (ap (λ (j : Judgement). stepOf j t i) (refused-says d packed s e k p a))
-
-  -- a sheet that was read: 7, 22, then the step
-  module _ (a : d .answer ≡ Accepted) where
-    abbrev x : Sheet
-    x = d .sheet
-
-    abbrev its : Action
-    its = actionOf (movesIn packed) i
-
-    abbrev proper : ProperStatement (statementIn x packed)
-    proper = accepted-proper d packed s e a
-
-    by-move : (b : Bool) → ltb i (x .moves) ≡ b → stepMove b (x .n) its t ≡ whole
-    unfolding stepOf statementIn problemIn actionAt
-    by-move b q =
-        known b q
-        ∙ ap (λ (z : Bool). stepMove z (x .n) (actionAt (problemIn x packed) i) t)
-        (sym q ∙ sym (ap (ltb i) (items-length 35 actionFrom (x .moves) (movesIn packed))))
-        ∙ sym (ap (λ (j : Judgement). stepOf j t i) (accepted-says d packed s e a))
-      where
-        known : (z : Bool) → ltb i (x .moves) ≡ z → stepMove z (x .n) its t ≡ stepMove z (x .n) (actionAt (problemIn x packed) i) t
-        known true q = ap (λ (y : Action). stepMove true (x .n) y t)
-            (sym (item-at 35 actionFrom (x .moves) (movesIn packed) i _ (ltb-true i (x .moves) q)))
-        known false q = refl
-
-    pub off-sheet : x .moves ≤ i → stepAnswer t (moved.Refused 7 0) [] [] ≡ whole
-    off-sheet k = by-move false (le-ltb i (x .moves) k)
-
-    module _ (lt : i < x .moves) where
-      its-action : ProperAction (x .n) its
-      its-action = item-of-all 35 actionFrom (ProperAction (x .n)) (x .moves) (movesIn packed) i lt (moves-proper x packed proper)
-
-      pub its-most : i < 32
-      its-most = omega (arith, lt, moves-few x packed proper .1)
-
-      pub its-count : countOf (movesIn packed) i ≤ 8
-      unfolding actionFrom
-      its-count = subst (λ (k : ℕ). k ≤ 8) (effects-long (countOf (movesIn packed) i) (take 32 (drop 3 (itemAt 35 (movesIn packed) i))))
-          (its-action .effects .most)
-
-      by-known : (b : Bool) → described 128 (x .n) (entries t) ≡ b → stepKnown b its t ≡ whole
-      by-known b k = ap (λ (z : Bool). stepKnown z its t) (sym k) ∙ by-move true (lt-ltb i (x .moves) lt)
-
-      pub undescribed : described 128 (x .n) (entries t) ≡ false → stepAnswer t (moved.Refused 22 0) [] [] ≡ whole
-      undescribed k = by-known false k
-
-      module _ (k : described 128 (x .n) (entries t) ≡ true) where
-        pub its-fits : Fits its t
-        unfolding entries
-        its-fits =
-            let w = described-iff 128 (x .n) (entries t) .0 k in
-            record {
-              n = x .n;
-              n-most = n-few x packed proper .1;
-              entries-most = subst (λ (z : ℕ). z ≤ 128) (length-entriesOf (t .count) (t .trues) (t .falses)) (w .most);
-              action = its-action;
-              proper = w .proper;
-            }
-
-        pub known-step : orGiven t (stepTable 128 its (entries t)) ≡ whole
-        known-step = by-known true k
-
--- the call by value
-pub step-by : (t : Table) (r x : Stepped) (us gs : List ℕ) (d : TableAnswer) → r ≡ x → stepAnswer t r us gs ≡ d → stepAnswer t x us gs ≡ d
-step-by t r x us gs d e q = sym (ap (λ (y : Stepped). stepAnswer t y us gs) e) ∙ q

@@ -1,4 +1,5 @@
--- A step of a table is exactly the step of each of its worlds. Assumes nothing.
+-- A step of a table is exactly the step of each of its worlds. For TH3 (`step-24` to `step-kind` in proofs/Demands), TH4 and the crate
+-- plan. Assumes nothing.
 use mathlib.Core.Path.{_≡_, refl, sym, subst, ap, _∙_}
 use mathlib.Core.Bool.{Bool, true, false, not}
 use mathlib.Core.List.{List, [], _∷_, map}
@@ -13,20 +14,25 @@ use Rattle.sheet.specs.declared.Effect.{Effect}
 use Rattle.sheet.specs.inner.Masks as masks
 use Rattle.sheet.specs.Literals.{within, consistent, replace, state, below, Proper}
 use Rattle.sheet.specs.Lists.{All, allOf, collect}
-use Rattle.sheet.specs.Problem.{Action}
-use Rattle.sheet.specs.Encoding.{ProperEffect, ProperAction}
+use Rattle.sheet.specs.Problem.{Action, Problem}
+use Rattle.sheet.specs.Encoding.{ProperEffect, ProperAction, ProperProblem}
 use Rattle.sheet.proofs.laws.base.Bools.{test, both, T-true, T-false, true-T, false-T, and-l, and-r, and-in, not-in}
-use Rattle.sheet.proofs.laws.base.ListFacts.{all-map, any-with, all-with, any-out, any-image, any-imaged, all-imaged, any-collect, any-collected, all-collected, any-choose, all-test, all-fails}
-use Rattle.sheet.proofs.laws.literals.LiteralSets.{below-join, proper-consistent, proper-below}
+use Rattle.sheet.proofs.laws.base.ListFacts.{all-map, all-at, any-with, all-with, any-out, any-image, any-imaged, all-imaged, any-collect, any-collected, all-collected, any-choose, all-test, all-fails}
+use Rattle.sheet.proofs.laws.literals.LiteralSets.{below-join, proper-consistent, proper-below, within-trans}
 use Rattle.sheet.proofs.laws.literals.Results.{replace-mono}
 use Rattle.sheet.proofs.laws.literals.Worlds.{after-lt, replace-state, before-world}
 use Rattle.sheet.proofs.laws.literals.ProperSets.{below-none, replace-proper, some-world, lacking-world}
-use Rattle.sheet.proofs.laws.literals.LiteralSets.{within-trans}
 use Rattle.table.specs.Worlds.{addResult, results, takes, worldAfter, when, stepWorld}
 use Rattle.table.specs.Minimal.{In, Described, putAll, Outcome, refused, table}
+use Rattle.table.specs.Calls.{actionAt}
 use Rattle.table.specs.Step.{pieces, image, orFull, stepClear, stepSure, stepTable}
-use Rattle.table.proofs.laws.slots.PutLaws.{put-all-all, put-all-antichain, put-all-size, put-all-in, put-all-out}
+use Rattle.table.proofs.laws.slots.PutInvariants.{put-all-all, put-all-antichain, put-all-size, put-all-in, put-all-out}
 use Rattle.table.proofs.laws.steps.PieceWorlds.{Decides, Part, pieces-parts, pieces-in, pieces-out, results-same}
+
+-- ---- the moves of a problem are proper
+pub at-proper : (p : Problem) → ProperProblem p → (i : ℕ) → i < length (p .actions) → ProperAction (p .n) (actionAt p i)
+unfolding actionAt
+at-proper p hp i l = all-at (ProperAction (p .n)) (p .actions) i _ l (hp .actions .each)
 
 -- ---- the step of a world
 pub step-goes : (n : ℕ) (a : Action) (w : ℕ) → T (takes n a w) → stepWorld n a w ≡ some (worldAfter n a w)

@@ -15,8 +15,8 @@ returns c =
 sorted-clauses-requires : tie.Need-sorted-clauses-requires
 sorted-clauses-requires c κs =
     let k = described-count _ _ _ _ (sym (c .before .described .ensures) ∙ not-false (c .before .described .result) (c .if1 .left)) in
-    let o = c .before .before .before .before .before in
-    (k .0, record { trues = omega (arith, k .1, o .pre .trues); falses = omega (arith, k .1, o .pre .falses) })
+    let start = c .before .before .before .before .before in
+    (k .0, record { trues = omega (arith, k .1, start .pre .trues); falses = omega (arith, k .1, start .pre .falses) })
 
 returns-2 : tie.Need-returns-2
 returns-2 c =

@@ -5,15 +5,6 @@ use Rattle.table.proofs.laws.pictures.MaskBytes.{four-stores}
 use Rattle.table.proofs.picture_bytes.write_mask.Statement.{statement}
 use Rattle.table.proofs.picture_bytes.write_mask.Tie as tie
 
-slice-write-buffer-2 : tie.Need-slice-write-buffer-2
-slice-write-buffer-2 c = simp length-set (omega arith)
-
-slice-write-buffer-3 : tie.Need-slice-write-buffer-3
-slice-write-buffer-3 c = simp length-set (omega arith)
-
-slice-write-buffer-4 : tie.Need-slice-write-buffer-4
-slice-write-buffer-4 c = simp length-set (omega arith)
-
 same-length : tie.Need-same-length
 same-length c = simp length-set
 
@@ -23,5 +14,6 @@ returns c = four-stores _ _ _ (c .pre)
 pub write-mask-spec : {M : Type 1} → statement M
 write-mask-spec =
     tie.close
-    (tie.spec (λ c. omega arith) (λ c. omega arith) (λ c. omega arith) (λ c. omega arith) slice-write-buffer-2 (λ c. omega arith)
-    (λ c. omega arith) slice-write-buffer-3 (λ c. omega arith) (λ c. omega arith) slice-write-buffer-4 same-length returns)
+    (tie.spec (λ c. omega arith) (λ c. omega arith) (λ c. omega arith) (λ c. omega arith) (λ c. simp length-set (omega arith))
+    (λ c. omega arith) (λ c. omega arith) (λ c. simp length-set (omega arith)) (λ c. omega arith) (λ c. omega arith)
+    (λ c. simp length-set (omega arith)) same-length returns)

@@ -16,13 +16,10 @@ Inv-loop trues falses count buffer₀ i₀ buffer i =
 abbrev μ-loop : tie.MeasureT-loop
 μ-loop trues falses count buffer₀ i₀ buffer i = count - i
 
-slice-write-buffer-2 : tie.Need-slice-write-buffer-2 Inv-loop μ-loop
-slice-write-buffer-2 c = simp length-set (omega arith)
-
 loop-holds : tie.Need-loop-holds Inv-loop μ-loop
 loop-holds c =
-    let s = c .before .before .before in
-    (simp length-set (s .pre .1 .long), omega arith, wrote-start _ _ (simp (length-set, length-entriesOf) (s .pre .1 .long)))
+    let start = c .before .before .before in
+    (simp length-set (start .pre .1 .long), omega arith, wrote-start _ _ (simp (length-set, length-entriesOf) (start .pre .1 .long)))
 
 write-mask-requires-2 : tie.Need-write-mask-requires-2 Inv-loop μ-loop
 write-mask-requires-2 c κs = omega (arith, c .before .before .before .before .write-mask .kept .0)
@@ -32,17 +29,15 @@ loop-again c =
     let after-write-mask2 = c .before .before in
     let after-write-mask = after-write-mask2 .before .before .before .before .before in
     let after-loop-test = after-write-mask .before .before .before in
-    let after-11 = after-loop-test .before in
-    let after-15 = after-11 .before .before .before .before in
-    let s = after-15 in
-    let a = after-11 in
+    let at-loop = after-loop-test .before in
+    let start = at-loop .before .before .before .before in
     let h = after-loop-test .loop-test .taken in
-    let lt : a .loop .i < length (entriesOf (s .args .count) (s .args .trues .now) (s .args .falses .now)) = omega
-    (arith, length-entriesOf (s .args .count) (s .args .trues .now) (s .args .falses .now)) in (
-      omega (arith, after-write-mask .write-mask .kept .0, after-write-mask2 .write-mask2 .kept .0, a .loop .inv .0),
+    let lt : at-loop .loop .i < length (entriesOf (start .args .count) (start .args .trues .now) (start .args .falses .now)) = omega
+    (arith, length-entriesOf (start .args .count) (start .args .trues .now) (start .args .falses .now)) in (
+      omega (arith, after-write-mask .write-mask .kept .0, after-write-mask2 .write-mask2 .kept .0, at-loop .loop .inv .0),
       omega arith,
-      wrote-step _ _ _ _ _ _ _ (a .loop .inv .2) lt
-          (sym (getD-entriesOf (s .args .count) (s .args .trues .now) (s .args .falses .now) (a .loop .i) h))
+      wrote-step _ _ _ _ _ _ _ (at-loop .loop .inv .2) lt
+          (sym (getD-entriesOf (start .args .count) (start .args .trues .now) (start .args .falses .now) (at-loop .loop .i) h))
           (after-write-mask .write-mask .ensures) (after-write-mask2 .write-mask2 .ensures),
     )
 
@@ -51,13 +46,13 @@ same-length c = c .before .loop .inv .2 .long ∙ simp length-set
 
 returns : tie.Need-returns Inv-loop μ-loop
 returns c =
-    let s = c .before .before .before .before .before in
-    wrote-end _ _ _ _ _ (sym (length-entriesOf (s .args .count) (s .args .trues .now) (s .args .falses .now))) (s .pre .1 .long)
-    (c .loop-test .left) (c .before .loop .inv .2)
+    let start = c .before .before .before .before .before in
+    wrote-end _ _ _ _ _ (sym (length-entriesOf (start .args .count) (start .args .trues .now) (start .args .falses .now)))
+    (start .pre .1 .long) (c .loop-test .left) (c .before .loop .inv .2)
 
 pub write-picture-spec : {M : Type 1} → statement M
 write-picture-spec =
     tie.close
-    (tie.spec Inv-loop μ-loop (λ c. omega arith) (λ c. omega arith) (λ c. omega arith) slice-write-buffer-2 loop-holds
+    (tie.spec Inv-loop μ-loop (λ c. omega arith) (λ c. omega arith) (λ c. omega arith) (λ c. simp length-set (omega arith)) loop-holds
     (λ c. omega arith) (λ c. omega arith) (λ c. omega arith) (λ c. omega arith) (λ c κs. omega arith) (λ c. omega arith)
     (λ c. omega arith) (λ c. omega arith) write-mask-requires-2 (λ c. omega arith) (λ c. omega arith) loop-again same-length returns)

@@ -13,9 +13,6 @@ use Rattle.table.proofs.picture_clauses.absorbs.Tie as tie
 returns : tie.Need-returns
 returns c = λ e. absurd (true≢false (sym e))
 
-some-within-requires : tie.Need-some-within-requires
-some-within-requires c κs = search needs
-
 returns-2 : tie.Need-returns-2
 returns-2 c = λ e.
     let s = c .before .before .before .before .args in (
@@ -25,4 +22,4 @@ returns-2 c = λ e.
     )
 
 pub absorbs-spec : {M : Type 1} → statement M
-absorbs-spec = tie.close (tie.spec returns some-within-requires returns-2)
+absorbs-spec = tie.close (tie.spec returns (λ c κs. search needs) returns-2)

@@ -6,7 +6,7 @@ use lib.ListN.{replicate}
 use Rattle.table.specs.Picture.{primes}
 use Rattle.table.specs.Entries.{entriesOf}
 use Rattle.table.proofs.laws.arrays.HeldLists.{fresh}
-use Rattle.table.proofs.laws.pictures.PictureFold.{Folds, folds-start, folds-on, folds-full, folds-end}
+use Rattle.table.proofs.laws.pictures.JoinedClauses.{Folds, folds-start, folds-on, folds-full, folds-end}
 use borrow.Author.Needs.{needs}
 use Rattle.table.proofs.picture_clauses.clauses_of.Statement.{statement}
 use Rattle.table.proofs.picture_clauses.clauses_of.Tie as tie

@@ -12,11 +12,10 @@ returns c =
     let after-admit = c .before .before .before .before in
     let after-if1 = after-admit .before .before .before in
     let after-absorbs = after-if1 .before in
-    let after-13 = after-absorbs .before .before .before .before .before in
-    let z = after-13 in
-    let s = z .args in
+    let start = after-absorbs .before .before .before .before .before in
+    let s = start .args in
     let a = after-absorbs .absorbs .ensures (after-if1 .if1 .taken) in
-    puts-alone (s .clause) (entriesOf (s .others) (s .other-trues .now) (s .other-falses .now)) (a .0) _ _ _ _ _ _ _ _ (z .pre .1)
+    puts-alone (s .clause) (entriesOf (s .others) (s .other-trues .now) (s .other-falses .now)) (a .0) _ _ _ _ _ _ _ _ (start .pre .1)
     (sym (length-entriesOf (s .others) (s .other-trues .now) (s .other-falses .now))) (a .1) (after-admit .admit .ensures)
 
 pub distribute-spec : {M : Type 1} → statement M

@@ -1,7 +1,7 @@
 -- `table::picture_clauses::fold` meets its contract. Assumes nothing.
 use native.Mathlib.Omega.{arith}
 use Rattle.table.proofs.laws.arrays.HeldLists.{holds-trues-long, holds-falses-long, fresh}
-use Rattle.table.proofs.laws.pictures.PictureFold.{folded}
+use Rattle.table.proofs.laws.pictures.JoinedClauses.{folded}
 use borrow.Author.Needs.{needs}
 use Rattle.table.proofs.picture_clauses.fold.Statement.{statement}
 use Rattle.table.proofs.picture_clauses.fold.Tie as tie
@@ -12,16 +12,15 @@ units-requires c κs = (fresh 64, omega arith)
 join-lists-requires : tie.Need-join-lists-requires
 join-lists-requires c κs =
     let after-units = c .before .before .before .before .before .before in
-    let after-13 = after-units .before .before .before .before .before .before .before in
+    let start = after-units .before .before .before .before .before .before .before in
     let h = after-units .units .ensures in
-    let o = after-13 in
     record {
-      room = o .pre .0;
+      room = start .pre .0;
       others-room = record {
-        trues = omega (arith, h .room, holds-trues-long _ _ _ _ _ h);
-        falses = omega (arith, h .room, holds-falses-long _ _ _ _ _ h);
+        trues = omega (arith, h .room, holds-trues-long h);
+        falses = omega (arith, h .room, holds-falses-long h);
       };
-      held = o .pre .1;
+      held = start .pre .1;
     }
 
 returns : tie.Need-returns

@@ -41,7 +41,7 @@ same-length c = c .before .loop .inv .trues-long
 
 same-length-2 : tie.Need-same-length-2 Inv-loop μ-loop
 same-length-2 c =
-    c .before .loop .inv .falses-long ∙ sym (holds-falses-long _ _ _ _ _ (c .before .before .before .before .before .pre .0))
+    c .before .loop .inv .falses-long ∙ sym (holds-falses-long (c .before .before .before .before .before .pre .0))
 
 returns : tie.Need-returns Inv-loop μ-loop
 returns c = listed-end _ _ _ _ _ _ (c .before .loop .inv) (c .loop-test .left)

@@ -2,35 +2,23 @@
 use mathlib.Core.Path.{sym, _∙_}
 use borrow.Author.Needs.{needs}
 use Rattle.table.proofs.laws.slots.PutLoops.{nothing-put, puts-is}
-use Rattle.table.proofs.laws.starts.Choosing.{kept-one, left-out}
+use Rattle.table.proofs.laws.slots.ConsistentCandidates.{kept-one, left-out}
 use Rattle.table.proofs.slots.admit.Statement.{statement}
 use Rattle.table.proofs.slots.admit.Tie as tie
-
-consistent-requires : tie.Need-consistent-requires
-consistent-requires c κs = search needs
-
-offer-requires : tie.Need-offer-requires
-offer-requires c κs = search needs
-
-same-length : tie.Need-same-length
-same-length c = search needs
-
-same-length-2 : tie.Need-same-length-2
-same-length-2 c = search needs
 
 returns : tie.Need-returns
 returns c =
     let after-offer = c .before .before .before .before in
     let after-if1 = after-offer .before .before .before in
     let after-consistent = after-if1 .before in
-    puts-is _ _ _ _ _ _ _ _ (sym (kept-one _ (sym (after-consistent .consistent .ensures) ∙ after-if1 .if1 .taken)))
+    puts-is (sym (kept-one _ (sym (after-consistent .consistent .ensures) ∙ after-if1 .if1 .taken)))
     (after-offer .offer .ensures)
 
 returns-2 : tie.Need-returns-2
-returns-2 c = nothing-put _ _ _ _ (left-out _ (sym (c .before .consistent .ensures) ∙ c .if1 .left))
+returns-2 c = nothing-put (left-out _ (sym (c .before .consistent .ensures) ∙ c .if1 .left))
     (c .before .before .before .before .pre)
 
 pub admit-spec : {M : Type 1} → statement M
 admit-spec =
     tie.close
-    (tie.spec consistent-requires offer-requires same-length same-length-2 returns returns-2)
+    (tie.spec (λ c κs. search needs) (λ c κs. search needs) (λ c. search needs) (λ c. search needs) returns returns-2)

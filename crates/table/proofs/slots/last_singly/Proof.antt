@@ -6,7 +6,7 @@ use borrow.Author.Needs.{needs}
 use Rattle.sheet.specs.Literals.{within}
 use Rattle.table.specs.Fates.{lastWithin}
 use Rattle.table.specs.Entries.{entriesOf}
-use Rattle.table.proofs.laws.slots.LastWithin.{tested, hit, missed, none-left}
+use Rattle.table.proofs.laws.slots.LastWithin.{shown, hit, missed, none-left}
 use Rattle.table.proofs.slots.last_singly.Statement.{statement}
 use Rattle.table.proofs.slots.last_singly.Tie as tie
 
@@ -28,7 +28,7 @@ returns c =
     let g = at-loop .loop in
     let s = start .args in
     sym (hit (λ e. within e (s .candidate)) (s .trues .now) (s .falses .now) (g .i) (g .i - 1) (omega arith)
-    (sym (tested (s .candidate) (c .before .within .ensures) (after-entry-at .entry-at .ensures)) ∙ c .if1 .taken)) ∙ g .inv .1
+    (shown _ (c .before .within .ensures) (after-entry-at .entry-at .ensures) (c .if1 .taken))) ∙ g .inv .1
 
 loop-again : tie.Need-loop-again Inv-loop μ-loop
 loop-again c =
@@ -39,7 +39,7 @@ loop-again c =
     let s = start .args in (
       omega arith,
       sym (missed (λ e. within e (s .candidate)) (s .trues .now) (s .falses .now) (g .i) (g .i - 1) (omega arith)
-          (sym (tested (s .candidate) (c .before .within .ensures) (after-entry-at .entry-at .ensures)) ∙ c .if1 .left)) ∙ g .inv .1,
+          (shown _ (c .before .within .ensures) (after-entry-at .entry-at .ensures) (c .if1 .left))) ∙ g .inv .1,
     )
 
 returns-2 : tie.Need-returns-2 Inv-loop μ-loop

@@ -1,6 +1,6 @@
 -- `slots::offer` meets its contract. Assumes nothing.
 use borrow.Author.Needs.{needs}
-use Rattle.table.proofs.laws.slots.PutSlots.{offered}
+use Rattle.table.proofs.laws.slots.PutFates.{offered}
 use Rattle.table.proofs.slots.offer.Statement.{statement}
 use Rattle.table.proofs.slots.offer.Tie as tie
 

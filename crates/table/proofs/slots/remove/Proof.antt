@@ -12,7 +12,8 @@ use Rattle.sheet.specs.declared.Literals.{Literals}
 use Rattle.sheet.specs.Literals.{within}
 use Rattle.table.specs.inner.Slots.{Holds}
 use Rattle.table.proofs.laws.arrays.HeldLists.{holds-falses-long, holds-room}
-use Rattle.table.proofs.laws.arrays.Compaction.{none-goes, Moved, moved-is, moved-start, moved-gone, moved-kept, moved-end}
+use Rattle.table.proofs.laws.arrays.KeptMembers.{none-goes}
+use Rattle.table.proofs.laws.arrays.Compaction.{Moved, moved-is, moved-start, moved-gone, moved-kept, moved-end}
 use Rattle.table.proofs.slots.remove.Statement.{statement}
 use Rattle.table.proofs.slots.remove.Tie as tie
 
@@ -24,33 +25,25 @@ abbrev μ-loop : tie.MeasureT-loop
 μ-loop trues₀ falses₀ count candidate first i₀ filled₀ trues falses i filled = count - i
 
 some-above-requires : tie.Need-some-above-requires Inv-loop μ-loop
-some-above-requires c κs = holds-room _ _ _ _ _ (c .before .before .before .before .pre)
+some-above-requires c κs = holds-room (c .before .before .before .before .pre)
 
 returns : tie.Need-returns Inv-loop μ-loop
 returns c =
-    let after-6 = c .before .before .before .before .before .before in
-    let o = after-6 in
-    let a = o .args in
+    let start = c .before .before .before .before .before .before in
+    let a = start .args in
     subst (λ (x : List Literals). Holds (length (a .trues .now)) x (a .count) (a .trues .now) (a .falses .now))
-    (sym (none-goes (λ e. within (a .candidate) e) _ (sym (c .before .some-above .ensures) ∙ not-true _ (c .if1 .taken)))) (o .pre)
+    (sym (none-goes (λ e. within (a .candidate) e) _ (sym (c .before .some-above .ensures) ∙ not-true _ (c .if1 .taken)))) (start .pre)
 
 first-above-requires : tie.Need-first-above-requires Inv-loop μ-loop
 first-above-requires c κs =
     let start = c .before .before .before .before .before .before .before .before in
-    holds-room _ _ _ _ _ (start .pre)
+    holds-room (start .pre)
 
 loop-holds : tie.Need-loop-holds Inv-loop μ-loop
 loop-holds c =
-    let after-9 = c .before .before .before .before .before .before .before .before .before in
-    let o = after-9 in
+    let start = c .before .before .before .before .before .before .before .before .before in
     let e = c .first-above .ensures in
-    moved-start _ _ _ _ (o .pre) _ (e .0) (none-goes (λ e. within (o .args .candidate) e) _ (e .1))
-
-slice-write-trues-2 : tie.Need-slice-write-trues-2 Inv-loop μ-loop
-slice-write-trues-2 c = simp length-set (omega arith)
-
-slice-write-falses-2 : tie.Need-slice-write-falses-2 Inv-loop μ-loop
-slice-write-falses-2 c = simp length-set (omega arith)
+    moved-start _ _ _ _ (start .pre) _ (e .0) (none-goes (λ e. within (start .args .candidate) e) _ (e .1))
 
 loop-again : tie.Need-loop-again Inv-loop μ-loop
 loop-again c =
@@ -70,7 +63,7 @@ same-length-3 c = c .before .loop .inv .trues-long
 same-length-4 : tie.Need-same-length-4 Inv-loop μ-loop
 same-length-4 c =
     let start = c .before .before .before .before .before .before .before .before .before .before .before in
-    c .before .loop .inv .falses-long ∙ sym (holds-falses-long _ _ _ _ _ (start .pre))
+    c .before .loop .inv .falses-long ∙ sym (holds-falses-long (start .pre))
 
 returns-2 : tie.Need-returns-2 Inv-loop μ-loop
 returns-2 c =
@@ -82,5 +75,6 @@ remove-spec =
     tie.close
     (tie.spec Inv-loop μ-loop some-above-requires (λ c. search needs) (λ c. search needs) returns first-above-requires loop-holds
     (λ c. omega arith) (λ c. omega arith) (λ c. omega arith) (λ c. omega arith) (λ c. omega arith) (λ c. omega arith) (λ c. omega arith)
-    (λ c. omega arith) (λ c κs. search needs) (λ c. omega arith) slice-write-trues-2 (λ c. omega arith) slice-write-falses-2
-    (λ c. omega arith) (λ c. omega arith) (λ c. omega arith) loop-again same-length-3 same-length-4 returns-2)
+    (λ c. omega arith) (λ c κs. search needs) (λ c. omega arith) (λ c. simp length-set (omega arith)) (λ c. omega arith)
+    (λ c. simp length-set (omega arith)) (λ c. omega arith) (λ c. omega arith) (λ c. omega arith) loop-again same-length-3 same-length-4
+    returns-2)

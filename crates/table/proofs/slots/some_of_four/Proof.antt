@@ -8,18 +8,15 @@ use Rattle.table.proofs.slots.some_of_four.Tie as tie
 
 returns : tie.Need-returns
 returns c =
-    let after-2 = c .before .before in
-    let start = after-2 .before .before .before .before .before .before .before .before in
-    let s = start .args in
-    let b = after-2 in
-    let d = b .before .before in
-    let e = d .before .before in
+    let after-within3 = c .before .before in
+    let after-within2 = after-within3 .before .before in
+    let after-within = after-within2 .before .before in
     ap₂ (λ (x y : Bool). x || y)
     (ap₂ (λ (x y : Bool). x || y)
-    (ap₂ (λ (x y : Bool). x || y) (tested (s .candidate) (e .within .ensures) (e .before .entry-at .ensures))
-    (tested (s .candidate) (d .within2 .ensures) (d .before .entry-at2 .ensures)))
-    (tested (s .candidate) (b .within3 .ensures) (b .before .entry-at3 .ensures)))
-    (tested (s .candidate) (c .within4 .ensures) (c .before .entry-at4 .ensures))
+    (ap₂ (λ (x y : Bool). x || y) (tested _ (after-within .within .ensures) (after-within .before .entry-at .ensures))
+    (tested _ (after-within2 .within2 .ensures) (after-within2 .before .entry-at2 .ensures)))
+    (tested _ (after-within3 .within3 .ensures) (after-within3 .before .entry-at3 .ensures)))
+    (tested _ (c .within4 .ensures) (c .before .entry-at4 .ensures))
 
 pub some-of-four-spec : {M : Type 1} → statement M
 some-of-four-spec =

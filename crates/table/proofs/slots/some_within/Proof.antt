@@ -1,57 +1,33 @@
 -- `slots::some_within` meets its contract. The invariant: what was found, or the entries from i on decide. Assumes nothing.
-use mathlib.Core.Path.{_≡_, refl, sym, ap, _∙_}
-use mathlib.Core.Bool.{Bool, _||_}
 use mathlib.Core.Logic.{⊎-elim}
-use Prim.Native.Nat.{_+_, _-_, _≤_}
+use Prim.Native.Nat.{_-_}
 use native.Mathlib.Omega.{arith}
-use lib.ListN.{drop}
 use borrow.Author.Needs.{needs}
 use Rattle.sheet.specs.Literals.{within}
-use Rattle.sheet.specs.Lists.{anyOf}
-use Rattle.table.specs.Entries.{entriesOf}
-use Rattle.table.proofs.laws.arrays.EntryLoops.{any-mark, any-keep, any-end, entries-next, entries-done}
+use Rattle.table.proofs.laws.arrays.EntryLoops.{AnyFrom, any-start, any-hit, any-missed, any-told}
 use Rattle.table.proofs.slots.some_within.Statement.{statement}
 use Rattle.table.proofs.slots.some_within.Tie as tie
 
 abbrev Inv-loop : tie.InvT-loop
-Inv-loop trues falses count set some₀ i₀ some i =
-    (i ≤ count) × (anyOf (λ e. within e set) (entriesOf count trues falses)
-    ≡ (some || anyOf (λ e. within e set) (drop i (entriesOf count trues falses))))
+Inv-loop trues falses count set some₀ i₀ some i = AnyFrom (λ e. within e set) count trues falses some i
 
 abbrev μ-loop : tie.MeasureT-loop
 μ-loop trues falses count set some₀ i₀ some i = count - i
 
-loop-holds : tie.Need-loop-holds Inv-loop μ-loop
-loop-holds c = (omega arith, refl)
-
 loop-again : tie.Need-loop-again Inv-loop μ-loop
 loop-again c =
     let after-entry-at = c .before .before in
-    let at-loop = after-entry-at .before .before in
-    let start = at-loop .before .before .before in
-    let a = start .args in
-    let g = at-loop .loop in
-    let q = entries-next (a .count) (a .trues .now) (a .falses .now) (g .i) _ (omega arith) (after-entry-at .entry-at .ensures) in
-    let w = c .before .within .ensures in (
-      omega arith,
-      ⊎-elim
-          (λ v. g .inv .1 ∙ any-mark (λ e. within e (a .set)) _ _ _ _ q w (g .some) (v .0 .taken)
-          ∙ sym (ap (λ (t : Bool). t || anyOf (λ e. within e (a .set))
-          (drop (g .i + 1) (entriesOf (a .count) (a .trues .now) (a .falses .now)))) (v .1)))
-          (λ v. g .inv .1 ∙ any-keep (λ e. within e (a .set)) _ _ _ _ q w (g .some) (v .0 .left)
-          ∙ sym (ap (λ (t : Bool). t || anyOf (λ e. within e (a .set))
-          (drop (g .i + 1) (entriesOf (a .count) (a .trues .now) (a .falses .now)))) (v .1)))
-          (c .if1 .came),
-    )
+    let g = after-entry-at .before .before .loop .inv in
+    ⊎-elim
+    (λ v. any-hit g (omega arith) (after-entry-at .entry-at .ensures) (c .before .within .ensures) (v .0 .taken) (v .1))
+    (λ v. any-missed g (omega arith) (after-entry-at .entry-at .ensures) (c .before .within .ensures) (v .0 .left) (v .1))
+    (c .if1 .came)
 
 returns : tie.Need-returns Inv-loop μ-loop
-returns c =
-    let a = c .before .before .before .before .args in
-    sym (c .before .loop .inv .1 ∙ any-end (λ e. within e (a .set)) _ _
-    (entries-done (a .count) (a .trues .now) (a .falses .now) (c .before .loop .i) (omega arith)))
+returns c = any-told (c .before .loop .inv) (omega arith)
 
 pub some-within-spec : {M : Type 1} → statement M
 some-within-spec =
     tie.close
-    (tie.spec Inv-loop μ-loop loop-holds (λ c κs. search needs) (λ c κs. search needs) (λ c. omega arith) (λ c. omega arith) loop-again
-    returns)
+    (tie.spec Inv-loop μ-loop (λ c. any-start) (λ c κs. search needs) (λ c κs. search needs) (λ c. omega arith) (λ c. omega arith)
+    loop-again returns)

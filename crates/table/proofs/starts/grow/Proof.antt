@@ -8,9 +8,8 @@ use Rattle.table.proofs.starts.grow.Tie as tie
 
 widen-all-requires : tie.Need-widen-all-requires
 widen-all-requires c κs =
-    let after-7 = c .before .before .before .before .before .before .before in
-    let s = after-7 in
-    record { sets = s .pre .0; room = holds-room _ _ _ _ _ (s .pre .1); held = fresh 128 }
+    let start = c .before .before .before .before .before .before .before in
+    record { sets = start .pre .0; room = holds-room (start .pre .1); held = fresh 128 }
 
 returns : tie.Need-returns
 returns c =

@@ -1,5 +1,5 @@
 -- `table::starts::grow_all` meets its contract. The invariant: the clauses from i on give the whole. Assumes nothing.
-use mathlib.Core.Path.{refl, ap}
+use mathlib.Core.Path.{refl}
 use mathlib.Core.List.{map}
 use Prim.Native.Nat.{_≤_, _-_}
 use native.Mathlib.Omega.{arith}
@@ -9,9 +9,7 @@ use Rattle.sheet.specs.inner.Packed.{clausesAt}
 use Rattle.table.specs.Start.{growAll}
 use Rattle.table.specs.Entries.{entriesOf}
 use Rattle.table.specs.inner.Starts.{clauseOf}
-use Rattle.table.proofs.laws.starts.PackedClauses.{clause-is, clause-fits}
-use Rattle.sheet.specs.inner.Packed.{setsIn}
-use Rattle.sheet.proofs.laws.reader.PackedParts.{items-step, items-end}
+use Rattle.table.proofs.laws.starts.PackedClauses.{clause-fits, clauses-step, clauses-end}
 use Rattle.table.proofs.laws.starts.StartArrays.{Sections, sections-on, sections-refused, sections-end}
 use Rattle.table.proofs.starts.grow_all.Statement.{statement}
 use Rattle.table.proofs.starts.grow_all.Tie as tie
@@ -30,44 +28,32 @@ loop-holds c = (omega arith, record { held = c .before .pre .1; onwards = refl }
 
 grow-requires : tie.Need-grow-requires Inv-loop μ-loop
 grow-requires c κs =
-    let after-loop-test = c .before .before .before in
-    let at-loop = after-loop-test .before in
-    let after-6 = at-loop .before .before in
-    let s = after-6 in (
-      clause-fits (s .args .size) (s .args .clauses .now) (at-loop .loop .i) (s .pre .0) (after-loop-test .loop-test .taken),
-      at-loop .loop .inv .1 .held,
-    )
+    let at-loop = c .before .before .before .before in
+    let start = at-loop .before .before in
+    (clause-fits _ _ (at-loop .loop .i) (start .pre .0) (c .before .before .before .loop-test .taken), at-loop .loop .inv .1 .held)
 
 returns : tie.Need-returns Inv-loop μ-loop
 returns c =
     let after-grow = c .before .before .before in
     let after-loop-test = after-grow .before .before .before .before in
     let at-loop = after-loop-test .before in
-    let after-10 = at-loop .before .before in
-    let s = after-10 in
-    let q = ap (map (clauseOf (s .args .exclusive)))
-    (items-step 17 setsIn (s .args .size) (s .args .clauses .now) (at-loop .loop .i) _ (after-loop-test .loop-test .taken)
-    (clause-is (s .args .clauses .now) (at-loop .loop .i))) in
-    sections-refused _ _ _ _ _ _ _ (at-loop .loop .inv .1) q _ _ _ (after-grow .grow .ensures) _ _ (c .before .number .given .1)
+    sections-refused (at-loop .loop .inv .1)
+    (clauses-step (at-loop .before .before .args .exclusive) _ _ _ (after-loop-test .loop-test .taken)) _ _ _
+    (after-grow .grow .ensures) _ _ (c .before .number .given .1)
 
 loop-again : tie.Need-loop-again Inv-loop μ-loop
 loop-again c =
     let after-grow = c .before .before .before in
     let after-loop-test = after-grow .before .before .before .before in
-    let at-loop = after-loop-test .before in
-    let after-10 = at-loop .before .before in
-    let s = after-10 in
-    let q = ap (map (clauseOf (s .args .exclusive)))
-    (items-step 17 setsIn (s .args .size) (s .args .clauses .now) (at-loop .loop .i) _ (after-loop-test .loop-test .taken)
-    (clause-is (s .args .clauses .now) (at-loop .loop .i))) in
-    (omega arith, sections-on _ _ _ _ _ _ _ (at-loop .loop .inv .1) q _ _ _ (after-grow .grow .ensures) _ (c .before .grown .given .1))
+    let at-loop = after-loop-test .before in (
+      omega arith,
+      sections-on (at-loop .loop .inv .1)
+          (clauses-step (at-loop .before .before .args .exclusive) _ _ _ (after-loop-test .loop-test .taken)) _ _ _
+          (after-grow .grow .ensures) _ (c .before .grown .given .1),
+    )
 
 returns-2 : tie.Need-returns-2 Inv-loop μ-loop
-returns-2 c =
-    let s = c .before .before .before in
-    sections-end _ _ _ _ _ (c .before .loop .inv .1)
-    (ap (map (clauseOf (s .args .exclusive)))
-    (items-end 17 setsIn (s .args .size) (s .args .clauses .now) (c .before .loop .i) (c .loop-test .left)))
+returns-2 c = sections-end (c .before .loop .inv .1) (clauses-end (c .before .before .before .args .exclusive) _ _ _ (c .loop-test .left))
 
 pub grow-all-spec : {M : Type 1} → statement M
 grow-all-spec =

@@ -7,7 +7,7 @@ use borrow.Author.Needs.{needs}
 use lib.ListN.{length, length-set}
 use Rattle.sheet.specs.inner.Packed.{setsIn}
 use Rattle.table.proofs.laws.starts.PackedClauses.{alts-step, alts-end}
-use Rattle.table.proofs.laws.starts.Choosing.{Laying, laying-start, laying-one, laying-none, laying-end}
+use Rattle.table.proofs.laws.starts.OtherAlternatives.{Laying, laying-start, laying-one, laying-none, laying-end}
 use Rattle.table.proofs.starts.lay_others.Statement.{statement}
 use Rattle.table.proofs.starts.lay_others.Tie as tie
 
@@ -19,9 +19,6 @@ abbrev μ-loop : tie.MeasureT-loop
 
 loop-holds : tie.Need-loop-holds Inv-loop μ-loop
 loop-holds c = (omega arith, c .before .before .before .pre .1, laying-start _ _ _)
-
-slice-write-laid-2 : tie.Need-slice-write-laid-2 Inv-loop μ-loop
-slice-write-laid-2 c = simp length-set (omega arith)
 
 loop-again : tie.Need-loop-again Inv-loop μ-loop
 loop-again c =
@@ -36,12 +33,12 @@ loop-again c =
       omega arith,
       simp length-set (w .1),
       laying-one _ _ _ _ _ _ (w .2)
-          (alts-step alts j _ e _ (c .before .loop-test .taken) (v .1 .ensures)) (v .0 .taken) (omega (arith, w .2 .few)),
+          (alts-step _ e (c .before .loop-test .taken) (v .1 .ensures)) (v .0 .taken) (omega (arith, w .2 .few)),
     ))
     (λ v. rw (v .1, v .2) (
       omega arith,
       w .1,
-      laying-none _ _ _ _ _ _ (w .2) (alts-step alts j _ e _ (c .before .loop-test .taken) refl)
+      laying-none _ _ _ _ _ _ (w .2) (alts-step _ e (c .before .loop-test .taken) refl)
           (v .0 .left),
     )) (c .if1 .came)
 
@@ -51,11 +48,11 @@ same-length c = c .before .loop .inv .1 ∙ sym (c .before .before .before .befo
 returns : tie.Need-returns Inv-loop μ-loop
 returns c =
     let w = c .before .loop .inv in
-    (omega (arith, w .2 .few), laying-end _ _ _ _ _ (w .2) (alts-end _ _ _ (c .before .before .count-of .ensures) (c .loop-test .left)))
+    (omega (arith, w .2 .few), laying-end _ _ _ _ _ (w .2) (alts-end _ (c .before .before .count-of .ensures) (c .loop-test .left)))
 
 pub lay-others-spec : {M : Type 1} → statement M
 lay-others-spec =
     tie.close
     (tie.spec Inv-loop μ-loop (λ c κs. search needs) loop-holds (λ c κs. omega arith) (λ c. omega arith) (λ c. omega arith)
-    (λ c. omega arith) (λ c. omega arith) (λ c. omega arith) (λ c. omega arith) slice-write-laid-2 (λ c. omega arith) (λ c. omega arith)
-    (λ c. omega arith) loop-again same-length returns)
+    (λ c. omega arith) (λ c. omega arith) (λ c. omega arith) (λ c. omega arith) (λ c. simp length-set (omega arith)) (λ c. omega arith)
+    (λ c. omega arith) (λ c. omega arith) loop-again same-length returns)

@@ -1,5 +1,10 @@
 -- `table::starts::widen` meets its contract. Assumes nothing.
-use mathlib.Core.Path.{sym, ap}
+use mathlib.Core.Path.{_≡_, sym, ap}
+use mathlib.Core.List.{List}
+use Prim.Native.Nat.{ℕ}
+use Rattle.sheet.specs.declared.Literals.{Literals}
+use Rattle.table.specs.declared.slots.Grown.{Grown}
+use Rattle.table.specs.inner.Slots.{Puts}
 use mathlib.Core.Bool.{Bool}
 use Rattle.sheet.specs.Literals as L
 use Rattle.sheet.specs.Lists.{keep}
@@ -11,25 +16,17 @@ use borrow.Author.Needs.{needs}
 use Rattle.table.proofs.starts.widen.Statement.{statement}
 use Rattle.table.proofs.starts.widen.Tie as tie
 
+-- the candidates of a clause of the kind v, where v is what was asked
+of-kind : (alts : List ℕ) (entry : Literals) {b v : Bool} {k : ℕ} {ts fs : List ℕ} {r : Grown} {us gs : List ℕ} → b ≡ v
+    → Puts (keep L.consistent (candidates (clauseOf v (setsIn alts)) entry)) k ts fs r us gs
+    → Puts (keep L.consistent (candidates (clauseOf b (setsIn alts)) entry)) k ts fs r us gs
+of-kind alts entry e w = puts-is (sym (ap (λ (x : Bool). keep L.consistent (candidates (clauseOf x (setsIn alts)) entry)) e)) w
+
 returns : tie.Need-returns
-returns c =
-    let after-if1 = c .before .before .before in
-    let after-5 = after-if1 .before .before in
-    let s = after-5 in
-    puts-is _ _ _ _ _ _ _ _
-    (sym (ap (λ (b : Bool). keep L.consistent (candidates (clauseOf b (setsIn (s .args .alts .now))) (s .args .entry)))
-    (after-if1 .if1 .taken)))
-    (c .widen-oneof .ensures)
+returns c = of-kind _ _ (c .before .before .before .if1 .taken) (c .widen-oneof .ensures)
 
 returns-2 : tie.Need-returns-2
-returns-2 c =
-    let after-if1 = c .before .before .before in
-    let after-5 = after-if1 .before .before in
-    let s = after-5 in
-    puts-is _ _ _ _ _ _ _ _
-    (sym (ap (λ (b : Bool). keep L.consistent (candidates (clauseOf b (setsIn (s .args .alts .now))) (s .args .entry)))
-    (after-if1 .if1 .left)))
-    (c .widen-or .ensures)
+returns-2 c = of-kind _ _ (c .before .before .before .if1 .left) (c .widen-or .ensures)
 
 pub widen-spec : {M : Type 1} → statement M
 widen-spec =

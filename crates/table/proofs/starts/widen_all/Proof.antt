@@ -1,8 +1,8 @@
 -- `table::starts::widen_all` meets its contract. The invariant: the entries from i on give the whole. Assumes nothing.
 use mathlib.Core.Path.{refl}
-use Prim.Native.Nat.{_+_, _≤_, _-_}
+use Prim.Native.Nat.{_≤_, _-_}
 use native.Mathlib.Omega.{arith}
-use lib.ListN.{drop, getD}
+use lib.ListN.{drop}
 use borrow.Author.Needs.{needs}
 use Rattle.sheet.specs.Lists.{collect, keep}
 use Rattle.sheet.specs.Literals as L
@@ -10,10 +10,8 @@ use Rattle.sheet.specs.inner.Packed.{setsIn}
 use Rattle.table.specs.Entries.{entriesOf}
 use Rattle.table.specs.Start.{candidates}
 use Rattle.table.specs.inner.Starts.{clauseOf}
-use Rattle.table.specs.inner.Slots.{slot}
 use Rattle.table.proofs.laws.arrays.HeldLists.{held-own}
-use Rattle.table.proofs.laws.starts.Choosing.{collect-step, collect-end}
-use Rattle.table.proofs.laws.arrays.EntryLoops.{entries-next, entries-done}
+use Rattle.table.proofs.laws.slots.ConsistentCandidates.{collect-entry, collect-none}
 use Rattle.table.proofs.laws.slots.PutLoops.{Going, going-start, going-on, going-full, going-end}
 use Rattle.table.proofs.starts.widen_all.Statement.{statement}
 use Rattle.table.proofs.starts.widen_all.Tie as tie
@@ -30,51 +28,30 @@ abbrev μ-loop : tie.MeasureT-loop
 μ-loop exclusive alts trues falses count to-trues₀ to-falses₀ filled₀ i₀ to-trues to-falses filled i = count - i
 
 loop-holds : tie.Need-loop-holds Inv-loop μ-loop
-loop-holds c = (omega arith, going-start _ _ _ _ _ refl (c .before .before .before .pre .held))
+loop-holds c = (omega arith, going-start refl (c .before .before .before .pre .held))
 
 widen-requires : tie.Need-widen-requires Inv-loop μ-loop
 widen-requires c κs =
     let at-loop = c .before .before .before .before .before in
     let start = at-loop .before .before .before .before in
-    record { sets = start .pre .sets; held = held-own _ _ _ _ (at-loop .loop .inv .1 .held) }
+    record { sets = start .pre .sets; held = held-own (at-loop .loop .inv .1 .held) }
 
 returns : tie.Need-returns Inv-loop μ-loop
-unfolding slot
 returns c =
-    let after-widen = c .before .before in
-    let after-loop-test = after-widen .before .before .before .before .before in
-    let at-loop = after-loop-test .before in
-    let after-12 = at-loop .before .before .before .before in
-    let s = after-12 in
-    let i = at-loop .loop .i in
-    let q = collect-step (candidates (clauseOf (s .args .exclusive) (setsIn (s .args .alts .now)))) _ _ _
-    (entries-next (s .args .count) (s .args .trues .now) (s .args .falses .now) i
-    (record { trues = getD (s .args .trues .now) i 0; falses = getD (s .args .falses .now) i 0 })
-    (after-loop-test .loop-test .taken) refl) in
-    going-full _ _ _ _ _ _ _ _ _ _ _ _ _ (at-loop .loop .inv .1) q (after-widen .widen .ensures) (c .enum-told .given .1)
+    let after-loop-test = c .before .before .before .before .before .before .before in
+    going-full _ (after-loop-test .before .loop .inv .1) (collect-entry _ _ _ _ _ (after-loop-test .loop-test .taken))
+    (c .before .before .widen .ensures) (c .enum-told .given .1)
 
 loop-again : tie.Need-loop-again Inv-loop μ-loop
-unfolding slot
 loop-again c =
-    let after-widen = c .before .before .before in
-    let after-loop-test = after-widen .before .before .before .before .before in
-    let at-loop = after-loop-test .before in
-    let after-13 = at-loop .before .before .before .before in
-    let s = after-13 in
-    let i = at-loop .loop .i in
-    let q = collect-step (candidates (clauseOf (s .args .exclusive) (setsIn (s .args .alts .now)))) _ _ _
-    (entries-next (s .args .count) (s .args .trues .now) (s .args .falses .now) i
-    (record { trues = getD (s .args .trues .now) i 0; falses = getD (s .args .falses .now) i 0 })
-    (after-loop-test .loop-test .taken) refl) in
-    let le : i + 1 ≤ s .args .count = omega arith in
-    (le, going-on _ _ _ _ _ _ _ _ _ _ _ _ _ (at-loop .loop .inv .1) q (after-widen .widen .ensures) _ (c .before .grown .given .1))
+    let after-loop-test = c .before .before .before .before .before .before .before .before in (
+      omega arith,
+      going-on _ (after-loop-test .before .loop .inv .1) (collect-entry _ _ _ _ _ (after-loop-test .loop-test .taken))
+          (c .before .before .before .widen .ensures) (c .before .grown .given .1),
+    )
 
 returns-2 : tie.Need-returns-2 Inv-loop μ-loop
-returns-2 c =
-    let s = c .before .before .before .before .before in
-    going-end _ _ _ _ _ _ _ _ (c .before .loop .inv .1)
-    (collect-end _ _ (entries-done (s .args .count) (s .args .trues .now) (s .args .falses .now) (c .before .loop .i)
-    (c .loop-test .left)))
+returns-2 c = going-end (c .before .loop .inv .1) (collect-none _ _ _ _ _ (c .loop-test .left))
 
 pub widen-all-spec : {M : Type 1} → statement M
 widen-all-spec =

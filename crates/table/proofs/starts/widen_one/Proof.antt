@@ -12,7 +12,7 @@ use Rattle.table.specs.Start.{falsify}
 use Rattle.table.specs.inner.Starts.{others}
 use Rattle.table.proofs.laws.starts.PackedClauses.{alt-at}
 use Rattle.table.proofs.laws.slots.PutLoops.{nothing-put, puts-is}
-use Rattle.table.proofs.laws.starts.Choosing.{cut}
+use Rattle.table.proofs.laws.starts.FalsifiedAlternatives.{cut}
 use borrow.Author.Needs.{needs}
 use Rattle.table.proofs.starts.widen_one.Statement.{statement}
 use Rattle.table.proofs.starts.widen_one.Tie as tie
@@ -26,11 +26,10 @@ returns : tie.Need-returns
 returns c =
     let after-join = c .before .before in
     let after-set-at = after-join .before in
-    let after-5 = after-set-at .before .before in
-    let s = after-5 in
-    let e = picked _ _ _ _ _ (s .pre .1) (after-set-at .set-at .ensures) (after-join .join .ensures) in
-    nothing-put _ _ _ _ (cut (others (s .args .i) 0 (setsIn (s .args .alts .now))) _
-    (ap L.consistent (sym e) ∙ sym (c .before .consistent .ensures) ∙ not-true _ (c .if1 .taken))) (s .pre .0 .held)
+    let start = after-set-at .before .before in
+    let e = picked _ _ _ _ _ (start .pre .1) (after-set-at .set-at .ensures) (after-join .join .ensures) in
+    nothing-put (cut (others (start .args .i) 0 (setsIn (start .args .alts .now))) _
+    (ap L.consistent (sym e) ∙ sym (c .before .consistent .ensures) ∙ not-true _ (c .if1 .taken))) (start .pre .0 .held)
 
 choose-requires : tie.Need-choose-requires
 choose-requires c κs =
@@ -51,7 +50,7 @@ returns-2 c =
     let after-set-at = after-join .before in
     let start = after-set-at .before .before in
     let e = picked _ _ _ _ _ (start .pre .1) (after-set-at .set-at .ensures) (after-join .join .ensures) in
-    puts-is _ _ _ _ _ _ _ _ (ap₂ (λ (x : List Literals) (d : Literals). keep L.consistent (falsify x d))
+    puts-is (ap₂ (λ (x : List Literals) (d : Literals). keep L.consistent (falsify x d))
     (after-lay-others .lay-others .ensures .1) e) (c .choose .ensures)
 
 pub widen-one-spec : {M : Type 1} → statement M

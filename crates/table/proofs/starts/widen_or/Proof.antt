@@ -9,7 +9,7 @@ use Rattle.sheet.specs.Literals as L
 use Rattle.sheet.specs.Lists.{keep}
 use Rattle.sheet.specs.inner.Packed.{setsIn}
 use Rattle.table.proofs.laws.starts.PackedClauses.{alts-step, alts-end}
-use Rattle.table.proofs.laws.starts.Choosing.{or-step, or-end}
+use Rattle.table.proofs.laws.slots.ConsistentCandidates.{joined-step, joined-end}
 use Rattle.table.proofs.laws.arrays.HeldLists.{held-own}
 use Rattle.table.proofs.laws.slots.PutLoops.{Going, going-start, going-on, going-full, going-end}
 use Rattle.table.proofs.starts.widen_or.Statement.{statement}
@@ -25,40 +25,34 @@ abbrev μ-loop : tie.MeasureT-loop
 μ-loop alts entry to-trues₀ to-falses₀ count size filled₀ i₀ to-trues to-falses filled i = size - i
 
 loop-holds : tie.Need-loop-holds Inv-loop μ-loop
-loop-holds c = (omega arith, going-start _ _ _ _ _ refl (c .before .before .pre .held))
+loop-holds c = (omega arith, going-start refl (c .before .before .pre .held))
 
 admit-requires : tie.Need-admit-requires Inv-loop μ-loop
-admit-requires c κs = held-own _ _ _ _ (c .before .before .before .before .before .loop .inv .1 .held)
+admit-requires c κs = held-own (c .before .before .before .before .before .loop .inv .1 .held)
 
 returns : tie.Need-returns Inv-loop μ-loop
 returns c =
-    let after-admit = c .before .before in
-    let after-join = after-admit .before in
+    let after-join = c .before .before .before in
     let after-set-at = after-join .before .before .before in
-    let after-loop-test = after-set-at .before in
-    let at-loop = after-loop-test .before in
-    let after-count-of = at-loop .before in
-    going-full _ _ _ _ _ _ _ _ _ _ _ _ _ (at-loop .loop .inv .1)
-    (or-step _ _ _ _ _ (alts-step _ _ _ (after-count-of .count-of .ensures) _ (after-loop-test .loop-test .taken)
-    (after-set-at .set-at .ensures)) (after-join .join .ensures)) (after-admit .admit .ensures) (c .enum-told .given .1)
+    let at-loop = after-set-at .before .before in
+    going-full _ (at-loop .loop .inv .1)
+    (joined-step _ _ _ _ _ (alts-step _ (at-loop .before .count-of .ensures) (after-set-at .before .loop-test .taken)
+    (after-set-at .set-at .ensures)) (after-join .join .ensures)) (c .before .before .admit .ensures) (c .enum-told .given .1)
 
 loop-again : tie.Need-loop-again Inv-loop μ-loop
 loop-again c =
-    let after-admit = c .before .before .before in
-    let after-join = after-admit .before in
+    let after-join = c .before .before .before .before in
     let after-set-at = after-join .before .before .before in
-    let after-loop-test = after-set-at .before in
-    let at-loop = after-loop-test .before in
-    let after-count-of = at-loop .before in (
+    let at-loop = after-set-at .before .before in (
       omega arith,
-      going-on _ _ _ _ _ _ _ _ _ _ _ _ _ (at-loop .loop .inv .1)
-          (or-step _ _ _ _ _ (alts-step _ _ _ (after-count-of .count-of .ensures) _ (after-loop-test .loop-test .taken)
-          (after-set-at .set-at .ensures)) (after-join .join .ensures)) (after-admit .admit .ensures) _ (c .before .grown .given .1),
+      going-on _ (at-loop .loop .inv .1)
+          (joined-step _ _ _ _ _ (alts-step _ (at-loop .before .count-of .ensures) (after-set-at .before .loop-test .taken)
+          (after-set-at .set-at .ensures)) (after-join .join .ensures)) (c .before .before .before .admit .ensures)
+          (c .before .grown .given .1),
     )
 
 returns-2 : tie.Need-returns-2 Inv-loop μ-loop
-returns-2 c = going-end _ _ _ _ _ _ _ _ (c .before .loop .inv .1)
-    (or-end _ _ (alts-end _ _ _ (c .before .before .count-of .ensures) (c .loop-test .left)))
+returns-2 c = going-end (c .before .loop .inv .1) (joined-end _ _ (alts-end _ (c .before .before .count-of .ensures) (c .loop-test .left)))
 
 pub widen-or-spec : {M : Type 1} → statement M
 widen-or-spec =

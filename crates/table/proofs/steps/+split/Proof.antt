@@ -1,7 +1,8 @@
 -- The cycle {split}: the measure is the number of conditions left. The invariant: the parts from turn t on give what is left. Assumes
 -- nothing.
-use mathlib.Core.Path.{_≡_, refl, sym, subst}
-use mathlib.Core.List.{_∷_, map, _++_}
+use mathlib.Core.Path.{_≡_, refl, sym, ap, _∙_, subst}
+use Rattle.table.specs.declared.slots.Grown.the-variants as grown
+use mathlib.Core.List.{[], _∷_, map, _++_}
 use mathlib.Core.Logic.{⊎-elim}
 use native.Mathlib.Omega.{arith}
 use lib.ListN.{drop}
@@ -14,8 +15,8 @@ use Rattle.table.specs.inner.Carry.{Splits}
 use Rattle.table.proofs.laws.steps.CarriedResults.{settles-puts, settles-leaf, past-part}
 use Rattle.sheet.proofs.laws.reader.PackedParts.{effects-step, effects-end}
 use Rattle.table.proofs.laws.arrays.HeldLists.{held-own}
-use Rattle.table.proofs.laws.slots.PutLoops.{Going, going-start, going-on, going-full, going-end}
-use Rattle.table.proofs.laws.steps.PieceWalk.{going-at, Turn, turn-start, turn-on, turn-less, turn-most, partsFrom, parts-start, parts-turn, parts-end}
+use Rattle.table.proofs.laws.slots.PutLoops.{puts-later, Going, going-start, going-on, going-full, going-end}
+use Rattle.table.proofs.laws.steps.PieceWalk.{Turn, turn-start, turn-on, turn-less, turn-most, partsFrom, parts-start, parts-turn, parts-end}
 use Prim.Native.Nat.{ℕ, _≤_, _<_, _-_, _+_}
 use borrow.Fn.Kinds.{In}
 use borrow.Fn.PlainCycle.{Measures, is, falls, and}
@@ -79,13 +80,17 @@ here : (t : ℕ) (c : split-lts.After-effect-at (claims t) (split-at t) split.Po
     → let a = c .before .before .before .args in
     let es = effectsAt (a .size) (a .effects .now) in
     drop (a .undecided .at) es ≡ c .effect-at .result ∷ drop (a .undecided .at + 1) es
-here t c = let o = c .before .before .before in effects-step (o .args .size) (o .args .effects .now) (o .args .undecided .at) _
-    (o .pre .1 .below) (c .effect-at .ensures)
+here t c =
+    let start = c .before .before .before in
+    let a = start .args in
+    effects-step (a .size) (a .effects .now) (a .undecided .at) _ (start .pre .1 .below) (c .effect-at .ensures)
 
 splits : (t : ℕ) (c : split-lts.After-effect-at (claims t) (split-at t) split.Post split-Inv-loop split-μ-loop)
     → Splits (c .effect-at .result .condition) (c .before .before .before .args .piece)
-splits t c = let o = c .before .before .before in subst (λ (e : Effect). Splits (e .condition) (o .args .piece))
-    (sym (c .effect-at .ensures)) (o .pre .1 .splits)
+splits t c =
+    let start = c .before .before .before in
+    subst (λ (e : Effect). Splits (e .condition) (start .args .piece))
+    (sym (c .effect-at .ensures)) (start .pre .1 .splits)
 
 -- the part of this turn comes first, and then those from the next turn on
 turned : (t : ℕ) (c : split-lts.After-skip-decided (claims t) (split-at t) split.Post split-Inv-loop split-μ-loop) (n : ℕ)
@@ -101,94 +106,74 @@ turned t c n q =
     parts-turn _ _ _ _ _ (c .before .before .before .before .loop .t) n (c .before .before .before .loop-test .taken)
     (c .before .before .before .before .loop .inv .0) q _ (c .before .before .part .ensures)
 
-split-effect-at-requires : (t : ℕ) → split-lts.Need-effect-at-requires (claims t) (split-at t) split.Post split-Inv-loop split-μ-loop
-split-effect-at-requires t c κs = search needs
+-- no condition is left
+none-left : (t : ℕ) (c : split-lts.After-skip-decided (claims t) (split-at t) split.Post split-Inv-loop split-μ-loop)
+    → let a = c .before .before .before .before .before .before .before .before .before .before .args in
+    a .size ≤ c .skip-decided .result .at → drop (c .skip-decided .result .at) (effectsAt (a .size) (a .effects .now)) ≡ []
+none-left t c h =
+    let a = c .before .before .before .before .before .before .before .before .before .before .args in
+    effects-end (a .size) (a .effects .now) (c .skip-decided .result .at) h
 
-split-lacking-requires : (t : ℕ) → split-lts.Need-minus-requires (claims t) (split-at t) split.Post split-Inv-loop split-μ-loop
-split-lacking-requires t c κs = search needs
-
-split-add-next : (t : ℕ) → split-lts.Need-add-next (claims t) (split-at t) split.Post split-Inv-loop split-μ-loop
-split-add-next t c = search needs
+-- ---- the answers
 
 split-loop-holds : (t : ℕ) → split-lts.Need-loop-holds (claims t) (split-at t) split.Post split-Inv-loop split-μ-loop
 split-loop-holds t c =
-    let o = c .before .before .before .before .before in
-    let s = splits t (c .before .before) in (
+    let after-effect-at = c .before .before in
+    let start = after-effect-at .before .before .before in
+    let a = start .args in
+    let by = splits t after-effect-at in (
       turn-start _,
-      going-start _ _ _ _ _
-          (parts-start (effectsAt (o .args .size) (o .args .effects .now)) _ _ _ (o .args .piece) (here t (c .before .before)) _
-          (rw (s .lacking, s .apart)) (c .minus .ensures)) (o .pre .1 .held),
+      going-start (parts-start (effectsAt (a .size) (a .effects .now)) _ _ _ (a .piece) (here t after-effect-at) _
+          (rw (by .lacking, by .apart)) (c .minus .ensures)) (start .pre .1 .held),
     )
-
-split-part-requires : (t : ℕ) → split-lts.Need-part-requires (claims t) (split-at t) split.Post split-Inv-loop split-μ-loop
-split-part-requires t c κs = search needs
-
-split-carried-requires : (t : ℕ) → split-lts.Need-carried-requires (claims t) (split-at t) split.Post split-Inv-loop split-μ-loop
-split-carried-requires t c κs = search needs
 
 split-skip-decided-requires : (t : ℕ) → split-lts.Need-skip-decided-requires (claims t) (split-at t) split.Post split-Inv-loop split-μ-loop
 split-skip-decided-requires t c κs =
-    let o = c .before .before .before .before .before .before .before .before .before in
-    let v = c .before .before .before .loop in (
-      o .pre .1 .effects-room,
-      past-part _ _ _ _ (here t (c .before .before .before .before .before .before)) _ _ (o .pre .1 .carried) _
-          (c .before .before .before .before .minus .ensures) (splits t (c .before .before .before .before .before .before) .apart) (v .t)
-          (c .before .before .loop-test .taken) (v .inv .0) _ _ (c .before .part .ensures) (c .carried .ensures),
+    let at-loop = c .before .before .before in
+    let after-effect-at = at-loop .before .before .before in
+    let start = after-effect-at .before .before .before in (
+      start .pre .1 .effects-room,
+      past-part _ _ _ _ (here t after-effect-at) _ _ (start .pre .1 .carried) _ (at-loop .before .minus .ensures)
+          (splits t after-effect-at .apart) (at-loop .loop .t) (c .before .before .loop-test .taken) (at-loop .loop .inv .0) _ _
+          (c .before .part .ensures) (c .carried .ensures),
     )
 
 split-split-requires : (t : ℕ) → split-lts.Need-split-requires (claims t) (split-at t) split.Post split-Inv-loop split-μ-loop
 split-split-requires t c κs =
-    let o = c .before .before .before .before .before .before .before .before .before .before .before .before .before .before in
-    let s = c .before .before .before .before .skip-decided .ensures in
-    let h : c .before .before .before .before .skip-decided .result .at < o .args .size = omega arith in (
-      omega (arith, s .0 .upto, o .pre .0, o .pre .1 .below),
+    let after-skip-decided = c .before .before .before .before in
+    let at-loop = after-skip-decided .before .before .before .before in
+    let start = at-loop .before .before .before .before .before .before in
+    let skipped = after-skip-decided .skip-decided .ensures in
+    let h : after-skip-decided .skip-decided .result .at < start .args .size = omega arith in (
+      omega (arith, skipped .0 .upto, start .pre .0, start .pre .1 .below),
       record {
-        effects-room = o .pre .1 .effects-room;
+        effects-room = start .pre .1 .effects-room;
         below = h;
-        splits = s .1 h;
-        carried = s .0 .carried;
-        held = held-own _ _ _ _ (c .before .before .before .before .before .before .before .before .loop .inv .1 .held);
+        splits = skipped .1 h;
+        carried = skipped .0 .carried;
+        held = held-own (at-loop .loop .inv .1 .held);
       },
     )
 
-split-enum-known-grown : (t : ℕ) → split-lts.Need-enum-known-grown (claims t) (split-at t) split.Post split-Inv-loop split-μ-loop
-split-enum-known-grown t c = search needs
-
-split-enum-told : (t : ℕ) → split-lts.Need-enum-told (claims t) (split-at t) split.Post split-Inv-loop split-μ-loop
-split-enum-told t c = search needs
-
 split-returns : (t : ℕ) → split-lts.Need-returns (claims t) (split-at t) split.Post split-Inv-loop split-μ-loop
 split-returns t c =
-    let s = c .before .before .before .before .before .before .before in
-    going-full _ _ _ _ _ _ _ _ _ _ _ _ _ (s .before .before .before .before .loop .inv .1) (turned t s _ refl)
-    (settles-puts _ _ _ _ (s .skip-decided .ensures .0) _ _ _ _ _ _ (c .before .before .split .ensures)) (c .enum-told .given .1)
-
-split-replace-requires : (t : ℕ) → split-lts.Need-replace-requires (claims t) (split-at t) split.Post split-Inv-loop split-μ-loop
-split-replace-requires t c κs = search needs
+    let after-skip-decided = c .before .before .before .before .before .before .before in
+    going-full _ (after-skip-decided .before .before .before .before .loop .inv .1) (turned t after-skip-decided _ refl)
+    (settles-puts _ _ _ _ (after-skip-decided .skip-decided .ensures .0) _ _ _ _ _ _ (c .before .before .split .ensures))
+    (c .enum-told .given .1)
 
 split-offer-by-newest-requires : (t : ℕ) → split-lts.Need-offer-by-newest-requires (claims t) (split-at t) split.Post split-Inv-loop
     split-μ-loop
-split-offer-by-newest-requires t c κs = held-own _ _ _ _
+split-offer-by-newest-requires t c κs = held-own
     (c .before .before .before .before .before .before .before .before .before .loop .inv .1 .held)
-
-split-enum-known-grown-2 : (t : ℕ) → split-lts.Need-enum-known-grown-2 (claims t) (split-at t) split.Post split-Inv-loop split-μ-loop
-split-enum-known-grown-2 t c = search needs
-
-split-enum-told-2 : (t : ℕ) → split-lts.Need-enum-told-2 (claims t) (split-at t) split.Post split-Inv-loop split-μ-loop
-split-enum-told-2 t c = search needs
 
 split-returns-2 : (t : ℕ) → split-lts.Need-returns-2 (claims t) (split-at t) split.Post split-Inv-loop split-μ-loop
 split-returns-2 t c =
-    let s = c .before .before .before .before .before .before .before .before in
-    let a = s .before .before .before .before .before .before .before .before .before .before .args in
-    going-full _ _ _ _ _ _ _ _ _ _ _ _ _ (s .before .before .before .before .loop .inv .1) (turned t s _ refl)
-    (settles-leaf _ _ _ _ (s .skip-decided .ensures .0)
-    (effects-end (a .size) (a .effects .now) (s .skip-decided .result .at)
-    (omega (arith, c .before .before .before .before .before .before .if1 .left))) _ (c .before .before .before .replace .ensures)
-    _ _ _ _ _ _ (c .before .before .offer-by-newest .ensures)) (c .enum-told2 .given .1)
-
-split-next-requires : (t : ℕ) → split-lts.Need-next-requires (claims t) (split-at t) split.Post split-Inv-loop split-μ-loop
-split-next-requires t c κs = search needs
+    let after-skip-decided = c .before .before .before .before .before .before .before .before in
+    going-full _ (after-skip-decided .before .before .before .before .loop .inv .1) (turned t after-skip-decided _ refl)
+    (settles-leaf _ _ _ _ (after-skip-decided .skip-decided .ensures .0)
+    (none-left t after-skip-decided (c .before .before .before .before .before .before .if1 .left)) _
+    (c .before .before .before .replace .ensures) _ _ _ _ _ _ (c .before .before .offer-by-newest .ensures)) (c .enum-told2 .given .1)
 
 split-add-t : (t : ℕ) → split-lts.Need-add-t (claims t) (split-at t) split.Post split-Inv-loop split-μ-loop
 split-add-t t c = let k : c .next .result ≤ 64 = turn-most _ (c .before .before .before .before .before .before .before .loop .t) _
@@ -201,49 +186,26 @@ split-loop-less t c =
 
 split-loop-again : (t : ℕ) → split-lts.Need-loop-again (claims t) (split-at t) split.Post split-Inv-loop split-μ-loop
 split-loop-again t c =
-    let s = c .before .before .before in
-    let a = s .before .before .before .before .before .before .before .before .before .before .args in
-    let v = s .before .before .before .before .loop in (
-      turn-on _ (v .t) _ (c .next .ensures),
-      ⊎-elim
-          (λ x. going-at _ _ _ _ _ _ _ _ _ _ _ (x .9) (x .7) (x .8)
-          (going-on _ _ _ _ _ _ _ _ _ _ _ _ _ (v .inv .1) (turned t s _ (c .next .ensures))
-          (settles-puts _ _ _ _ (s .skip-decided .ensures .0) _ _ _ _ _ _ (x .3 .ensures)) _ (x .5 .given .1)))
-          (λ x. going-at _ _ _ _ _ _ _ _ _ _ _ (x .10) (x .8) (x .9)
-          (going-on _ _ _ _ _ _ _ _ _ _ _ _ _ (v .inv .1) (turned t s _ (c .next .ensures))
-          (settles-leaf _ _ _ _ (s .skip-decided .ensures .0)
-          (effects-end (a .size) (a .effects .now) (s .skip-decided .result .at) (omega (arith, x .0 .left))) _ (x .3 .ensures) _ _ _ _
-          _ _ (x .4 .ensures)) _ (x .6 .given .1)))
-          (c .before .if1 .came),
+    let after-skip-decided = c .before .before .before in
+    let at-loop = after-skip-decided .before .before .before .before in
+    let skipped = after-skip-decided .skip-decided .ensures .0 in (
+      turn-on _ (at-loop .loop .t) _ (c .next .ensures),
+      going-on _ (at-loop .loop .inv .1) (turned t after-skip-decided _ (c .next .ensures))
+          (⊎-elim
+          (λ x. puts-later (x .7) (x .8) (ap grown.To (x .9) ∙ sym (x .5 .given .1))
+          (settles-puts _ _ _ _ skipped _ _ _ _ _ _ (x .3 .ensures)))
+          (λ x. puts-later (x .8) (x .9) (ap grown.To (x .10) ∙ sym (x .6 .given .1))
+          (settles-leaf _ _ _ _ skipped (none-left t after-skip-decided (x .0 .left)) _ (x .3 .ensures) _ _ _ _ _ _ (x .4 .ensures)))
+          (c .before .if1 .came)) refl,
     )
 
 split-returns-3 : (t : ℕ) → split-lts.Need-returns-3 (claims t) (split-at t) split.Post split-Inv-loop split-μ-loop
-split-returns-3 t c = going-end _ _ _ _ _ _ _ _ (c .before .loop .inv .1) (parts-end _ _ _ _ _ (c .before .loop .t) (c .loop-test .left))
+split-returns-3 t c = going-end (c .before .loop .inv .1) (parts-end _ _ _ _ _ (c .before .loop .t) (c .loop-test .left))
 
 pub +split-spec : {M : Type 1} → statement M
-+split-spec = close μ-split λ t. split-lts.spec (claims t)
-    (split-at t)
-    split.Post
-    split-Inv-loop
-    split-μ-loop
-    (split-effect-at-requires t)
-    (split-lacking-requires t)
-    (split-add-next t)
-    (split-loop-holds t)
-    (split-part-requires t)
-    (split-carried-requires t)
-    (split-skip-decided-requires t)
-    (split-split-requires t)
-    (split-enum-known-grown t)
-    (split-enum-told t)
-    (split-returns t)
-    (split-replace-requires t)
-    (split-offer-by-newest-requires t)
-    (split-enum-known-grown-2 t)
-    (split-enum-told-2 t)
-    (split-returns-2 t)
-    (split-next-requires t)
-    (split-add-t t)
-    (split-loop-less t)
-    (split-loop-again t)
-    (split-returns-3 t)
++split-spec = close μ-split λ t.
+    split-lts.spec (claims t) (split-at t) split.Post split-Inv-loop split-μ-loop (λ c κs. search needs) (λ c κs. search needs)
+    (λ c. search needs) (split-loop-holds t) (λ c κs. search needs) (λ c κs. search needs) (split-skip-decided-requires t)
+    (split-split-requires t) (λ c. search needs) (λ c. search needs) (split-returns t) (λ c κs. search needs)
+    (split-offer-by-newest-requires t) (λ c. search needs) (λ c. search needs) (split-returns-2 t) (λ c κs. search needs)
+    (split-add-t t) (split-loop-less t) (split-loop-again t) (split-returns-3 t)

@@ -8,16 +8,17 @@ use Rattle.table.proofs.steps.branch.Statement.{statement}
 use Rattle.table.proofs.steps.branch.Tie as tie
 
 skip-decided-requires : tie.Need-skip-decided-requires
-skip-decided-requires c κs = let o = c .before in (o .pre .effects-room, carried-start _ _ (o .pre .steady) (o .pre .entry-steady))
+skip-decided-requires c κs =
+    let start = c .before in
+    (start .pre .effects-room, carried-start _ _ (start .pre .steady) (start .pre .entry-steady))
 
 split-requires : tie.Need-split-requires
 split-requires c κs =
     let after-skip-decided = c .before .before .before .before in
-    let after-6 = after-skip-decided .before .before in
-    let o = after-6 in
+    let start = after-skip-decided .before .before in
     let s = after-skip-decided .skip-decided .ensures in
-    let h : after-skip-decided .skip-decided .result .at < o .args .size = omega arith in
-    record { effects-room = o .pre .effects-room; below = h; splits = s .1 h; carried = s .0 .carried; held = o .pre .held }
+    let h : after-skip-decided .skip-decided .result .at < start .args .size = omega arith in
+    record { effects-room = start .pre .effects-room; below = h; splits = s .1 h; carried = s .0 .carried; held = start .pre .held }
 
 returns : tie.Need-returns
 returns c = settles-puts _ 0 _ _ (c .before .before .before .before .before .skip-decided .ensures .0) _ _ _ _ _ _ (c .split .ensures)

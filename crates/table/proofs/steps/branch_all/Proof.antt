@@ -1,12 +1,11 @@
 -- `table::steps::branch_all` meets its contract. The invariant: the entries from i on give what is left. Assumes nothing.
-use mathlib.Core.Path.{_≡_, refl, ap}
+use mathlib.Core.Path.{_≡_, refl}
 use mathlib.Core.Bool.{true}
-use mathlib.Core.List.{List, map}
+use mathlib.Core.List.{map}
 use Prim.Native.Nat.{_≤_, _-_}
 use native.Mathlib.Omega.{arith}
 use borrow.Author.Needs.{needs}
 use lib.ListN.{drop}
-use Rattle.sheet.specs.declared.Literals.{Literals}
 use Rattle.sheet.specs.Literals.{consistent}
 use Rattle.sheet.specs.Lists.{collect}
 use Rattle.table.specs.Step.{pieces, image}
@@ -15,8 +14,8 @@ use Rattle.sheet.specs.inner.Packed.{effectsAt}
 use Rattle.table.proofs.laws.arrays.HeldLists.{held-own}
 use Rattle.table.proofs.laws.slots.PutLoops.{Going, going-start, going-on, going-full, going-end}
 use Rattle.table.proofs.laws.steps.CarriedResults.{all-here}
-use Rattle.table.proofs.laws.arrays.EntryLoops.{entries-next, entries-done}
-use Rattle.table.proofs.laws.steps.PieceWalk.{entries-ways}
+use Rattle.table.proofs.laws.arrays.EntryLoops.{entries-next}
+use Rattle.table.proofs.laws.steps.PieceWalk.{images-step, images-end}
 use Rattle.table.proofs.steps.branch_all.Statement.{statement}
 use Rattle.table.proofs.steps.branch_all.Tie as tie
 
@@ -32,63 +31,49 @@ abbrev μ-loop : tie.MeasureT-loop
 μ-loop effects size trues falses count to-trues₀ to-falses₀ filled₀ i₀ to-trues to-falses filled i = count - i
 
 loop-holds : tie.Need-loop-holds Inv-loop μ-loop
-loop-holds c = (omega arith, going-start _ _ _ _ _ refl (c .before .before .before .pre .held))
+loop-holds c = (omega arith, going-start refl (c .before .before .before .pre .held))
 
 branch-requires : tie.Need-branch-requires Inv-loop μ-loop
 branch-requires c κs =
     let after-entry-at = c .before .before in
     let after-loop-test = after-entry-at .before in
     let at-loop = after-loop-test .before in
-    let after-8 = at-loop .before .before .before .before in
-    let o = after-8 in
-    let a = o .args in
+    let start = at-loop .before .before .before .before in
+    let a = start .args in
     let v = at-loop .loop in
     record {
-      effects-room = o .pre .effects-room;
-      steady = o .pre .steady;
+      effects-room = start .pre .effects-room;
+      steady = start .pre .steady;
       entry-steady = all-here (λ d. consistent d ≡ true) _ _ (v .i) _
           (entries-next (a .count) (a .trues .now) (a .falses .now) (v .i) _ (after-loop-test .loop-test .taken)
-          (after-entry-at .entry-at .ensures)) (o .pre .entries-steady);
-      held = held-own _ _ _ _ (v .inv .1 .held);
+          (after-entry-at .entry-at .ensures)) (start .pre .entries-steady);
+      held = held-own (v .inv .1 .held);
     }
 
 returns : tie.Need-returns Inv-loop μ-loop
 returns c =
-    let after-branch = c .before .before in
-    let after-entry-at = after-branch .before .before .before in
-    let after-loop-test = after-entry-at .before in
-    let at-loop = after-loop-test .before in
-    let start = at-loop .before .before .before .before in
-    let a = start .args in
-    going-full _ _ _ _ _ _ _ _ _ _ _ _ _ (at-loop .loop .inv .1)
-    (entries-ways (effectsAt (a .size) (a .effects .now)) _ _ _
-    (entries-next (a .count) (a .trues .now) (a .falses .now) (at-loop .loop .i) (after-entry-at .entry-at .result)
-    (after-loop-test .loop-test .taken) (after-entry-at .entry-at .ensures)))
-    (after-branch .branch .ensures) (c .enum-told .given .1)
+    let after-entry-at = c .before .before .before .before .before in
+    let at-loop = after-entry-at .before .before in
+    let a = at-loop .before .before .before .before .args in
+    going-full _ (at-loop .loop .inv .1)
+    (images-step (effectsAt (a .size) (a .effects .now)) _ _ _ _ _ (after-entry-at .before .loop-test .taken)
+    (after-entry-at .entry-at .ensures)) (c .before .before .branch .ensures) (c .enum-told .given .1)
 
 loop-again : tie.Need-loop-again Inv-loop μ-loop
 loop-again c =
-    let after-branch = c .before .before .before in
-    let after-entry-at = after-branch .before .before .before in
-    let after-loop-test = after-entry-at .before in
-    let at-loop = after-loop-test .before in
-    let start = at-loop .before .before .before .before in
-    let a = start .args in (
+    let after-entry-at = c .before .before .before .before .before .before in
+    let at-loop = after-entry-at .before .before in
+    let a = at-loop .before .before .before .before .args in (
       omega arith,
-      going-on _ _ _ _ _ _ _ _ _ _ _ _ _ (at-loop .loop .inv .1)
-          (entries-ways (effectsAt (a .size) (a .effects .now)) _ _ _
-          (entries-next (a .count) (a .trues .now) (a .falses .now) (at-loop .loop .i) (after-entry-at .entry-at .result)
-          (after-loop-test .loop-test .taken) (after-entry-at .entry-at .ensures)))
-          (after-branch .branch .ensures) _ (c .before .grown .given .1),
+      going-on _ (at-loop .loop .inv .1)
+          (images-step (effectsAt (a .size) (a .effects .now)) _ _ _ _ _ (after-entry-at .before .loop-test .taken)
+          (after-entry-at .entry-at .ensures)) (c .before .before .before .branch .ensures) (c .before .grown .given .1),
     )
 
 returns-2 : tie.Need-returns-2 Inv-loop μ-loop
 returns-2 c =
     let a = c .before .before .before .before .before .args in
-    going-end _ _ _ _ _ _ _ _ (c .before .loop .inv .1)
-    (ap (λ (x : List Literals). map (image (effectsAt (a .size) (a .effects .now)))
-    (collect (pieces (effectsAt (a .size) (a .effects .now))) x))
-    (entries-done (a .count) (a .trues .now) (a .falses .now) (c .before .loop .i) (c .loop-test .left)))
+    going-end (c .before .loop .inv .1) (images-end (effectsAt (a .size) (a .effects .now)) _ _ _ _ (c .loop-test .left))
 
 pub branch-all-spec : {M : Type 1} → statement M
 branch-all-spec =

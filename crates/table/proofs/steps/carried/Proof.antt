@@ -19,9 +19,6 @@ unfolding carriedAt
 later sum r zero h = absurd (omega (arith, h))
 later sum r (suc l) h = refl
 
-join-requires : tie.Need-join-requires
-join-requires c κs = search needs
-
 returns : tie.Need-returns
 returns c = c .join .ensures ∙ first _ _ _ (omega arith)
 
@@ -29,4 +26,4 @@ returns-2 : tie.Need-returns-2
 returns-2 c = later _ _ _ (omega arith)
 
 pub carried-spec : {M : Type 1} → statement M
-carried-spec = tie.close (tie.spec join-requires returns returns-2)
+carried-spec = tie.close (tie.spec (λ c κs. search needs) returns returns-2)

@@ -1,6 +1,7 @@
--- `steps::unclear` meets its contract. The invariant: the effects from i on decide. Assumes nothing.
+-- `steps::conflicting` meets its contract. The invariant: the effects from i on decide. Assumes nothing.
 use mathlib.Core.Path.{_≡_, refl, sym, _∙_}
-use Prim.Native.Nat.{_-_}
+use mathlib.Core.Bool.{Bool, true, false, _||_}
+use Prim.Native.Nat.{_+_, _-_}
 use borrow.Author.Needs.{needs}
 use lib.ListN.{drop}
 use Rattle.sheet.specs.Lists.{anyOf}
@@ -23,29 +24,24 @@ abbrev μ-loop : tie.MeasureT-loop
 loop-holds : tie.Need-loop-holds Inv-loop μ-loop
 loop-holds c = refl
 
-returns : tie.Need-returns Inv-loop μ-loop
-returns c =
-    let after-effect-at = c .before .before in
-    let after-loop-test = after-effect-at .before in
-    let after-4 = after-loop-test .before in
-    let o = after-4 in
-    let a = o .before .before .before .before .args in
-    sym (o .loop .inv
+-- a turn: the effect at hand is opposed to one after it, or those after it decide
+turn : (c : tie.After-opposes Inv-loop μ-loop) (v : Bool) → c .opposes .result ≡ v
+    → let at-loop = c .before .before .before in let a = at-loop .before .before .before .before .args in
+    let es = effectsAt (a .size) (a .effects .now) in let t = entriesOf (a .count) (a .trues .now) (a .falses .now) in
+    anyOf (λ d. contradicts es d) t ≡ (v || anyOf (λ d. contradicts (drop (at-loop .loop .i + 1) es) d) t)
+turn c v is =
+    let at-loop = c .before .before .before in
+    let a = at-loop .before .before .before .before .args in
+    at-loop .loop .inv
     ∙ pairs-turn _ (entriesOf (a .count) (a .trues .now) (a .falses .now)) _ _ _ _
-    (effects-step (a .size) (a .effects .now) (o .loop .i) _ (after-loop-test .loop-test .taken) (after-effect-at .effect-at .ensures))
-    (c .before .opposes .ensures) (c .if1 .taken))
+    (effects-step (a .size) (a .effects .now) (at-loop .loop .i) _ (c .before .before .loop-test .taken) (c .before .effect-at .ensures))
+    (c .opposes .ensures) is
+
+returns : tie.Need-returns Inv-loop μ-loop
+returns c = sym (turn (c .before) true (c .if1 .taken))
 
 loop-again : tie.Need-loop-again Inv-loop μ-loop
-loop-again c =
-    let after-effect-at = c .before .before in
-    let after-loop-test = after-effect-at .before in
-    let after-4 = after-loop-test .before in
-    let o = after-4 in
-    let a = o .before .before .before .before .args in
-    o .loop .inv
-    ∙ pairs-turn _ (entriesOf (a .count) (a .trues .now) (a .falses .now)) _ _ _ _
-    (effects-step (a .size) (a .effects .now) (o .loop .i) _ (after-loop-test .loop-test .taken) (after-effect-at .effect-at .ensures))
-    (c .before .opposes .ensures) (c .if1 .left)
+loop-again c = turn (c .before) false (c .if1 .left)
 
 returns-2 : tie.Need-returns-2 Inv-loop μ-loop
 returns-2 c =

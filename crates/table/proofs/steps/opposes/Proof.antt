@@ -1,8 +1,8 @@
 -- `steps::opposes` meets its contract. The invariant: the effects from j on decide. Assumes nothing.
 use mathlib.Core.Path.{_≡_, refl, sym, ap, _∙_}
 use mathlib.Core.Bool.{Bool}
-use mathlib.Core.List.{List}
-use Prim.Native.Nat.{_-_}
+use mathlib.Core.List.{List, _∷_}
+use Prim.Native.Nat.{_+_, _-_}
 use borrow.Author.Needs.{needs}
 use lib.ListN.{drop}
 use Rattle.sheet.specs.declared.Literals.{Literals}
@@ -31,31 +31,25 @@ abbrev μ-loop : tie.MeasureT-loop
 loop-holds : tie.Need-loop-holds Inv-loop μ-loop
 loop-holds c = refl
 
+-- the effect at hand is the first of those that are left
+here : (c : tie.After-effect-at Inv-loop μ-loop)
+    → let at-loop = c .before .before in let a = at-loop .before .before .before .before .args in
+    let es = effectsAt (a .size) (a .effects .now) in
+    drop (at-loop .loop .j) es ≡ c .effect-at .result ∷ drop (at-loop .loop .j + 1) es
+here c =
+    let at-loop = c .before .before in
+    let a = at-loop .before .before .before .before .args in
+    effects-step (a .size) (a .effects .now) (at-loop .loop .j) _ (c .before .loop-test .taken) (c .effect-at .ensures)
+
 returns : tie.Need-returns Inv-loop μ-loop
 returns c =
-    let after-effect-at = c .before .before in
-    let after-loop-test = after-effect-at .before in
-    let at-loop = after-loop-test .before in
-    let start = at-loop .before .before .before .before in
-    let a = start .args in
-    any-stop (against (a .e) (entriesOf (a .count) (a .trues .now) (a .falses .now))) _ _ _ _
-    (effects-step (a .size) (a .effects .now) (at-loop .loop .j) _ (after-loop-test .loop-test .taken)
-    (after-effect-at .effect-at .ensures))
-    (c .before .opposed .ensures) (c .if1 .taken)
-    ∙ sym (at-loop .loop .inv)
+    let at-loop = c .before .before .before .before in
+    any-stop _ _ _ _ _ (here (c .before .before)) (c .before .opposed .ensures) (c .if1 .taken) ∙ sym (at-loop .loop .inv)
 
 loop-again : tie.Need-loop-again Inv-loop μ-loop
 loop-again c =
-    let after-effect-at = c .before .before in
-    let after-loop-test = after-effect-at .before in
-    let at-loop = after-loop-test .before in
-    let start = at-loop .before .before .before .before in
-    let a = start .args in
-    at-loop .loop .inv
-    ∙ any-on (against (a .e) (entriesOf (a .count) (a .trues .now) (a .falses .now))) _ _ _ _
-    (effects-step (a .size) (a .effects .now) (at-loop .loop .j) _ (after-loop-test .loop-test .taken)
-    (after-effect-at .effect-at .ensures))
-    (c .before .opposed .ensures) (c .if1 .left)
+    let at-loop = c .before .before .before .before in
+    at-loop .loop .inv ∙ any-on _ _ _ _ _ (here (c .before .before)) (c .before .opposed .ensures) (c .if1 .left)
 
 returns-2 : tie.Need-returns-2 Inv-loop μ-loop
 returns-2 c =

@@ -19,20 +19,11 @@ unfolding partAt
 later d c zero l h = absurd (omega (arith, h))
 later d c (suc m) l h = let k : l ≡ m = omega (arith, h) in ap (λ (x : ℕ). join d (flip (literal x))) k
 
-join-requires : tie.Need-join-requires
-join-requires c κs = search needs
-
 returns : tie.Need-returns
 returns c = c .join .ensures ∙ first _ _ _ (omega arith)
-
-sub-without : tie.Need-sub-without
-sub-without c = search needs
-
-without-requires : tie.Need-without-requires
-without-requires c κs = search needs
 
 returns-2 : tie.Need-returns-2
 returns-2 c = c .without .ensures ∙ later _ _ _ _ (omega arith)
 
 pub part-spec : {M : Type 1} → statement M
-part-spec = tie.close (tie.spec join-requires returns sub-without without-requires returns-2)
+part-spec = tie.close (tie.spec (λ c κs. search needs) returns (λ c. search needs) (λ c κs. search needs) returns-2)

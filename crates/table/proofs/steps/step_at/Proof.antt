@@ -2,6 +2,10 @@
 use mathlib.Core.Path.{_≡_, sym, ap, _∙_}
 use Prim.Native.Nat.{ℕ, _≤_, _*_, _+_, _-_}
 use mathlib.Core.List.{List}
+use mathlib.Core.Bool.{true}
+use Rattle.sheet.specs.Literals.{within}
+use Rattle.sheet.specs.Lists.{allOf}
+use Rattle.table.specs.Entries.{entriesOf}
 use native.Mathlib.Omega.{arith}
 use borrow.Author.Tests.{not-true, not-false}
 use lib.ListN.{length, take, drop}
@@ -36,34 +40,39 @@ its-effects c =
     ∙ effects-room (a .index) moves (omega (arith, room, start .pre .move .move-most)) in
     omega (arith, e, start .pre .move .effects-few, c .wide .ensures ∙ ap countIn (item-lent 35 (a .index) moves))
 
+-- every entry has the precondition
+all-sure : (c : tie.After-conflicting)
+    → let after-set-from = c .before .before .before .before .before .before in
+    let a = after-set-from .before .before .before .before .before .before .args in
+    allOf (λ d. within (after-set-from .set-from .result) d) (entriesOf (a .count) (a .trues .now) (a .falses .now)) ≡ true
+all-sure c = sym (c .before .before .sure .ensures) ∙ not-false _ (c .before .if1 .left)
+
 returns : tie.Need-returns
 returns c =
-    let after-3 = c .before .before .before in
-    let start = after-3 .before .before .before .before .before .before .before .before in
-    lent-unsure _ _ _ _ (start .pre .move .fits) _ (its-move (after-3)) (sym (c .before .sure .ensures) ∙ not-true _ (c .if1 .taken))
+    let after-wide = c .before .before .before in
+    let start = after-wide .before .before .before .before .before .before .before .before in
+    lent-unsure _ _ _ _ (start .pre .move .fits) _ (its-move after-wide) (sym (c .before .sure .ensures) ∙ not-true _ (c .if1 .taken))
 
 conflicting-requires : tie.Need-conflicting-requires
 conflicting-requires c κs =
-    let after-3 = c .before .before .before in
-    let start = after-3 .before .before .before .before .before .before .before .before in
-    (its-effects (after-3), start .pre .room)
+    let after-wide = c .before .before .before in
+    let start = after-wide .before .before .before .before .before .before .before .before in
+    (its-effects after-wide, start .pre .room)
 
 returns-2 : tie.Need-returns-2
 returns-2 c =
-    let after-if1 = c .before .before in
-    let after-sure = after-if1 .before in
-    let after-5 = after-sure .before .before in
-    let start = after-5 .before .before .before .before .before .before .before .before in
-    lent-conflicting _ _ _ _ (start .pre .move .fits) _ (its-move (after-5))
-    (sym (after-sure .sure .ensures) ∙ not-false _ (after-if1 .if1 .left)) (sym (c .before .conflicting .ensures) ∙ c .if2 .taken)
+    let after-wide = c .before .before .before .before .before in
+    let start = after-wide .before .before .before .before .before .before .before .before in
+    lent-conflicting _ _ _ _ (start .pre .move .fits) _ (its-move after-wide) (all-sure (c .before))
+    (sym (c .before .conflicting .ensures) ∙ c .if2 .taken)
 
 branch-all-requires : tie.Need-branch-all-requires
 branch-all-requires c κs =
-    let after-7 = c .before .before .before .before .before .before .before in
-    let start = after-7 .before .before .before .before .before .before .before .before in
-    let is = its-move (after-7) in
+    let after-wide = c .before .before .before .before .before .before .before in
+    let start = after-wide .before .before .before .before .before .before .before .before in
+    let is = its-move after-wide in
     record {
-      effects-room = its-effects (after-7);
+      effects-room = its-effects after-wide;
       steady = effects-steady _ _ _ _ (start .pre .move .fits) _ is;
       room = start .pre .room;
       entries-steady = entries-steady _ _ _ _ (start .pre .move .fits) _ is;
@@ -73,28 +82,21 @@ branch-all-requires c κs =
 returns-3 : tie.Need-returns-3
 returns-3 c =
     let after-branch-all = c .before .before .before in
-    let after-if2 = after-branch-all .before .before .before in
-    let after-conflicting = after-if2 .before in
-    let after-if1 = after-conflicting .before in
-    let after-sure = after-if1 .before in
-    let after-11 = after-sure .before .before in
-    let start = after-11 .before .before .before .before .before .before .before .before in
-    lent-to _ _ _ _ (start .pre .move .fits) _ (its-move (after-11)) (sym (after-sure .sure .ensures) ∙ not-false _ (after-if1 .if1 .left))
-    (sym (after-conflicting .conflicting .ensures) ∙ after-if2 .if2 .left) _ _ (start .pre .fresh) _ _ _
+    let after-conflicting = after-branch-all .before .before .before .before in
+    let after-wide = after-conflicting .before .before .before .before in
+    let start = after-wide .before .before .before .before .before .before .before .before in
+    lent-to _ _ _ _ (start .pre .move .fits) _ (its-move after-wide) (all-sure after-conflicting)
+    (sym (after-conflicting .conflicting .ensures) ∙ after-branch-all .before .before .before .if2 .left) _ _ (start .pre .fresh) _ _ _
     (after-branch-all .branch-all .ensures) _ (c .before .filled .given .1)
 
 returns-4 : tie.Need-returns-4
 returns-4 c =
     let after-branch-all = c .before .before in
-    let after-if2 = after-branch-all .before .before .before in
-    let after-conflicting = after-if2 .before in
-    let after-if1 = after-conflicting .before in
-    let after-sure = after-if1 .before in
-    let after-10 = after-sure .before .before in
-    let start = after-10 .before .before .before .before .before .before .before .before in
-    lent-full _ _ _ _ (start .pre .move .fits) _ (its-move (after-10))
-    (sym (after-sure .sure .ensures) ∙ not-false _ (after-if1 .if1 .left))
-    (sym (after-conflicting .conflicting .ensures) ∙ after-if2 .if2 .left) _ _ (start .pre .fresh) _ _ _
+    let after-conflicting = after-branch-all .before .before .before .before in
+    let after-wide = after-conflicting .before .before .before .before in
+    let start = after-wide .before .before .before .before .before .before .before .before in
+    lent-full _ _ _ _ (start .pre .move .fits) _ (its-move after-wide) (all-sure after-conflicting)
+    (sym (after-conflicting .conflicting .ensures) ∙ after-branch-all .before .before .before .if2 .left) _ _ (start .pre .fresh) _ _ _
     (after-branch-all .branch-all .ensures) (c .enum-told .given .1)
 
 pub step-at-spec : {M : Type 1} → statement M

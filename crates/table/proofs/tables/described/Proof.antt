@@ -45,16 +45,10 @@ returns c = empty _ _ _ _ (c .if1 .taken)
 returns-2 : tie.Need-returns-2
 returns-2 c = long _ _ _ _ (c .before .if1 .left) (c .if2 .taken)
 
-all-proper-requires : tie.Need-all-proper-requires
-all-proper-requires c κs = search needs
-
 returns-3 : tie.Need-returns-3
 returns-3 c =
     improper _ _ _ _ (c .before .before .before .if1 .left) (c .before .before .if2 .left)
     (sym (c .before .all-proper .ensures) ∙ not-true (c .before .all-proper .result) (c .if3 .taken))
-
-is-antichain-requires : tie.Need-is-antichain-requires
-is-antichain-requires c κs = search needs
 
 returns-4 : tie.Need-returns-4
 returns-4 c =
@@ -68,4 +62,4 @@ returns-4 c =
 pub described-spec : {M : Type 1} → statement M
 described-spec =
     tie.close
-    (tie.spec returns returns-2 all-proper-requires returns-3 is-antichain-requires returns-4)
+    (tie.spec returns returns-2 (λ c κs. search needs) returns-3 (λ c κs. search needs) returns-4)

@@ -2,7 +2,7 @@
 -- Assumes nothing.
 use Prim.Native.Nat.{_+_, _≤_, _-_}
 use mathlib.Core.Path.{_≡_, refl, sym, ap, _∙_}
-use mathlib.Core.Bool.{Bool, true, not, _&&_}
+use mathlib.Core.Bool.{Bool, true, not, _&&_, false}
 use native.Mathlib.Omega.{arith}
 use borrow.Author.Needs.{needs}
 use lib.ListN.{drop}
@@ -34,78 +34,63 @@ pairs-holds c = (omega arith, refl, refl)
 
 loop-holds : tie.Need-loop-holds Inv-loop μ-loop Inv-pairs μ-pairs
 loop-holds c =
-    let o = c .before .before in
-    let a = o .before .before .before .args in (
+    let at-pairs = c .before .before in
+    let a = at-pairs .before .before .before .args in (
       omega arith,
-      o .pairs .inv .1,
-      o .pairs .inv .2
+      at-pairs .pairs .inv .1,
+      at-pairs .pairs .inv .2
           ∙ antichain-turn _ _ _
-          (entries-next (a .count) (a .trues .now) (a .falses .now) (o .pairs .i) (c .entry-at .result) (c .before .pairs-test .taken)
-          (c .entry-at .ensures)),
+          (entries-next (a .count) (a .trues .now) (a .falses .now) (at-pairs .pairs .i) (c .entry-at .result)
+          (c .before .pairs-test .taken) (c .entry-at .ensures)),
     )
 
-turn : (c : tie.After-nested Inv-loop μ-loop Inv-pairs μ-pairs)
-    → let o = c .before .before .before in let p = o .before .before .before in let a = p .before .before .before .args in
+-- a turn: the two entries are nested, or what is left decides
+turn : (c : tie.After-nested Inv-loop μ-loop Inv-pairs μ-pairs) (v : Bool) → c .nested .result ≡ v
+    → let at-loop = c .before .before .before in let at-pairs = at-loop .before .before .before in
+    let a = at-pairs .before .before .before .args in let es = entriesOf (a .count) (a .trues .now) (a .falses .now) in
+    antichain es ≡ (not v && apartOf (at-loop .before .entry-at .result) (drop (at-loop .loop .j + 1) es)
+    && antichain (drop (at-pairs .pairs .i + 1) es))
+turn c v is =
+    let at-loop = c .before .before .before in
+    let at-pairs = at-loop .before .before .before in
+    let a = at-pairs .before .before .before .args in
     let es = entriesOf (a .count) (a .trues .now) (a .falses .now) in
-    antichain es ≡ (not (c .nested .result) && apartOf (o .before .entry-at .result) (drop (o .loop .j + 1) es)
-    && antichain (drop (p .pairs .i + 1) es))
-turn c =
-    let o = c .before .before .before in
-    let p = o .before .before .before in
-    let a = p .before .before .before .args in
-    let es = entriesOf (a .count) (a .trues .now) (a .falses .now) in
-    let e = o .before .entry-at .result in
-    o .loop .inv .2
-    ∙ ap (λ (b : Bool). b && antichain (drop (p .pairs .i + 1) es))
+    let e = at-loop .before .entry-at .result in
+    at-loop .loop .inv .2
+    ∙ ap (λ (b : Bool). b && antichain (drop (at-pairs .pairs .i + 1) es))
     (apart-turn _ _ _
-    (entries-next (a .count) (a .trues .now) (a .falses .now) (o .loop .j) (c .before .entry-at2 .result)
+    (entries-next (a .count) (a .trues .now) (a .falses .now) (at-loop .loop .j) (c .before .entry-at2 .result)
     (c .before .before .loop-test .taken) (c .before .entry-at2 .ensures)) e
-    ∙ ap (λ (b : Bool). not b && apartOf e (drop (o .loop .j + 1) es)) (sym (c .nested .ensures)))
+    ∙ ap (λ (b : Bool). not b && apartOf e (drop (at-loop .loop .j + 1) es)) (sym (c .nested .ensures) ∙ is))
 
 loop-again : tie.Need-loop-again Inv-loop μ-loop Inv-pairs μ-pairs
-loop-again c =
-    let o = c .before .before .before .before in
-    let p = o .before .before .before in
-    let a = p .before .before .before .args in
-    let es = entriesOf (a .count) (a .trues .now) (a .falses .now) in (
-      omega arith,
-      o .loop .inv .1,
-      turn (c .before)
-          ∙ ap (λ (b : Bool). not b && apartOf (o .before .entry-at .result) (drop (o .loop .j + 1) es)
-          && antichain (drop (p .pairs .i + 1) es)) (c .if1 .left),
-    )
+loop-again c = (omega arith, c .before .before .before .before .loop .inv .1, turn (c .before) false (c .if1 .left))
 
 pairs-again : tie.Need-pairs-again Inv-loop μ-loop Inv-pairs μ-pairs
 unfolding apartOf
 pairs-again c =
-    let o = c .before in
-    let p = o .before .before .before in
-    let a = p .before .before .before .args in (
+    let at-loop = c .before in
+    let at-pairs = at-loop .before .before .before in
+    let a = at-pairs .before .before .before .args in (
       omega arith,
-      o .loop .inv .1,
-      o .loop .inv .2
-          ∙ ap (λ r. apartOf (o .before .entry-at .result) r
-          && antichain (drop (p .pairs .i + 1) (entriesOf (a .count) (a .trues .now) (a .falses .now))))
-          (entries-done (a .count) (a .trues .now) (a .falses .now) (o .loop .j) (c .loop-test .left)),
+      at-loop .loop .inv .1,
+      at-loop .loop .inv .2
+          ∙ ap (λ r. apartOf (at-loop .before .entry-at .result) r
+          && antichain (drop (at-pairs .pairs .i + 1) (entriesOf (a .count) (a .trues .now) (a .falses .now))))
+          (entries-done (a .count) (a .trues .now) (a .falses .now) (at-loop .loop .j) (c .loop-test .left)),
     )
 
 returns : tie.Need-returns Inv-loop μ-loop Inv-pairs μ-pairs
 unfolding antichain
 returns c =
-    let p = c .before in
-    let a = p .before .before .before .args in
-    p .pairs .inv .1
-    ∙ sym (p .pairs .inv .2 ∙ ap antichain (entries-done (a .count) (a .trues .now) (a .falses .now) (p .pairs .i) (c .pairs-test .left)))
+    let at-pairs = c .before in
+    let a = at-pairs .before .before .before .args in
+    at-pairs .pairs .inv .1
+    ∙ sym (at-pairs .pairs .inv .2
+    ∙ ap antichain (entries-done (a .count) (a .trues .now) (a .falses .now) (at-pairs .pairs .i) (c .pairs-test .left)))
 
 returns-2 : tie.Need-returns-2 Inv-loop μ-loop Inv-pairs μ-pairs
-returns-2 c =
-    let o = c .before .before .before .before in
-    let p = o .before .before .before in
-    let a = p .before .before .before .args in
-    let es = entriesOf (a .count) (a .trues .now) (a .falses .now) in
-    sym (turn (c .before)
-    ∙ ap (λ (b : Bool). not b && apartOf (o .before .entry-at .result) (drop (o .loop .j + 1) es) && antichain (drop (p .pairs .i + 1) es))
-    (c .if1 .taken))
+returns-2 c = sym (turn (c .before) true (c .if1 .taken))
 
 pub is-antichain-spec : {M : Type 1} → statement M
 is-antichain-spec =

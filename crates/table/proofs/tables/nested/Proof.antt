@@ -6,16 +6,10 @@ use Rattle.sheet.specs.Literals.{within}
 use Rattle.table.proofs.tables.nested.Statement.{statement}
 use Rattle.table.proofs.tables.nested.Tie as tie
 
-within-requires : tie.Need-within-requires
-within-requires c κs = search needs
-
 returns : tie.Need-returns
 returns c =
     let a = c .before .before .args in
     sym (ap (λ (t : Bool). t || within (a .b) (a .a)) (sym (c .before .within .ensures) ∙ c .if1 .taken))
-
-within-requires-2 : tie.Need-within-requires-2
-within-requires-2 c κs = search needs
 
 returns-2 : tie.Need-returns-2
 returns-2 c =
@@ -24,4 +18,4 @@ returns-2 c =
     (ap (λ (t : Bool). t || within (a .b) (a .a)) (sym (c .before .before .within .ensures) ∙ c .before .if1 .left))
 
 pub nested-spec : {M : Type 1} → statement M
-nested-spec = tie.close (tie.spec within-requires returns within-requires-2 returns-2)
+nested-spec = tie.close (tie.spec (λ c κs. search needs) returns (λ c κs. search needs) returns-2)

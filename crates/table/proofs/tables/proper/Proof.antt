@@ -8,12 +8,6 @@ use Rattle.table.specs.Minimal.{proper}
 use Rattle.table.proofs.tables.proper.Statement.{statement}
 use Rattle.table.proofs.tables.proper.Tie as tie
 
-consistent-requires : tie.Need-consistent-requires
-consistent-requires c κs = search needs
-
-below-requires : tie.Need-below-requires
-below-requires c κs = search needs
-
 returns : tie.Need-returns
 unfolding proper
 returns c = c .below .ensures ∙ kept _ (sym (c .before .before .consistent .ensures) ∙ c .before .if1 .taken)
@@ -25,4 +19,4 @@ returns-2 c =
     sym (ap (λ (b : Bool). b && below (a .n) (a .e)) (sym (c .before .consistent .ensures) ∙ c .if1 .left))
 
 pub proper-spec : {M : Type 1} → statement M
-proper-spec = tie.close (tie.spec consistent-requires below-requires returns returns-2)
+proper-spec = tie.close (tie.spec (λ c κs. search needs) (λ c κs. search needs) returns returns-2)

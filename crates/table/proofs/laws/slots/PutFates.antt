@@ -1,4 +1,5 @@
--- The three cases of putting a candidate, over any capacity, on lists and on the slices that hold them. Assumes nothing.
+-- The three fates of a candidate that is put: dropped, added, no room; on lists, and on the slices that hold them. For `slots::put`,
+-- `slots::offer`, `slots::offer_by_newest` and W3 (proofs/Demands). Assumes nothing.
 use Prim.Native.Nat.{ℕ, _+_, _-_, _≤_, _<_}
 use mathlib.Core.Path.{_≡_, refl, sym, ap, ap₂, _∙_, subst}
 use mathlib.Core.Bool.{Bool, true, false, not, cond}
@@ -22,7 +23,7 @@ use Rattle.table.specs.Fates.{left, fateOf}
 use Rattle.table.specs.inner.Slots.{orElse, listAfter, Holds, Held, Grew, Puts}
 use Rattle.table.specs.Entries.{entriesOf}
 use Rattle.table.proofs.laws.arrays.HeldLists.{length-entriesOf, holds-push, holds-entries, held as held-of}
-use Rattle.table.proofs.laws.arrays.Compaction.{keep-length, keep-all}
+use Rattle.table.proofs.laws.arrays.KeptMembers.{keep-length, keep-all}
 
 -- ---- lists
 
@@ -120,7 +121,7 @@ module _ (cap n : ℕ) (ts fs : List ℕ) (l : Literals) (held : Held cap n ts f
         let lt : k < cap = omega (arith, removed .room) in
         let d : n ≡ length (entriesOf n ts fs) = sym (length-entriesOf n ts fs) in (
           ap₂ (λ (x y : ℕ). Added (x - y) (y + 1)) d c ∙ sym (fate-added cap (entriesOf n ts fs) l s q),
-          at-length _ _ _ _ _ _ (holds-push _ _ _ _ _ removed lt l)
+          at-length _ _ _ _ _ _ (holds-push removed lt l)
               (after-is cap (entriesOf n ts fs) l (left (entriesOf n ts fs) l ++ l ∷ []) _ (put-added cap (entriesOf n ts fs) l s q) refl),
         )
 
@@ -146,7 +147,7 @@ grew-of : (cap : ℕ) (es xs : List Literals) (n k : ℕ) (ts fs : List ℕ) →
     → Grew cap (some xs) (grown.To k) ts fs
 grew-of cap es xs n k ts fs h e q =
     let m : Holds cap xs k ts fs = subst (λ (y : List Literals). Holds cap y k ts fs) e (subst (λ (j : ℕ). Holds cap es j ts fs) q h) in
-    (ap some (sym (holds-entries _ _ _ _ _ m)), held-of _ _ _ _ _ m)
+    (ap some (sym (holds-entries m)), held-of m)
 
 module _ (cap n : ℕ) (ts fs : List ℕ) (c : Literals) where
   abbrev before : List Literals

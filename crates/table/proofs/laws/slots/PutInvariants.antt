@@ -1,10 +1,11 @@
--- Putting candidates: the worlds, the antichain, and the room in the table. Assumes nothing.
+-- What putting candidates keeps: a fact of all entries, the antichain, the room in the table, the worlds. For `put-worlds`,
+-- `put-antichain` and `put-proper` in proofs/Demands, TH2, TH3 and TH8. Assumes nothing.
 use mathlib.Core.Path.{_≡_, refl, sym, subst}
 use mathlib.Core.Bool.{Bool, true, false, not}
 use mathlib.Core.List.{List, [], _∷_, _++_}
 use mathlib.Core.Logic.{_⊎_, inl, inr}
 use mathlib.Core.Option.{Option, none, some, Option·some-injective, Option·none-ne-some}
-use Prim.Native.Nat.{ℕ, suc, _≤_}
+use Prim.Native.Nat.{ℕ, _≤_}
 use native.Mathlib.Omega.{arith}
 use lib.Dec.{T, eqb}
 use lib.ListN.{length, length-append}
@@ -15,6 +16,7 @@ use Rattle.sheet.specs.Lists.{Any, All, anyOf, addIf, keep}
 use Rattle.sheet.proofs.laws.base.Bools.{true-T, false-T, not-not}
 use Rattle.sheet.proofs.laws.base.ListFacts.{any-map, all-map, any-out, all-by, any-append-l, any-append-r, any-append, all-append, any-test, any-none, any-keep, any-kept, all-keep}
 use Rattle.sheet.proofs.laws.literals.LiteralSets.{within-trans}
+use Rattle.table.proofs.laws.arrays.KeptMembers.{keep-length}
 use Rattle.table.specs.Worlds.{andThen}
 use Rattle.table.specs.Minimal.{In, Antichain, putLast, putNew, put, putAll}
 
@@ -40,6 +42,11 @@ put-cases cap t c u h = go (anyOf (λ e. within e c) t) refl h
     go : (b : Bool) → anyOf (λ e. within e c) t ≡ b → putNew b cap t c ≡ some u → Placed cap t c u
     go true e h = inl (true-T (anyOf (λ x. within x c) t) e, Option·some-injective t u h)
     go false e h = inr (false-T (anyOf (λ x. within x c) t) e, last (eqb (length (others c t)) cap) refl h)
+
+-- where something comes of two steps, something came of the first
+pub then-some : {A B : Type 0} (o : Option A) (f : A → Option B) (r : B) → andThen o f ≡ some r → (q : A) × (o ≡ some q) × (f q ≡ some r)
+then-some none f r e = absurd (Option·none-ne-some r e)
+then-some (some q) f r e = (q, refl, e)
 
 -- what each put keeps, of the candidates to come and the table, the whole keeps
 put-all-keeps : (Q : List Literals → List Literals → Type 0) (cap : ℕ)
@@ -101,14 +108,6 @@ pub put-all-antichain : (cap : ℕ) (cs t u : List Literals) → putAll cap cs t
 put-all-antichain cap cs t u h a = put-all-keeps (λ cs t. Antichain t) cap (λ c cs t u e q. put-antichain cap t c u e q) cs t u h a
 
 -- ---- no more entries than the capacity
-keep-length : {A : Type 0} (f : A → Bool) (xs : List A) → length (keep f xs) ≤ length xs
-keep-length f [] = omega arith
-keep-length f (x ∷ xs) = go (f x) (keep-length f xs)
-  where
-    go : (b : Bool) → length (keep f xs) ≤ length xs → length (addIf b x (keep f xs)) ≤ suc (length xs)
-    go true h = omega arith
-    go false h = omega arith
-
 pub put-size : (cap : ℕ) (t : List Literals) (c : Literals) (u : List Literals) → put cap t c ≡ some u → length t ≤ cap → length u ≤ cap
 put-size cap t c u h b = go (put-cases cap t c u h)
   where
@@ -126,28 +125,50 @@ put-size cap t c u h b = go (put-cases cap t c u h)
 pub put-all-size : (cap : ℕ) (cs t u : List Literals) → putAll cap cs t ≡ some u → length t ≤ cap → length u ≤ cap
 put-all-size cap cs t u h b = put-all-keeps (λ cs t. length t ≤ cap) cap (λ c cs t u e q. put-size cap t c u e q) cs t u h b
 
+-- ---- a set that has a member or a candidate within it goes on having one
+module _ (x : Literals) where
+  abbrev Inside : Literals → Type 0
+  Inside e = T (within e x)
+
+  put-inside : (cap : ℕ) (t : List Literals) (c : Literals) (u : List Literals) → put cap t c ≡ some u → Any Inside t ⊎ Inside c
+      → Any Inside u
+  put-inside cap t c u h = go (put-cases cap t c u h)
+    where
+      stay : Any (λ e. Inside e × T (not (not (within c e)))) t ⊎ Any Inside (others c t) → Any Inside (others c t ++ (c ∷ []))
+      stay (inl gone) =
+          any-append-r Inside (others c t) (c ∷ [])
+          (inl (any-out (λ e. Unit {0}) (λ e. Inside e × T (not (not (within c e))))
+          (λ e _ k. within-trans c e x (not-not (within c e) (k .1)) (k .0)) t (all-by (λ e. Unit {0}) (λ e. tt) t) gone))
+      stay (inr k) = any-append-l Inside (others c t) (c ∷ []) k
+
+      go : Placed cap t c u → Any Inside t ⊎ Inside c → Any Inside u
+      go (inl l) (inl i) = subst (Any Inside) (l .1) i
+      go (inl l) (inr i) =
+          subst (Any Inside) (l .1)
+          (any-map (λ e. T (within e c)) Inside (λ e k. within-trans e c x k i) t (any-test (λ e. within e c) t (l .0)))
+      go (inr r) (inl i) = subst (Any Inside) (r .1 .0) (stay (any-kept (λ e. not (within c e)) Inside t i))
+      go (inr r) (inr i) = subst (Any Inside) (r .1 .0) (any-append-r Inside (others c t) (c ∷ []) (inl i))
+
+  pub put-all-inside : (cap : ℕ) (cs t u : List Literals) → putAll cap cs t ≡ some u → Any Inside t ⊎ Any Inside cs → Any Inside u
+  put-all-inside cap cs t u h i = done (put-all-keeps (λ cs t. Any Inside t ⊎ Any Inside cs) cap next cs t u h i)
+    where
+      next : (c : Literals) (cs t u : List Literals) → put cap t c ≡ some u → Any Inside t ⊎ Any Inside (c ∷ cs)
+          → Any Inside u ⊎ Any Inside cs
+      next c cs t u e (inl j) = inl (put-inside cap t c u e (inl j))
+      next c cs t u e (inr (inl j)) = inl (put-inside cap t c u e (inr j))
+      next c cs t u e (inr (inr j)) = inr j
+
+      done : Any Inside u ⊎ ⊥ → Any Inside u
+      done (inl j) = j
+      done (inr j) = absurd j
+
 -- ---- the worlds of the new table are those of the old and of the candidates
 module _ (n w : ℕ) where
   abbrev Holds : Literals → Type 0
   Holds e = T (within e (state n w))
 
   pub put-in : (cap : ℕ) (t : List Literals) (c : Literals) (u : List Literals) → put cap t c ≡ some u → In n t w ⊎ Holds c → In n u w
-  put-in cap t c u h = go (put-cases cap t c u h)
-    where
-      go : Placed cap t c u → In n t w ⊎ Holds c → In n u w
-      go (inl l) (inl i) = subst (λ (x : List Literals). In n x w) (l .1) i
-      go (inl l) (inr i) =
-          subst (λ (x : List Literals). In n x w) (l .1)
-          (any-map (λ e. T (within e c)) Holds (λ e k. within-trans e c (state n w) k i) t (any-test (λ e. within e c) t (l .0)))
-      go (inr r) (inl i) = subst (λ (x : List Literals). In n x w) (r .1 .0) (stay (any-kept (λ e. not (within c e)) Holds t i))
-        where
-          stay : Any (λ e. Holds e × T (not (not (within c e)))) t ⊎ Any Holds (others c t) → In n (others c t ++ (c ∷ [])) w
-          stay (inl gone) =
-              any-append-r Holds (others c t) (c ∷ [])
-              (inl (any-out (λ e. Unit {0}) (λ e. Holds e × T (not (not (within c e))))
-              (λ e _ k. within-trans c e (state n w) (not-not (within c e) (k .1)) (k .0)) t (all-by (λ e. Unit {0}) (λ e. tt) t) gone))
-          stay (inr k) = any-append-l Holds (others c t) (c ∷ []) k
-      go (inr r) (inr i) = subst (λ (x : List Literals). In n x w) (r .1 .0) (any-append-r Holds (others c t) (c ∷ []) (inl i))
+  put-in = put-inside (state n w)
 
   pub put-out : (cap : ℕ) (t : List Literals) (c : Literals) (u : List Literals) → put cap t c ≡ some u → In n u w → In n t w ⊎ Holds c
   put-out cap t c u h i = go (put-cases cap t c u h)
@@ -163,16 +184,7 @@ module _ (n w : ℕ) where
 
   -- from an empty table
   pub put-all-in : (cap : ℕ) (cs u : List Literals) → putAll cap cs [] ≡ some u → In n cs w → In n u w
-  put-all-in cap cs u h i = done (put-all-keeps (λ cs t. In n t w ⊎ In n cs w) cap next cs [] u h (inr i))
-    where
-      next : (c : Literals) (cs t u : List Literals) → put cap t c ≡ some u → In n t w ⊎ In n (c ∷ cs) w → In n u w ⊎ In n cs w
-      next c cs t u e (inl j) = inl (put-in cap t c u e (inl j))
-      next c cs t u e (inr (inl j)) = inl (put-in cap t c u e (inr j))
-      next c cs t u e (inr (inr j)) = inr j
-
-      done : In n u w ⊎ ⊥ → In n u w
-      done (inl j) = j
-      done (inr j) = absurd j
+  put-all-in cap cs u h i = put-all-inside (state n w) cap cs [] u h (inr i)
 
   pub put-all-out : (cap : ℕ) (cs u : List Literals) → putAll cap cs [] ≡ some u → In n u w → In n cs w
   put-all-out cap all u h i = put-all-keeps (λ cs t. In n t w ⊎ In n cs w → In n all w) cap next all [] u h first (inl i)
