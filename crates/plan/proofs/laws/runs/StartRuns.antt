@@ -1,5 +1,5 @@
--- Runs of any plan from the start table of a problem: the verdict by the tables and by the starting worlds; they are exact. Assumes
--- nothing.
+-- Any plan of a problem, run from its start table: the verdict by the tables T_k (`by-reached` and so on) and by the starting worlds
+-- (`verdict-is`). For RunPlaces and RunDemands (TH5), and for StartSearches and ExactRuns. Assumes nothing.
 use mathlib.Core.Path.{_≡_, refl, sym, ap, subst, _∙_}
 use mathlib.Core.Bool.{Bool, true, false}
 use mathlib.Core.List.{List}
@@ -20,25 +20,22 @@ use Rattle.sheet.proofs.laws.base.ListFacts.{all-map, all-imaged}
 use Rattle.table.specs.Worlds.{Starting, InGoal}
 use Rattle.table.specs.Minimal.{In, Described, refused, table}
 use Rattle.table.specs.Start.{startTable}
-use Rattle.table.specs.Picture.{picture}
 use Rattle.table.specs.Calls.{actionAt}
 use Rattle.table.proofs.Demands.{start-table}
 use Rattle.table.proofs.laws.steps.StepWorlds as stepping
 use Rattle.table.proofs.laws.steps.StepWorlds.{code-is, table-refused}
-use Rattle.table.proofs.laws.pictures.Primes.{primeList-same}
-use Rattle.table.proofs.laws.pictures.PictureWorlds.{picture-list, picture-ascending, picture-worlds}
 use Rattle.table.proofs.laws.starts.StartArrays.{at-proper}
 use Rattle.plan.specs.Run.{actionsOf, inGoal, Verdict, reached, short, stopped, full, endedIn, haltedBy, runFrom, lastTable}
-use Rattle.plan.specs.inner.TableRuns.{movesTaken}
+use Rattle.plan.specs.inner.TableRuns.{movesTaken, tableAt, Refuses}
 use Rattle.plan.specs.Calls.{verdictOf}
-use Rattle.plan.specs.inner.TableRuns.{tableAt, Refuses}
-use Rattle.plan.specs.Meaning.{Ends, Every, Comes}
 use Rattle.plan.specs.inner.RunEnds.{Means}
 use Rattle.plan.specs.Demand3.{takenBy}
 use Rattle.plan.proofs.laws.runs.GoalWorlds.{goal-each, goal-lacks, goal-entries}
 use Rattle.plan.proofs.laws.runs.RunTables.{Story, story, run-ended, run-refused, last-at, taken-all, taken-refused}
-use Rattle.plan.proofs.laws.runs.Verdicts.{Arrives, all-next, arrives, run-means, one-verdict}
-use Rattle.plan.proofs.laws.runs.ExactRuns.{Exact}
+use Rattle.plan.proofs.laws.runs.PlanWorlds.{all-next}
+use Rattle.plan.proofs.laws.runs.ArrivedWorlds.{Arrives, arrives}
+use Rattle.plan.proofs.laws.runs.VerdictWorlds.{run-means}
+use Rattle.plan.proofs.laws.runs.VerdictClasses.{one-verdict}
 
 -- ---- the moves of a plan are the sheet's
 pub plan-proper : (p : Problem) → ProperProblem p → (q : List ℕ) → All (λ i. i < length (p .actions)) q
@@ -207,23 +204,3 @@ module _ (p : Problem) (hp : ProperProblem p) (t : List Literals) (starts : star
     λ e. subst (Means (p .n) (p .goal) (Starting p) plan) e verdict-means,
     one-verdict (p .n) (p .goal) (Starting p) plan verdict v f g verdict-means,
   )
-
-  -- ---- the run is exact
-  pub table-exact : Exact p plan verdict (picture (lastTable 128 plan t))
-  table-exact = record {
-    means = verdict-means;
-    defined = subst (Every (p .n) (Starting p) Ends) (sym taken) (last-arrives .defined);
-    ascending = λ s e. picture-ascending (hp .n-most) (last-arrives .described) e .0;
-    primes = λ s e. primeList-same same (picture-list (hp .n-most) (last-arrives .described) e);
-    worlds = λ s e w l.
-        let x = same w l in
-        let y = picture-worlds (hp .n-most) (last-arrives .described) e w l in
-        (λ i. y .0 (x .1 i), λ i. x .0 (y .1 i));
-  }
-    where
-      taken : takenBy (verdictOf verdict) plan ≡ take (movesTaken 128 plan t) plan
-      taken = taken-by 128 (p .goal) plan t plan refl
-
-      same : (w : ℕ) → w < 2 ^ p .n → In (p .n) (lastTable 128 plan t) w ↔ Comes (p .n) (Starting p) (takenBy (verdictOf verdict) plan) w
-      same w l = subst (λ (a : List Action). In (p .n) (lastTable 128 plan t) w ↔ Comes (p .n) (Starting p) a w) (sym taken)
-          (last-arrives .worlds w l)

@@ -2,8 +2,7 @@
 use mathlib.Core.Path.{_∙_}
 use Rattle.sheet.specs.inner.Decoded.{statementIn}
 use Rattle.sheet.proofs.laws.reader.ReadSheets.{filled, refused-says, accepted-says}
-use Rattle.plan.proofs.laws.runs.CourseSteps.{course-few, course-run, course-fault}
-use Rattle.plan.proofs.laws.runs.RunLoop.{in-zeros}
+use Rattle.plan.proofs.laws.runs.CourseOfBytes.{course-few, course-run, course-fault, in-zeros}
 use borrow.Author.Needs.{needs}
 use Rattle.plan.proofs.runs.course_into.Statement.{statement}
 use Rattle.plan.proofs.runs.course_into.Tie as tie

@@ -1,8 +1,8 @@
 -- `plan::runs::run_sheet` meets its contract. Assumes nothing.
 use mathlib.Core.Path.{refl, _∙_}
 use Rattle.table.specs.Entries.{entries}
-use Rattle.plan.proofs.laws.runs.RunLoop.{in-zeros}
-use Rattle.plan.proofs.laws.searches.SheetSearches.{can-run, run-is, run-stops}
+use Rattle.plan.proofs.laws.runs.CourseOfBytes.{in-zeros}
+use Rattle.plan.proofs.laws.searches.SheetStarts.{can-run, run-is, run-stops}
 use borrow.Author.Needs.{needs}
 use Rattle.plan.proofs.runs.run_sheet.Statement.{statement}
 use Rattle.plan.proofs.runs.run_sheet.Tie as tie

@@ -9,7 +9,7 @@ use Rattle.sheet.specs.inner.Packed.{goalIn, movesIn, setsIn, actionOf}
 use Rattle.table.specs.Entries.{entriesOf, entries}
 use Rattle.plan.specs.Search.{nothing}
 use Rattle.plan.specs.inner.Searches.{firstBy}
-use Rattle.plan.proofs.laws.searches.FirstAnswers.{firstBelow}
+use Rattle.plan.proofs.laws.searches.FirstByMove.{firstBelow}
 use Rattle.plan.proofs.laws.searches.SearchReturns.{no-answer, at-goal, at-short, not-yet, found-now, none-at-all}
 use Rattle.plan.proofs.laws.searches.SearchMoves.{trues-long, falses-long, slots-room, storable, move-fits, ready-after, quiet-next, begun-same, begun-ended, begun-not, begun-full, begun-stopped}
 use Rattle.plan.specs.inner.Memory.{Remembers}

@@ -10,8 +10,8 @@ use Rattle.table.specs.Entries.{entriesOf, entries}
 use Rattle.plan.specs.Search.{nothing}
 use Rattle.sheet.specs.inner.Packed.{actionOf}
 use Rattle.plan.specs.inner.Searches.{firstFrom}
-use Rattle.plan.proofs.laws.searches.FirstAnswers.{firstBelow}
-use Rattle.plan.proofs.laws.searches.Pruning.{quiet-lengths}
+use Rattle.plan.proofs.laws.searches.FirstByMove.{firstBelow}
+use Rattle.plan.proofs.laws.searches.NoShorterPlans.{quiet-lengths}
 use Rattle.plan.proofs.laws.searches.SearchReturns.{length-found, length-next, length-none}
 use lib.ListN as N
 use Rattle.plan.specs.inner.Memory.{Remembers}

@@ -1,7 +1,7 @@
 -- `plan::searches::search_sheet` meets its contract. Assumes nothing.
 use mathlib.Core.Path.{_∙_, refl, sym}
 use borrow.Author.Needs.{needs}
-use Rattle.plan.proofs.laws.searches.SheetSearches.{can-search, search-is, search-stops}
+use Rattle.plan.proofs.laws.searches.SheetStarts.{can-search, search-is, search-stops}
 use Rattle.plan.proofs.laws.searches.SearchMoves.{trues-long, falses-long}
 use Rattle.plan.proofs.searches.search_sheet.Statement.{statement}
 use Rattle.plan.proofs.searches.search_sheet.Tie as tie
