@@ -18,8 +18,10 @@ use prog.Wp.{Heap, Env, Calls, Loops, Wp, atReturn, WpFn, Tables}
 use ghost.Atoms.{Atoms, sem}
 use contract.Monad.{Fun, fact}
 use contract.Running.{givenOf, tables, tablesOf}
-use types.Kit.{Given, Item, mean, ‵, raw, _⊛_, some, later, ⋆, atRet, Sq, params′, runs, _$_, _∵_, !, qed, by, move, keep, drop, use1, use2, split, join, pick, learn, rewrite, check, fsplit, fjoin, feqL, show, suffices, frame, await, updating, now as at-once, done}
-use types.Run.{look, init, forget, stop, hop, fld, from, load, of-opd, addr, and-then, no-more, assigns, calls, land, returns, params1, pass1, pass0, free1, free0, exec}
+use types.Kit.{Given, Item, mean, ‵, raw, _⊛_, some, later, ⋆, atRet, Sq, params′, runs, _$_, _∵_, !, qed, by, move, keep, drop, use1, use2}
+use types.Kit.{split, join, pick, learn, rewrite, check, fsplit, fjoin, feqL, show, suffices, frame, await, updating, now as at-once, done}
+use types.Run.{look, init, forget, stop, hop, fld, from, load, of-opd, addr, and-then, no-more, assigns, calls, land, returns, params1}
+use types.Run.{pass1, pass0, free1, free0, exec}
 use types.Part.{agg, whole, sub, look-in}
 use sound.WpLaws.{FmC, fmOf, WpFn-mono}
 use denote.RattleType.{owns}

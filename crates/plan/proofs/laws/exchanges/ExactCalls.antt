@@ -114,7 +114,8 @@ module _ (s : List ℕ) (x : Statement) (says : sheetOf s ≡ accepted x) (rows 
   called f = go (start-kind 128 (x .problem))
     where
       not : {X : Type 0} (N : ℕ) → startTable 128 (x .problem) ≡ refused N → X
-      not N e = unfold runRefused refusedVerdict refusedRun in absurd (true≢false (sym (ap runRefused (refused-call s x says rows enough N e)) ∙ f))
+      not N e = unfold runRefused refusedVerdict refusedRun in
+          absurd (true≢false (sym (ap runRefused (refused-call s x says rows enough N e)) ∙ f))
 
       go : (startTable 128 (x .problem) ≡ refused 20) ⊎
           ((startTable 128 (x .problem) ≡ refused 21) ⊎ ((t : List Literals) × (startTable 128 (x .problem) ≡ table t)))
@@ -132,5 +133,6 @@ module _ (s : List ℕ) (x : Statement) (says : sheetOf s ≡ accepted x) (rows 
           ((startTable 128 (x .problem) ≡ refused 21) ⊎ ((t : List Literals) × (startTable 128 (x .problem) ≡ table t)))
           → Called p (actionsOf p (x .plan)) (runOf (sheetOf s) rows)
       go (inl e) = absurd (start-20 p (statement-proper s x says .problem) 128 e w l st)
-      go (inr (inl e)) = unfold runFull fullVerdict refusedRun in absurd (true≢false (sym (ap runFull (refused-call s x says rows enough 21 e)) ∙ f))
+      go (inr (inl e)) = unfold runFull fullVerdict refusedRun in
+          absurd (true≢false (sym (ap runFull (refused-call s x says rows enough 21 e)) ∙ f))
       go (inr (inr k)) = called-table (k .0) (k .1)

@@ -46,14 +46,14 @@ ready-count n t h = let e = length-entriesOf (t .count) (t .trues) (t .falses) i
 -- ---- the start of a problem
 module _ (p : Problem) (g : ProperProblem p) (s : TableAnswer) (is : s ≡ orGiven (tableOf []) (startTable 128 p)) (a : s .answer ≡ Accepted)
   where
-  first : (u : List Literals) × (startTable 128 p ≡ table u) × (s .table ≡ tableOf u)
-  first = stepped (tableOf []) _ s is a
+    first : (u : List Literals) × (startTable 128 p ≡ table u) × (s .table ≡ tableOf u)
+    first = stepped (tableOf []) _ s is a
 
-  first-described : Described 128 (p .n) (first .0)
-  first-described = start-table p g 128 (first .0) (first .1) .0 (omega arith)
+    first-described : Described 128 (p .n) (first .0)
+    first-described = start-table p g 128 (first .0) (first .1) .0 (omega arith)
 
-  pub start-ready : Ready (p .n) (s .table)
-  start-ready = subst (Ready (p .n)) (sym (first .2)) (ready-table (p .n) (first .0) first-described)
+    pub start-ready : Ready (p .n) (s .table)
+    start-ready = subst (Ready (p .n)) (sym (first .2)) (ready-table (p .n) (first .0) first-described)
 
-  pub started : startTable 128 p ≡ table (entries (s .table))
-  started = first .1 ∙ ap table (sym (ap entries (first .2) ∙ entries-table (first .0) (first-described .most)))
+    pub started : startTable 128 p ≡ table (entries (s .table))
+    started = first .1 ∙ ap table (sym (ap entries (first .2) ∙ entries-table (first .0) (first-described .most)))

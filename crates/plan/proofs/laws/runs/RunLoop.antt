@@ -22,6 +22,7 @@ use Rattle.table.specs.declared.steps.Stepped.the-variants as moved
 use Rattle.table.specs.Minimal.{Outcome, refused, table}
 use Rattle.table.specs.Step.{stepTable}
 use Rattle.table.specs.Entries.{entriesOf, entries, lent, tableOf}
+use Rattle.table.specs.inner.Slots.{Room}
 use Rattle.table.specs.Calls.{orGiven}
 use Rattle.table.specs.inner.Steps.{stepAnswer}
 use Rattle.plan.specs.declared.Row.{Row}
@@ -32,11 +33,11 @@ use Rattle.plan.specs.Run.{inGoal, endedIn, haltedBy, rowOf, onward, run
 use Rattle.plan.specs.Calls.{verdictOf}
 use Rattle.plan.specs.inner.Course.{countsOf, countsIn, FreshRows, noted, courseFrom}
 use Rattle.plan.specs.inner.Searches.{Runnable}
-use Rattle.plan.proofs.laws.searches.SearchMoves.{ready-after, came, refused-by}
+use Rattle.plan.proofs.laws.searches.SearchMoves.{slots-room, ready-after, came, refused-by}
 use Rattle.sheet.specs.declared.Answer.the-variants.{Refused}
 use Rattle.sheet.specs.declared.Literals.{Literals}
 use Rattle.sheet.proofs.laws.base.Padding.{pad-set}
-use Rattle.plan.proofs.laws.runs.ReadyTables.{stopped}
+use Rattle.plan.proofs.laws.runs.ReadyTables.{stopped, ready-count}
 
 -- ---- one row more
 pub note-row : (rows : List Row) (place : ℕ) (t : List Literals) → length rows < 65
@@ -222,3 +223,8 @@ module _ {plan : Plan} {packed : List ℕ} {whole : Course} {i : ℕ} {t : Table
           ∙ sym (halted (setsIn (goalIn packed)) (h .rows) i (actionOf (movesIn packed) m) (left plan packed (i + 1)) (entries t) k
           (refused-by (h .can .fits) below r us gs told e i 0))
           ∙ unrolled
+
+-- what noting a row asks
+pub going-note : {plan : Plan} {packed : List ℕ} {whole : Course} {i n : ℕ} {ts fs : List ℕ} {c : Counts}
+    → Going plan packed whole i (lent n ts fs) c → ((c .count < 65) × (1 ≤ n)) × Room n ts fs
+going-note v = ((going-room v, ready-count (v .can .fits .n) _ (v .can .fits .ready) .0), slots-room (v .can .fits))

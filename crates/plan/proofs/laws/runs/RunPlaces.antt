@@ -319,12 +319,14 @@ module _ (s : List ℕ) (x : Statement) (says : Says s x) where
       taken-first = ap (λ (v : case.Verdict). takenBy v (x .plan)) call-verdict ∙ taken-by 128 (x .problem .goal) plan t (x .plan) size
 
       taken-count : length (taken s x rows) ≡ movesTaken 128 plan t
-      taken-count = ap length taken-first ∙ length-take-le (movesTaken 128 plan t) (x .plan) (omega (arith, size, running.taken-within 128 plan t))
+      taken-count =
+          ap length taken-first ∙ length-take-le (movesTaken 128 plan t) (x .plan) (omega (arith, size, running.taken-within 128 plan t))
 
       last-is : arrived s (taken s x rows) ≡ some (runOf (sheetOf s) rows .table)
       last-is =
           ap (arrived s) taken-first
-          ∙ arrived-some (movesTaken 128 plan t) (lastTable 128 plan t) (omega (arith, size, running.taken-within 128 plan t)) (last-at 128 plan t)
+          ∙ arrived-some (movesTaken 128 plan t) (lastTable 128 plan t) (omega (arith, size, running.taken-within 128 plan t))
+          (last-at 128 plan t)
           ∙ ap some (sym (ap (λ (r : RunAnswer). r .table) (run-call s x says rows enough t starts)))
 
       -- ---- the rows

@@ -26,8 +26,10 @@ use prog.Wp.{Heap, Out, Env, afterSeq, afterBlock, afterTurn, Calls, Loops, Wp, 
 use ghost.Atoms.{Atoms, sem}
 use contract.Monad.{Fun, fact}
 use contract.Running.{givenOf, tables, tablesOf}
-use types.Kit.{Given, Item, mean, ‵, raw, _⊛_, some, later, ⋆, anyQ, atRet, Sq, params′, runs, _$_, _∵_, !, qed, by, move, keep, drop, use0, use1, use2, split, join, pick, learn, rewrite, fsplit, fjoin, feqI, suffices, frame, await, done}
-use types.Run.{look, init, store, forget, stop, hop, fld, from, load, lit, unit-lit, of-opd, bin, addr, and-then, no-more, assigns, assigns-last, stays, leaves-loop, calls, land, returns, params1, pass1, pass0, free1, free0, exec, again, Below}
+use types.Kit.{Given, Item, mean, ‵, raw, _⊛_, some, later, ⋆, anyQ, atRet, Sq, params′, runs, _$_, _∵_, !, qed, by, move, keep, drop, use0}
+use types.Kit.{use1, use2, split, join, pick, learn, rewrite, fsplit, fjoin, feqI, suffices, frame, await, done}
+use types.Run.{look, init, store, forget, stop, hop, fld, from, load, lit, unit-lit, of-opd, bin, addr, and-then, no-more, assigns}
+use types.Run.{assigns-last, stays, leaves-loop, calls, land, returns, params1, pass1, pass0, free1, free0, exec, again, Below}
 use types.Part.{agg, whole, sub, look-in}
 use sound.WpLaws.{FmC, fmOf, WpFn-mono}
 use sound.Loop.{loop-rule}
