@@ -74,6 +74,16 @@ unfolding orGiven
 number-of t (Outcome.refused k) N e = let i : k ≡ N = cc in ap Outcome.refused i
 number-of t (Outcome.table u) N e = absurd (let z : _≡_ {A = ℕ} 0 1 = cc in omega arith)
 
+-- row i after the run, of the table that the first i moves arrive at
+abbrev RowAt : List ℕ → Statement → List Row → ℕ → Row → Type 0
+RowAt s x rows i d = (u : Table) × (arrived s (take i (x .plan)) ≡ some u)
+    × (getD (rowsAfter (sheetOf s) rows) i d
+    ≡ record {
+      place = i;
+      entries = u .count;
+      clauses = clausesOr (pictureOf (sheetOf s) u 2050 .answer) (pictureOf (sheetOf s) u 2050 .clauses);
+    })
+
 module _ (s : List ℕ) (x : Statement) (says : Says s x) where
   abbrev p : Problem
   p = x .problem
@@ -362,15 +372,7 @@ module _ (s : List ℕ) (x : Statement) (says : Says s x) where
       abbrev wrote : List Row
       wrote = rowsOf (sheetOf s) (length rows)
 
-      row-is : (i : ℕ) → i ≤ length (taken s x (length rows)) → (d : Row)
-          → (u : Table) × (arrived s (take i (x .plan)) ≡ some u)
-          × (getD (rowsAfter (sheetOf s) rows) i d
-          ≡ record {
-            place = i;
-            entries = u .count;
-            clauses = clausesOr (pictureOf (sheetOf s) u 2050 .answer)
-                (pictureOf (sheetOf s) u 2050 .clauses);
-          })
+      row-is : (i : ℕ) → i ≤ length (taken s x (length rows)) → (d : Row) → RowAt s x rows i d
       row-is i l d = (tableOf (k .0), arrived-some i (k .0) below (k .1), inside ∙ row)
         where
           below : i ≤ length (x .plan)
@@ -483,15 +485,7 @@ module _ (s : List ℕ) (x : Statement) (says : Says s x) where
   run-last rows f = last-is (run-starts s x says rows f .0) (run-starts s x says rows f .1) rows (rows-enough s x says rows f)
 
   pub run-row : (rows : List Row) → runRefused (runOf (sheetOf s) (length rows)) ≡ false → (i : ℕ) → i ≤ length (taken s x (length rows))
-      → (d : Row)
-      → (u : Table) × (arrived s (take i (x .plan)) ≡ some u)
-      × (getD (rowsAfter (sheetOf s) rows) i d
-      ≡ record {
-        place = i;
-        entries = u .count;
-        clauses = clausesOr (pictureOf (sheetOf s) u 2050 .answer)
-            (pictureOf (sheetOf s) u 2050 .clauses);
-      })
+      → (d : Row) → RowAt s x rows i d
   run-row rows f = row-is (run-starts s x says (length rows) f .0) (run-starts s x says (length rows) f .1) rows
       (rows-enough s x says (length rows) f)
 

@@ -147,52 +147,50 @@ module _ (p : Problem) (hp : ProperProblem p) (t : List Literals) (starts : star
           (stepping.step-kind (p .n) (hp .n-most) (r .move)
           (all-next (ProperAction (p .n)) (x .0) plan (r .move) (r .later) (r .next) moves) (r .last) (a .described .proper) 128)))
 
-  pub by-stopped : (k N : ℕ) → (verdict ≡ stopped k N) ↔ Stopped k N
+  -- and the verdict is the one that is meant
+  is-meant : (v : Verdict) → Meant v → verdict ≡ v
   unfolding Meant
-  by-stopped k N = (λ e. subst Meant e meant, back)
+  is-meant reached x =
+      run-ended 128 (p .goal) 0 plan t (x .0) (x .1)
+      ∙ ap endedIn (T-true (allOf (inGoal (p .goal)) (x .0))
+      (goal-entries (p .n) (p .goal) (x .0) goals (place-arrives (length plan) (x .0) (x .1) .described .proper) .1 (x .2)))
+  is-meant short x =
+      run-ended 128 (p .goal) 0 plan t (x .0) (x .1)
+      ∙ ap endedIn (T-false (allOf (inGoal (p .goal)) (x .0))
+      (not-in (allOf (inGoal (p .goal)) (x .0)) (λ g. x .2 .3 (goal-each (p .n) (p .goal) (x .0) g (x .2 .0) (x .2 .2)))))
+  is-meant (stopped k N) x = go (x .3)
     where
-      back : Stopped k N → verdict ≡ stopped k N
-      back x = go (x .3)
-        where
-          at : suc (0 + x .0) ≡ k
-          at = omega (arith, x .1)
+      by : (c : ℕ) → N ≡ c → verdict ≡ haltedBy (eqb c 21) k c
+      by c e =
+          let at : suc (0 + x .0) ≡ k = omega (arith, x .1) in
+          run-refused 128 (p .goal) 0 plan t (x .0) c (subst (Refuses 128 plan t (x .0)) e (x .2))
+          ∙ ap (λ (i : ℕ). haltedBy (eqb c 21) i c) at
 
-          by : (c : ℕ) → N ≡ c → runFrom 128 (p .goal) 0 plan t ≡ haltedBy (eqb c 21) k c
-          by c e =
-              run-refused 128 (p .goal) 0 plan t (x .0) c (subst (Refuses 128 plan t (x .0)) e (x .2))
-              ∙ ap (λ (i : ℕ). haltedBy (eqb c 21) i c) at
+      go : (N ≡ 24) ⊎ (N ≡ 25) → verdict ≡ stopped k N
+      go (inl e) = by 24 e ∙ ap (stopped k) (sym e)
+      go (inr e) = by 25 e ∙ ap (stopped k) (sym e)
+  is-meant (full k) x =
+      let at : suc (0 + x .0) ≡ k = omega (arith, x .1) in
+      run-refused 128 (p .goal) 0 plan t (x .0) 21 (x .2) ∙ ap full at
 
-          go : (N ≡ 24) ⊎ (N ≡ 25) → runFrom 128 (p .goal) 0 plan t ≡ stopped k N
-          go (inl e) = by 24 e ∙ ap (stopped k) (sym e)
-          go (inr e) = by 25 e ∙ ap (stopped k) (sym e)
-
-  pub by-full : (k : ℕ) → (verdict ≡ full k) ↔ Filled k
-  unfolding Meant
-  by-full k = (
-    λ e. subst Meant e meant,
-    λ x. let e : suc (0 + x .0) ≡ k = omega (arith, x .1) in run-refused 128 (p .goal) 0 plan t (x .0)
-        21 (x .2) ∙ ap full e,
-  )
+  by-verdict : (v : Verdict) → (verdict ≡ v) ↔ Meant v
+  by-verdict v = (λ e. subst Meant e meant, is-meant v)
 
   pub by-reached : (verdict ≡ reached) ↔ Reached
   unfolding Meant
-  by-reached = (
-    λ e. subst Meant e meant,
-    λ x.
-        run-ended 128 (p .goal) 0 plan t (x .0) (x .1)
-        ∙ ap endedIn (T-true (allOf (inGoal (p .goal)) (x .0))
-        (goal-entries (p .n) (p .goal) (x .0) goals (place-arrives (length plan) (x .0) (x .1) .described .proper) .1 (x .2))),
-  )
+  by-reached = by-verdict reached
 
   pub by-short : (verdict ≡ short) ↔ Short
   unfolding Meant
-  by-short = (
-    λ e. subst Meant e meant,
-    λ x.
-        run-ended 128 (p .goal) 0 plan t (x .0) (x .1)
-        ∙ ap endedIn (T-false (allOf (inGoal (p .goal)) (x .0))
-        (not-in (allOf (inGoal (p .goal)) (x .0)) (λ g. x .2 .3 (goal-each (p .n) (p .goal) (x .0) g (x .2 .0) (x .2 .2))))),
-  )
+  by-short = by-verdict short
+
+  pub by-stopped : (k N : ℕ) → (verdict ≡ stopped k N) ↔ Stopped k N
+  unfolding Meant
+  by-stopped k N = by-verdict (stopped k N)
+
+  pub by-full : (k : ℕ) → (verdict ≡ full k) ↔ Filled k
+  unfolding Meant
+  by-full k = by-verdict (full k)
 
   -- ---- (d) by the starting worlds
   pub verdict-means : Means (p .n) (p .goal) (Starting p) plan verdict
