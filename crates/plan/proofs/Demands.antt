@@ -1,28 +1,36 @@
 -- The three demands and the request W2, as specs/Demands states them, each proved whole. Assumes nothing.
-use mathlib.Core.Path.{_≡_, refl}
+use mathlib.Core.Path.{_≡_, refl, ap}
 use mathlib.Core.List.{List}
 use Prim.Native.Nat.{ℕ}
 use native.Mathlib.Omega.{arith}
 use lib.ListN.{length}
 use Rattle.sheet.specs.Problem.{Action, Statement}
-use Rattle.sheet.specs.Format.{sheetOf}
+use Rattle.sheet.specs.Format.{sheetOf, refused}
 use Rattle.sheet.specs.Faults.{Says}
 use Rattle.sheet.proofs.Demands as sheets
+use Rattle.sheet.specs.declared.Answer.the-variants.{Refused}
+use Rattle.sheet.specs.Calls.{judgeOf}
 use Rattle.table.specs.declared.Table.{Table}
 use Rattle.table.proofs.Demands as tables
 use Rattle.table.proofs.laws.answers.CallDemands as tabled
 use Rattle.table.proofs.laws.answers.CallTables as returned
 use Rattle.table.proofs.laws.steps.PaperWorlds as paper
 use Rattle.table.proofs.laws.answers.UnreadSlots as unread
+use Rattle.table.specs.declared.TableAnswer.{TableAnswer}
+use Rattle.table.specs.PictureCalls.{refusal, pictureOf}
 use Rattle.plan.specs.Run.{reached, short, stopped}
-use Rattle.plan.specs.Calls.{verdictOf}
+use Rattle.plan.specs.Calls.{verdictOf, refusedRun, refusedSearch}
 use Rattle.plan.specs.Demand3.{SamePlanSheet}
-use Rattle.plan.specs.Demands.{MaskDemand, JudgeDemand, StartDemand, StepDemand, PictureDemand, RunDemand, SearchDemand, BackDemand, Demand1, PaperDemand, TableWorlds, RunWorlds, SearchFinds, Demand2, ExchangeDemand, FinalDemand, TwoPlans, Demand3, RequestW2}
-use Rattle.plan.proofs.laws.runs.CallAnswers as answers
-use Rattle.plan.proofs.laws.runs.RunAnswers as ran
-use Rattle.plan.proofs.laws.runs.CallDemands as called
+use Rattle.plan.specs.Demands.{MaskDemand, JudgeDemand, StartDemand, StepDemand, PictureDemand, RunDemand, SearchDemand, BackDemand}
+use Rattle.plan.specs.Demands.{Demand1, PaperDemand, TableWorlds, RunWorlds, SearchFinds, Demand2, ExchangeDemand, FinalDemand}
+use Rattle.plan.specs.Demands.{TwoPlans, Demand3, RequestW2, FaultDemand}
+use Rattle.plan.specs.declared.RunAnswer.{RunAnswer}
+use Rattle.plan.specs.declared.SearchAnswer.{SearchAnswer}
+use Rattle.plan.proofs.laws.runs.RunRefusals as refusals
 use Rattle.plan.proofs.laws.runs.RunPlaces as places
 use Rattle.plan.proofs.laws.runs.RunDemands as runs
+use Rattle.plan.proofs.laws.searches.SearchRefusals as unfound
+use Rattle.plan.proofs.laws.searches.CarriedPlans as carried
 use Rattle.plan.proofs.laws.searches.SearchDemands as searches
 use Rattle.plan.proofs.laws.exchanges.CommutingMoves as commuting
 use Rattle.plan.proofs.laws.exchanges.TouchingMoves as touching
@@ -51,6 +59,23 @@ judge s = record {
   longest = sheets.judge-longest s;
   first-decide = sheets.judge-first s;
 }
+
+picture-fault : (s : List ℕ) (t : Table) (len k p : ℕ) → sheetOf s ≡ refused k p → pictureOf (sheetOf s) t len .answer ≡ Refused k p
+unfolding pictureOf refusal
+picture-fault s t len k p e = rw e
+
+-- every call refuses with the sheet's fault first
+fault : (s : List ℕ) (k p : ℕ) → judgeOf s ≡ Refused k p → FaultDemand s k p
+unfolding refusedRun refusedSearch
+fault s k p j =
+    let e = sheets.judge-refuses s k p .0 j in
+    record {
+      start = ap (λ (r : TableAnswer). r .answer) (tables.start-fault s k p e);
+      step = λ t m. ap (λ (r : TableAnswer). r .answer) (tables.step-fault s t m k p e);
+      picture = λ t len. picture-fault s t len k p e;
+      run = λ rows. ap (λ (r : RunAnswer). r .verdict) (refusals.run-fault s rows k p e);
+      search = λ limit. ap (λ (r : SearchAnswer). r .kind) (unfound.search-fault s limit k p e);
+    }
 
 start : (s : List ℕ) (x : Statement) → Says s x → StartDemand s x
 start s x says = record {
@@ -87,29 +112,29 @@ picture s x says t = record {
 
 run : (s : List ℕ) (x : Statement) → Says s x → RunDemand s x
 run s x says = record {
-  on-23 = called.run-few s x says;
-  start = called.run-start s x says;
+  on-23 = refusals.run-few s x says;
+  start = refusals.run-start s x says;
   reached = places.run-reached-at s x says;
   short = places.run-short-at s x says;
   stopped = places.run-stopped-at s x says;
   full = places.run-full-at s x says;
   last = places.run-last s x says;
-  returned = called.run-table s x says;
+  returned = refusals.run-table s x says;
   row = places.run-row s x says;
   rest = places.run-rest s x says;
 }
 
 search : (s : List ℕ) (x : Statement) → Says s x → SearchDemand s x
-search s x says = record { on-8 = called.search-above s x says; start = called.search-start s x says }
+search s x says = record { on-8 = unfound.search-above s x says; start = unfound.search-start s x says }
 
 back : (s : List ℕ) → BackDemand s
 back s = record {
   refused-start = tables.start-back s;
   refused-step = tables.step-back s;
   refused-picture = tables.picture-back s;
-  refused-run = λ rows k q e. (answers.run-back s (length rows) k q e, answers.run-rows-kept s rows k q e);
+  refused-run = λ rows k q e. (refusals.run-back s (length rows) k q e, refusals.run-rows-kept s rows k q e);
   rows-length = places.rows-length s;
-  refused-search = answers.search-back s;
+  refused-search = unfound.search-back s;
   nothing-found = searches.search-no-plan s;
   eight-bytes = searches.search-bytes s;
   unread = λ t u e. (unread.step-unread t u e (sheetOf s), unread.picture-unread t u e (sheetOf s), unread.buffer-unread t u e (sheetOf s));
@@ -147,7 +172,7 @@ run-worlds s x says = record {
 
 search-finds : (s : List ℕ) (x : Statement) → Says s x → SearchFinds s x
 search-finds s x says = record {
-  carried = λ q h. ran.carried (x .problem) (sheets.statement-proper s x says .problem) q (h .0) (h .1);
+  carried = λ q h. carried.carried (x .problem) (sheets.statement-proper s x says .problem) q (h .0) (h .1);
   plan-ignored = λ r y. searches.plan-ignored s r x y;
   reached = searches.search-reached s x says;
   nothing = searches.search-none s x says;
@@ -188,7 +213,7 @@ pub demand-1 : Demand1
 demand-1 = record {
   masks = masks;
   judge = judge;
-  fault = called.fault-first;
+  fault = fault;
   start = start;
   step = step;
   picture = picture;

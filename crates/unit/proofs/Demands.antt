@@ -19,7 +19,8 @@ use Rattle.plan.specs.declared.Row.{Row}
 use Rattle.plan.specs.declared.Verdict.the-variants as ran
 use Rattle.plan.specs.declared.Kind.the-variants as kind
 use Rattle.plan.specs.Calls.{runOf, searchOf}
-use Rattle.plan.proofs.laws.runs.CallAnswers.{run-none, run-back, search-back}
+use Rattle.plan.proofs.laws.runs.RunRefusals.{run-none, run-back}
+use Rattle.plan.proofs.laws.searches.SearchRefusals.{search-back}
 use Rattle.unit.specs.Numbers.{tableIn, tableOut, rowNumbers}
 use Rattle.unit.specs.Calls.{runTable, rowsWith, rowsOut}
 

@@ -12,7 +12,7 @@ use Rattle.sheet.specs.Calls.{judgeOf}
 use Rattle.table.specs.declared.Table.{Table}
 use Rattle.table.specs.declared.TableAnswer.{TableAnswer}
 use Rattle.table.specs.declared.PictureAnswer.{PictureAnswer}
-use Rattle.sheet.proofs.laws.base.Bools.{cond-false}
+use Rattle.sheet.proofs.laws.base.Bools.{cond-true, cond-false}
 use Rattle.table.specs.Calls.{startOf, stepOf}
 use Rattle.table.specs.PictureCalls.{pictureOf}
 use Rattle.plan.specs.declared.SearchAnswer.{SearchAnswer}
@@ -40,6 +40,11 @@ module _ (n : ℕ) (xs info : List ℕ) where
   pub lacks-none : n ≤ length xs → 4 ≤ length info → tooShort n xs info ≡ false
   unfolding tooShort
   lacks-none h k = ap (λ (t : Bool). t || ltb (length info) 4) (le-ltb (length xs) n h) ∙ le-ltb (length info) 4 k
+
+-- ---- then nothing is written, and the answer is 255
+pub unwritten : {b : Bool} {xs info : List ℕ} → b ≡ true → (answer : ℕ) (ys zs : List ℕ)
+    → (255 ≡ cond b 255 answer) × ((xs ≡ cond b xs ys) × (info ≡ cond b info zs))
+unwritten lacks answer ys zs = (cond-true _ _ lacks, (cond-true _ _ lacks, cond-true _ _ lacks))
 
 -- ---- the answer byte and info, once the slices are long enough
 module _ {b : Bool} (enough : b ≡ false) (t u : Reply) (same : t ≡ u) where
@@ -90,6 +95,15 @@ run-table s rows r e = ap (λ (x : Course). x .ran .table) e
 pub tables : {b : Bool} (enough : b ≡ false) (t u : Table) (xs after : List ℕ) → t ≡ u → after ≡ tableOut t xs
     → after ≡ cond b xs (tableOut u xs)
 tables enough t u xs after same e = second xs (tableOut u xs) after enough (e ∙ ap (λ (x : Table). tableOut x xs) same)
+
+-- what a start or a step leaves, whose answer and table are r, told as t and written out
+pub table-told : {b : Bool} {t u : Reply} {r v : TableAnswer} → b ≡ false → t ≡ u → r ≡ v → (xs after info told : List ℕ)
+    → after ≡ tableOut (r .table) xs → told ≡ infoOf t info
+    → (t .answer ≡ cond b 255 (u .answer)) × ((after ≡ cond b xs (tableOut (v .table) xs)) × (told ≡ cond b info (infoOf u info)))
+table-told {r = r} {v} enough same is xs after info told e q = (
+  byte enough _ _ same,
+  (tables enough (r .table) (v .table) xs after (ap (λ (x : TableAnswer). x .table) is) e, numbers enough _ _ same info told q),
+)
 
 -- ---- what a search leaves, once the slices are long enough
 module _ {b : Bool} (enough : b ≡ false) (s : List ℕ) (limit : ℕ) (r : SearchAnswer) (is : r ≡ searchOf (sheetOf s) limit) where

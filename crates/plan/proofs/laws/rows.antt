@@ -6,4 +6,5 @@ pub mod RowCounts
 -- ---- for this crate alone
 pub mod RelentRows
 pub mod RowCalls
+pub mod RowTypes
 pub mod WrittenRows

@@ -9,23 +9,10 @@ use Rattle.unit.proofs.krepuskilo_judge.Tie as tie
 returns : tie.Need-returns
 returns c = let e = lt-ltb _ _ (c .if1 .taken) in (cond-true _ _ e, cond-true _ _ e)
 
-judge-requires : tie.Need-judge-requires
-judge-requires c κs = search needs
-
-answer-reply-requires : tie.Need-answer-reply-requires
-answer-reply-requires c κs = search needs
-
-write-info-requires : tie.Need-write-info-requires
-write-info-requires c κs = search needs
-
-same-length : tie.Need-same-length
-same-length c = search needs
-
 returns-2 : tie.Need-returns-2
 returns-2 c =
     let after-write-info = c .before .before in
-    let after-4 = after-write-info .before .before in
-    let t = after-4 in
+    let t = after-write-info .before .before in
     let e = le-ltb _ _ (t .before .before .if1 .left) in
     let same = judge-told _ _ _ (t .before .judge .ensures) (t .answer-reply .ensures) in
     (byte e _ _ same, numbers e _ _ same _ _ (after-write-info .write-info .ensures))
@@ -33,4 +20,4 @@ returns-2 c =
 pub krepuskilo-judge-spec : {M : Type 1} → statement M
 krepuskilo-judge-spec =
     tie.close
-    (tie.spec returns judge-requires answer-reply-requires write-info-requires same-length returns-2)
+    (tie.spec returns (λ c κs. search needs) (λ c κs. search needs) (λ c κs. search needs) (λ c. search needs) returns-2)

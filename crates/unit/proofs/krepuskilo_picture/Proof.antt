@@ -5,30 +5,15 @@ use Rattle.sheet.specs.Limits.{tableNumbers}
 use Rattle.sheet.specs.Format.{sheetOf}
 use Rattle.table.specs.declared.Table.{Table}
 use Rattle.table.specs.PictureCalls.{bufferOf}
-use Rattle.sheet.proofs.laws.base.Bools.{cond-true}
-use Rattle.unit.proofs.ReplyCases.{second, lacks-first, lacks-info, lacks-none, byte, numbers, picture-told}
+use Rattle.unit.proofs.ReplyCases.{second, lacks-first, lacks-info, lacks-none, byte, numbers, picture-told, unwritten}
 use Rattle.unit.proofs.krepuskilo_picture.Statement.{statement}
 use Rattle.unit.proofs.krepuskilo_picture.Tie as tie
-
-returns : tie.Need-returns
-returns c =
-    let a = c .before .before .before .before .before .args in
-    let e = lacks-first tableNumbers (a .table .now) (a .info .now) (c .if1 .taken) in
-    (cond-true _ _ e, (cond-true _ _ e, cond-true _ _ e))
-
-returns-2 : tie.Need-returns-2
-returns-2 c =
-    let start = c .before .before .before .before .before .before in
-    let a = start .args in
-    let e = lacks-info tableNumbers (a .table .now) (a .info .now) (c .before .if1 .left) (c .if2 .taken) in
-    (cond-true _ _ e, (cond-true _ _ e, cond-true _ _ e))
 
 returns-3 : tie.Need-returns-3
 returns-3 c =
     let after-write-info = c .before .before in
     let after-answer-reply = after-write-info .before .before in
-    let after-7 = after-answer-reply .before .before .before in
-    let r = after-7 in
+    let r = after-answer-reply .before .before .before in
     let g = r .before .before .before in
     let a = g .before .before .before .before .before .before .args in
     let e = lacks-none tableNumbers (a .table .now) (a .info .now) (g .before .if1 .left) (g .if2 .left) in
@@ -40,5 +25,10 @@ returns-3 c =
 pub krepuskilo-picture-spec : {M : Type 1} → statement M
 krepuskilo-picture-spec =
     tie.close
-    (tie.spec returns returns-2 (λ c κs. search needs) (λ c κs. search needs) (λ c κs. search needs) (λ c κs. search needs)
+    (tie.spec
+    (λ c. let a = c .before .before .before .before .before .args in
+    unwritten (lacks-first tableNumbers (a .table .now) (a .info .now) (c .if1 .taken)) _ _ _)
+    (λ c. let a = c .before .before .before .before .before .before .args in
+    unwritten (lacks-info tableNumbers (a .table .now) (a .info .now) (c .before .if1 .left) (c .if2 .taken)) _ _ _)
+    (λ c κs. search needs) (λ c κs. search needs) (λ c κs. search needs) (λ c κs. search needs)
     (λ c. search needs) (λ c. search needs) returns-3)

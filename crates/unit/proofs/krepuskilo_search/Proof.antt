@@ -1,21 +1,8 @@
 -- `krepuskilo_search` meets its contract: the answer of `search` in numbers and its plan, or 255. Assumes nothing.
 use borrow.Author.Needs.{needs}
-use Rattle.sheet.proofs.laws.base.Bools.{cond-true}
-use Rattle.unit.proofs.ReplyCases.{lacks-first, lacks-info, lacks-none, search-byte, search-plan, search-info}
+use Rattle.unit.proofs.ReplyCases.{lacks-first, lacks-info, lacks-none, search-byte, search-plan, search-info, unwritten}
 use Rattle.unit.proofs.krepuskilo_search.Statement.{statement}
 use Rattle.unit.proofs.krepuskilo_search.Tie as tie
-
-returns : tie.Need-returns
-returns c =
-    let a = c .before .before .before .before .args in
-    let e = lacks-first 8 (a .plan .now) (a .info .now) (c .if1 .taken) in
-    (cond-true _ _ e, (cond-true _ _ e, cond-true _ _ e))
-
-returns-2 : tie.Need-returns-2
-returns-2 c =
-    let a = c .before .before .before .before .before .args in
-    let e = lacks-info 8 (a .plan .now) (a .info .now) (c .before .if1 .left) (c .if2 .taken) in
-    (cond-true _ _ e, (cond-true _ _ e, cond-true _ _ e))
 
 returns-3 : tie.Need-returns-3
 returns-3 c =
@@ -30,4 +17,9 @@ returns-3 c =
 pub krepuskilo-search-spec : {M : Type 1} → statement M
 krepuskilo-search-spec =
     tie.close
-    (tie.spec returns returns-2 (λ c κs. search needs) (λ c κs. search needs) (λ c. search needs) (λ c. search needs) returns-3)
+    (tie.spec
+    (λ c. let a = c .before .before .before .before .args in
+    unwritten (lacks-first 8 (a .plan .now) (a .info .now) (c .if1 .taken)) _ _ _)
+    (λ c. let a = c .before .before .before .before .before .args in
+    unwritten (lacks-info 8 (a .plan .now) (a .info .now) (c .before .if1 .left) (c .if2 .taken)) _ _ _)
+    (λ c κs. search needs) (λ c κs. search needs) (λ c. search needs) (λ c. search needs) returns-3)

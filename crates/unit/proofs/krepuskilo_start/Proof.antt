@@ -1,25 +1,10 @@
 -- `krepuskilo_start` meets its contract: the answer of `start` in numbers and its table, or 255. Assumes nothing.
-use mathlib.Core.Path.{ap}
 use borrow.Author.Needs.{needs}
 use Rattle.sheet.specs.Limits.{tableNumbers}
-use Rattle.table.specs.declared.TableAnswer.{TableAnswer}
-use Rattle.sheet.proofs.laws.base.Bools.{cond-true}
-use Rattle.unit.proofs.ReplyCases.{lacks-first, lacks-info, lacks-none, byte, tables, numbers, start-told}
+use Rattle.unit.proofs.ReplyCases.{lacks-first, lacks-info, lacks-none, start-told, unwritten, table-told}
 use Rattle.unit.proofs.TableSizes.{start-fits}
 use Rattle.unit.proofs.krepuskilo_start.Statement.{statement}
 use Rattle.unit.proofs.krepuskilo_start.Tie as tie
-
-returns : tie.Need-returns
-returns c =
-    let a = c .before .before .before .before .args in
-    let e = lacks-first tableNumbers (a .table .now) (a .info .now) (c .if1 .taken) in
-    (cond-true _ _ e, (cond-true _ _ e, cond-true _ _ e))
-
-returns-2 : tie.Need-returns-2
-returns-2 c =
-    let a = c .before .before .before .before .before .args in
-    let e = lacks-info tableNumbers (a .table .now) (a .info .now) (c .before .if1 .left) (c .if2 .taken) in
-    (cond-true _ _ e, (cond-true _ _ e, cond-true _ _ e))
 
 write-start-requires : tie.Need-write-start-requires
 write-start-requires c κs =
@@ -40,16 +25,16 @@ returns-3 c =
     let e = lacks-none tableNumbers (a .table .now) (a .info .now) (after-if1 .if1 .left) (after-if2 .if2 .left) in
     let d = after-start-lent .start-lent .ensures in
     let w = after-write-start .write-start .ensures in
-    let same = start-told (a .sheet .now) _ _ _ d (w .0) (after-answer-reply .answer-reply .ensures) in (
-      byte e _ _ same,
-      (
-        tables e _ _ _ _ (ap (λ (x : TableAnswer). x .table) d) (w .1),
-        numbers e _ _ same _ _ (after-write-info .write-info .ensures),
-      ),
-    )
+    table-told e (start-told (a .sheet .now) _ _ _ d (w .0) (after-answer-reply .answer-reply .ensures)) d _ _ _ _ (w .1)
+    (after-write-info .write-info .ensures)
 
 pub krepuskilo-start-spec : {M : Type 1} → statement M
 krepuskilo-start-spec =
     tie.close
-    (tie.spec returns returns-2 (λ c κs. search needs) write-start-requires (λ c κs. search needs) (λ c κs. search needs)
+    (tie.spec
+    (λ c. let a = c .before .before .before .before .args in
+    unwritten (lacks-first tableNumbers (a .table .now) (a .info .now) (c .if1 .taken)) _ _ _)
+    (λ c. let a = c .before .before .before .before .before .args in
+    unwritten (lacks-info tableNumbers (a .table .now) (a .info .now) (c .before .if1 .left) (c .if2 .taken)) _ _ _)
+    (λ c κs. search needs) write-start-requires (λ c κs. search needs) (λ c κs. search needs)
     (λ c. search needs) (λ c. search needs) returns-3)

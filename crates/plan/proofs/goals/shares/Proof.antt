@@ -6,12 +6,6 @@ use Rattle.sheet.specs.Literals.{clash, meets}
 use Rattle.plan.proofs.goals.shares.Statement.{statement}
 use Rattle.plan.proofs.goals.shares.Tie as tie
 
-flip-requires : tie.Need-flip-requires
-flip-requires c κs = search needs
-
-clash-requires : tie.Need-clash-requires
-clash-requires c κs = search needs
-
 returns : tie.Need-returns
 unfolding meets
 returns c =
@@ -19,4 +13,4 @@ returns c =
     c .clash .ensures ∙ ap (λ (x : Literals). clash x (a .d)) (c .before .flip .ensures)
 
 pub shares-spec : {M : Type 1} → statement M
-shares-spec = tie.close (tie.spec flip-requires clash-requires returns)
+shares-spec = tie.close (tie.spec (λ c κs. search needs) (λ c κs. search needs) returns)

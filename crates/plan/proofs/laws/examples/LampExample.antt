@@ -7,11 +7,13 @@ use mathlib.Core.Option.{Option, some}
 use Prim.Native.Nat.{ℕ}
 use native.Mathlib.Omega.{arith}
 use Rattle.sheet.specs.declared.Literals.{Literals}
-use Rattle.sheet.specs.Literals.{has, noLiteral, mem, within, clash, consistent, join, flip, replace, single, sign, literal, contains, state, meets, names, membersFrom, members}
+use Rattle.sheet.specs.Literals.{has, noLiteral, mem, within, clash, consistent, join, flip, replace, single, sign, literal, contains}
+use Rattle.sheet.specs.Literals.{state, meets, names, membersFrom, members}
 use Rattle.sheet.specs.Lists.{pad}
 use Rattle.sheet.specs.Problem.{Action, Problem, Statement, problemOf}
 use Rattle.sheet.specs.Form.{_>>=_, judged, times, byteAt, read}
-use Rattle.sheet.specs.Format.{countFault, literalFault, numberFault, listOf, ascending, setOf, literals, clause, effect, action, clauses, actions, goal, plan, facts, sheet, atEnd, accepted, sheetOf}
+use Rattle.sheet.specs.Format.{countFault, literalFault, numberFault, listOf, ascending, setOf, literals, clause, effect, action, clauses}
+use Rattle.sheet.specs.Format.{actions, goal, plan, facts, sheet, atEnd, accepted, sheetOf}
 use Rattle.sheet.specs.Faults.{Says}
 use Rattle.table.specs.Worlds.{andThen}
 use Rattle.table.specs.Minimal.{put, table}

@@ -6,7 +6,8 @@ use mathlib.Core.Option.{Option, some}
 use native.Mathlib.Omega.{arith}
 use lib.Dec.{T}
 use Rattle.sheet.specs.declared.Literals.{Literals}
-use Rattle.sheet.specs.Literals.{has, noLiteral, mem, within, clash, consistent, join, flip, replace, single, sign, literal, contains, state, meets, names, membersFrom, members}
+use Rattle.sheet.specs.Literals.{has, noLiteral, mem, within, clash, consistent, join, flip, replace, single, sign, literal, contains}
+use Rattle.sheet.specs.Literals.{state, meets, names, membersFrom, members}
 use Rattle.sheet.specs.Lists.{pad}
 use Rattle.sheet.specs.Printed.{printed}
 use Rattle.sheet.specs.Format.{sheetOf}

@@ -3,14 +3,14 @@ use mathlib.Core.Path.{_≡_, refl, ap, ap₂, _∙_}
 use mathlib.Core.List.{List, [], _∷_}
 use Prim.Native.Nat.{ℕ}
 use native.Mathlib.Omega.{arith}
-use Rattle.sheet.specs.Literals.{has, noLiteral, mem, within, clash, consistent, join, flip, replace, single, sign, literal, contains, membersFrom, members}
+use Rattle.sheet.specs.Literals.{has, noLiteral, mem, within, clash, consistent, join, flip, replace, single, sign, literal, contains}
+use Rattle.sheet.specs.Literals.{membersFrom, members}
 use Rattle.sheet.specs.Printed.{printed}
 use Rattle.sheet.specs.Format.{sheetOf}
 use Rattle.table.specs.Minimal.{put}
 use Rattle.table.specs.Step.{missing, split, image, stepTable}
-use Rattle.table.specs.Picture.{units, unions, fold, primes, precedes, insert, sortOnto, sort, picture}
+use Rattle.table.specs.Picture.{units, unions, fold, primes, precedes, insert, sortOnto, sort, picture, sizeOf}
 use Rattle.table.specs.Calls.{actionAt}
-use Rattle.table.specs.Picture.{sizeOf}
 use Rattle.table.proofs.laws.examples.BenchExamples.{paper, bench}
 use Rattle.plan.specs.declared.Row.{Row}
 use Rattle.plan.specs.declared.RunAnswer.{RunAnswer}

@@ -39,10 +39,11 @@ use Rattle.plan.specs.inner.RunEnds.{finalClauses, finalPicture, SameEnd
 use Rattle.plan.specs.DemandWords.{taken, Becomes, finalOf}
 use Rattle.plan.proofs.laws.exchanges.CommutingMoves.{commute}
 use Rattle.plan.proofs.laws.exchanges.ExchangedWorlds.{exchanges-all, exchanges-length, exchanges-world}
-use Rattle.plan.proofs.laws.runs.CallRuns.{called-class, called-both-ways, called, called-unless-full, last-described, last-entries}
-use Rattle.plan.proofs.laws.runs.CallAnswers.{run-back}
+use Rattle.plan.proofs.laws.exchanges.ExactCalls.{called-class, called-both-ways, called, called-unless-full}
+use Rattle.plan.proofs.laws.runs.CallRuns.{last-described, last-entries}
+use Rattle.plan.proofs.laws.runs.RunRefusals.{run-back, rows-enough, run-starts}
 use Rattle.plan.proofs.laws.exchanges.FinalPictures.{bytes-length, picture-written}
-use Rattle.plan.proofs.laws.runs.RunAnswers.{refused-is, taken-actions, rows-enough, run-starts}
+use Rattle.plan.proofs.laws.runs.CallVerdicts.{refused-is, taken-actions}
 
 -- ---- the exchanged plan is again on a sheet
 pub exchanged-sheet : (s : List ℕ) (x : Statement) → Says s x → (ks : List ℕ)

@@ -23,7 +23,8 @@ use Rattle.plan.specs.declared.RunAnswer.{RunAnswer}
 use Rattle.plan.specs.Run.{actionsOf, lastTable}
 use Rattle.plan.specs.Calls.{runOf}
 use Rattle.plan.specs.inner.RunEnds.{finalClauses, finalPicture}
-use Rattle.plan.proofs.laws.runs.CallRuns.{final-bytes, last-described, last-entries, last-clauses}
+use Rattle.plan.proofs.laws.exchanges.ExactCalls.{final-bytes}
+use Rattle.plan.proofs.laws.runs.CallRuns.{last-described, last-entries, last-clauses}
 
 pub bytes-length : (s : List Literals) → length (pictureBytes s) ≡ 2 + 8 * length s
 unfolding pictureBytes

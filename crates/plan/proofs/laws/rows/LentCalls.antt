@@ -14,7 +14,8 @@ use prog.Wp.{Heap, Calls}
 use ghost.Atoms.{Atoms, sem}
 use contract.Monad.{fact, factI}
 use sound.WpLaws.{FmC}
-use types.Kit.{Given, Item, Step, step, prop, mean, ‵, raw, _⊛_, some, given, later, _$_, _∵_, !, qed, by, move, use2, use3, split, pick, learn, rewrite, await, updating, now as at-once, show, check, done}
+use types.Kit.{Given, Item, Step, step, prop, mean, ‵, raw, _⊛_, some, given, later, _$_, _∵_, !, qed, by, move, use2, use3, split, pick}
+use types.Kit.{learn, rewrite, await, updating, now as at-once, show, check, done}
 use types.Tokens.{lft-new, lft-end}
 use denote.RattleType.{RattleType}
 use denote.Ref.{RefT}

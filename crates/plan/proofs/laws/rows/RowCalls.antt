@@ -15,7 +15,8 @@ use prog.Routine.{Routine}
 use prog.Wp.{Heap, Calls}
 use ghost.Atoms.{Atoms, sem}
 use contract.Monad.{Fun, fact}
-use types.Kit.{Given, mean, ‵, raw, _⊛_, some, later, _$_, _∵_, !, qed, move, keep, use1, split, join, pick, check, fsplit, fjoin, feqL, show, frame, await, updating, now as at-once, done}
+use types.Kit.{Given, mean, ‵, raw, _⊛_, some, later, _$_, _∵_, !, qed, move, keep, use1, split, join, pick, check, fsplit, fjoin, feqL}
+use types.Kit.{show, frame, await, updating, now as at-once, done}
 use sound.WpLaws.{FmC}
 use denote.Laws.{Is}
 use denote.Plain.{uint-makes}

@@ -3,7 +3,6 @@
 use mathlib.Core.Path.{_≡_, refl, sym, ap, _∙_}
 use mathlib.Core.Bool.{Bool, true, false, cond}
 use mathlib.Core.List.{List, [], _++_, map}
-use mathlib.Core.Logic.{⊎-elim}
 use Prim.Native.Nat.{ℕ, zero, suc, _≤_, _<_}
 use native.Mathlib.Nat.{le-refl, zero-add}
 use native.Mathlib.Omega.{arith}
@@ -21,11 +20,10 @@ use Rattle.sheet.proofs.laws.base.Padding.{getD-pad}
 use Rattle.plan.specs.declared.Row.{Row}
 use Rattle.plan.specs.declared.Counts.{Counts}
 use Rattle.plan.specs.Run.{actionsOf, rowOf, rowsFrom}
-use Rattle.plan.specs.inner.TableRuns.{movesTaken}
 use Rattle.plan.specs.Calls.{plannedRows, rowsOf, rowsAfter}
 use Rattle.plan.specs.inner.Course.{countsOf, courseOf}
 use Rattle.plan.specs.inner.Rows.{rowAt, rowsBelow, rowsIn}
-use Rattle.plan.proofs.laws.runs.RunTables.{story, taken-all, taken-refused, refuses-within, arrived, rows-length, row-at}
+use Rattle.plan.proofs.laws.runs.RunTables.{arrived, rows-length, row-at, taken-within}
 use Rattle.sheet.proofs.Demands.{statement-proper}
 
 -- a row for a place that has none
@@ -42,16 +40,10 @@ pub record Placed (m : ℕ) (ws : List Row) : Type 0 where
 none-placed : (m : ℕ) → Placed m []
 none-placed m = record { most = omega arith; lent = omega arith; places = λ i h. absurd (omega (arith, h)) }
 
--- no more moves are taken than the plan has
-taken-within : (plan : List Action) (t : List Literals) → movesTaken 128 plan t ≤ length plan
-taken-within plan t =
-    ⊎-elim (λ x. omega (arith, taken-all 128 plan t (x .0) (x .1)))
-    (λ x. omega (arith, taken-refused 128 plan t (x .0) (x .1) (x .2), refuses-within 128 plan t (x .0) (x .1) (x .2))) (story 128 plan t)
-
 run-placed : (plan : List Action) (t : List Literals) (m : ℕ) → length plan ≤ 64 → 65 ≤ m → Placed m (rowsFrom 128 0 plan t)
 run-placed plan t m h k =
     let l = rows-length 128 0 plan t in
-    let w = taken-within plan t in
+    let w = taken-within 128 plan t in
     record {
       most = omega (arith, l, w, h);
       lent = omega (arith, l, w, h, k);

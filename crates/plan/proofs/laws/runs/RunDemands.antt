@@ -29,9 +29,9 @@ use Rattle.plan.specs.inner.RunEnds.{Means}
 use Rattle.plan.specs.Demand3.{takenBy, fullVerdict, runFull, runRefused}
 use Rattle.plan.specs.DemandWords.{taken, Becomes}
 use Rattle.plan.proofs.laws.runs.StartRuns.{taken-by, verdict-is, last-arrives}
-use Rattle.plan.proofs.laws.runs.CallRuns.{not-full, run-call, last-entries}
-use Rattle.plan.proofs.laws.runs.CallAnswers.{not-refused, run-number}
-use Rattle.plan.proofs.laws.runs.RunAnswers.{verdict-injective, taken-actions, full-run, rows-enough, run-starts, started-run}
+use Rattle.plan.proofs.laws.runs.CallVerdicts.{not-full, not-refused, verdict-injective, taken-actions}
+use Rattle.plan.proofs.laws.runs.CallRuns.{run-call, last-entries}
+use Rattle.plan.proofs.laws.runs.RunRefusals.{run-number, full-run, rows-enough, run-starts, started-run}
 
 module _ (s : List ℕ) (x : Statement) (says : Says s x) (rows : ℕ) (given : runRefused (runOf (sheetOf s) rows) ≡ false) where
   abbrev p : Problem

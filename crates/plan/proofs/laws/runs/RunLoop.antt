@@ -1,42 +1,92 @@
--- The loop of a run by moves laid out: the moves that are left, the rows so far, and how it ends. Assumes nothing.
+-- The loop of a run over arrays: one row and one move more, its invariant (`Going`: what is left of the plan gives, after the rows so
+-- far, the whole), and how it ends. For `runs::run_from` and `runs::step_here`. Assumes nothing.
 use mathlib.Core.Path.{_≡_, refl, sym, ap, subst, _∙_}
-use mathlib.Core.List.{List, [], _∷_, _++_, map}
-use Prim.Native.Nat.{ℕ, _+_, _≤_, _<_}
+use mathlib.Core.List.{List, [], _∷_, _++_, map, map-append, append-assoc}
+use Prim.Native.Nat.{ℕ, _+_, _≤_, _<_, suc}
 use native.Mathlib.Numerals.{add-one}
 use native.Mathlib.Omega.{arith}
 use lib.Dec.{eqb}
-use lib.ListN.{length, getD, drop, replicate, length-append}
+use lib.ListN.{length, getD, drop, length-append, set, length-map}
 use lib.Seq.{getD-take, length-take-le}
 use Rattle.sheet.specs.declared.Plan.{Plan}
 use Rattle.sheet.specs.Lists.{allOf, pad}
 use Rattle.sheet.specs.Problem.{Action}
 use Rattle.sheet.specs.inner.Decoded.{planIn}
-use Rattle.sheet.specs.inner.Packed.{setsIn, goalIn, movesIn}
+use Rattle.sheet.specs.inner.Packed.{setsIn, goalIn, movesIn, actionOf}
 use Rattle.sheet.proofs.laws.base.ListFacts.{all-at}
 use Rattle.sheet.proofs.laws.base.Prefixes.{part-step, part-end}
 use Rattle.table.specs.declared.Table.{Table}
 use Rattle.table.specs.declared.TableAnswer.{TableAnswer}
 use Rattle.table.specs.declared.steps.Stepped.{Stepped}
 use Rattle.table.specs.declared.steps.Stepped.the-variants as moved
-use Rattle.table.specs.Minimal.{Outcome}
+use Rattle.table.specs.Minimal.{Outcome, refused, table}
 use Rattle.table.specs.Step.{stepTable}
-use Rattle.table.specs.Entries.{entriesOf, entries}
-use Rattle.table.specs.inner.Slots.{Fresh}
+use Rattle.table.specs.Entries.{entriesOf, entries, lent, tableOf}
+use Rattle.table.specs.inner.Slots.{Room}
 use Rattle.table.specs.Calls.{orGiven}
-use Rattle.table.specs.Entries.{lent}
 use Rattle.table.specs.inner.Steps.{stepAnswer}
 use Rattle.plan.specs.declared.Row.{Row}
 use Rattle.plan.specs.declared.Counts.{Counts}
 use Rattle.plan.specs.declared.Course.{Course}
-use Rattle.plan.specs.declared.RunRecord.{RunRecord}
 use Rattle.plan.specs.declared.Verdict as case
-use Rattle.plan.specs.Run.{inGoal, endedIn, haltedBy, rowOf}
+use Rattle.plan.specs.Run.{inGoal, endedIn, haltedBy, rowOf, onward, runFrom, tableOr, lastTable, rowsOr, rowsFrom}
 use Rattle.plan.specs.Calls.{verdictOf}
-use Rattle.plan.specs.inner.Course.{countsOf, countsIn, FreshRows, courseIn, noted, courseFrom}
-use Rattle.sheet.specs.inner.Packed.{actionOf}
+use Rattle.plan.specs.inner.Course.{countsOf, countsIn, FreshRows, noted, courseFrom}
 use Rattle.plan.specs.inner.Searches.{Runnable}
-use Rattle.plan.proofs.laws.runs.CourseSteps.{Ending, note-row, taken, halted, stopped}
-use Rattle.plan.proofs.laws.searches.SearchMoves.{ready-after, came, refused-by}
+use Rattle.plan.proofs.laws.searches.SearchMoves.{slots-room, ready-after, came, refused-by}
+use Rattle.sheet.specs.declared.Answer.the-variants.{Refused}
+use Rattle.sheet.specs.declared.Literals.{Literals}
+use Rattle.sheet.proofs.laws.base.Padding.{pad-set}
+use Rattle.plan.proofs.laws.runs.ReadyTables.{stopped, ready-count}
+
+-- ---- one row more
+pub note-row : (rows : List Row) (place : ℕ) (t : List Literals) → length rows < 65
+    → noted (countsOf rows) t ≡ countsOf (rows ++ rowOf place t ∷ [])
+unfolding noted countsOf rowOf
+note-row rows place t lt = λ j. record
+    { count = n j; entries = pushed (λ (r : Row). r .entries) j; clauses = pushed (λ (r : Row). r .clauses) j }
+  where
+    n : length rows + 1 ≡ length (rows ++ rowOf place t ∷ [])
+    n = sym (length-append rows (rowOf place t ∷ []))
+
+    pushed : (f : Row → ℕ) → set (pad 65 0 (map f rows)) (length rows) (f (rowOf place t)) ≡ pad 65 0 (map f (rows ++ rowOf place t ∷ []))
+    pushed f = pad-set 65 0 (map f rows) (f (rowOf place t)) (length rows) (length-map rows f) lt
+        ∙ ap (pad 65 0) (sym (map-append f rows (rowOf place t ∷ [])))
+
+-- ---- one move more
+-- the run that ends at the table t
+abbrev pub Ending : case.Verdict → Table → Counts → Course
+Ending v t c = record { ran = record { verdict = v; table = t }; counts = c }
+
+module _ (goal : List Literals) (rows : List Row) (place : ℕ) (a : Action) (plan : List Action) (t : List Literals) where
+  pub taken : (u : List Literals) → stepTable 128 a t ≡ table u
+      → courseFrom goal rows place (a ∷ plan) t ≡ courseFrom goal (rows ++ rowOf place t ∷ []) (suc place) plan u
+  unfolding courseFrom
+  taken u e =
+      (λ j. record {
+        ran = record {
+          verdict = verdictOf (onward (e j) (suc place) (λ v. runFrom 128 goal (suc place) plan v));
+          table = tableOf (tableOr (e j) t (λ v. lastTable 128 plan v));
+        };
+        counts = countsOf (rows ++ rowOf place t ∷ rowsOr (e j) (λ v. rowsFrom 128 (suc place) plan v));
+      })
+      ∙ ap (λ (r : List Row). record {
+        ran = record { verdict = verdictOf (runFrom 128 goal (suc place) plan u); table = tableOf (lastTable 128 plan u) };
+        counts = countsOf r;
+      })
+      (sym (append-assoc rows (rowOf place t ∷ []) (rowsFrom 128 (suc place) plan u)))
+
+  pub halted : (k : ℕ) → stepTable 128 a t ≡ refused k
+      → courseFrom goal rows place (a ∷ plan) t ≡ Ending (verdictOf (haltedBy (eqb k 21) (suc place) k)) (tableOf t)
+      (countsOf (rows ++ rowOf place t ∷ []))
+  unfolding courseFrom
+  halted k e = λ j. record {
+    ran = record {
+      verdict = verdictOf (onward (e j) (suc place) (λ v. runFrom 128 goal (suc place) plan v));
+      table = tableOf (tableOr (e j) t (λ v. lastTable 128 plan v));
+    };
+    counts = countsOf (rows ++ rowOf place t ∷ rowsOr (e j) (λ v. rowsFrom 128 (suc place) plan v));
+  }
 
 -- ---- what a step gave, as an answer with a table
 pub step-as : (t : Table) {r : Stepped} (us gs : List ℕ) {s : TableAnswer} → stepAnswer t r us gs ≡ s → {y : Stepped} → r ≡ y
@@ -69,11 +119,6 @@ left plan packed i = map (actionOf (movesIn packed)) (drop i (planIn plan))
 pub no-rows : {es cs : List ℕ} → FreshRows es cs → countsIn 0 es cs ≡ countsOf []
 unfolding countsOf pad
 no-rows f = λ j. record { count = 0; entries = f .entries j; clauses = f .clauses j }
-
--- a run in arrays of zeros
-pub in-zeros : (w : RunRecord) {ts fs es cs : List ℕ} → Fresh ts fs → FreshRows es cs
-    → courseIn w ts fs es cs ≡ courseIn w (replicate 128 0) (replicate 128 0) (replicate 65 0) (replicate 65 0)
-in-zeros w a b = λ j. courseIn w (a .trues j) (a .falses j) (b .entries j) (b .clauses j)
 
 -- what is left of the plan gives, after the rows so far, what the whole gives
 pub record Going (plan : Plan) (packed : List ℕ) (whole : Course) (i : ℕ) (t : Table) (c : Counts) : Type 0 where
@@ -178,3 +223,8 @@ module _ {plan : Plan} {packed : List ℕ} {whole : Course} {i : ℕ} {t : Table
           ∙ sym (halted (setsIn (goalIn packed)) (h .rows) i (actionOf (movesIn packed) m) (left plan packed (i + 1)) (entries t) k
           (refused-by (h .can .fits) below r us gs told e i 0))
           ∙ unrolled
+
+-- what noting a row asks
+pub going-note : {plan : Plan} {packed : List ℕ} {whole : Course} {i n : ℕ} {ts fs : List ℕ} {c : Counts}
+    → Going plan packed whole i (lent n ts fs) c → ((c .count < 65) × (1 ≤ n)) × Room n ts fs
+going-note v = ((going-room v, ready-count (v .can .fits .n) _ (v .can .fits .ready) .0), slots-room (v .can .fits))

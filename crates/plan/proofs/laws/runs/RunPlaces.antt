@@ -27,8 +27,7 @@ use Rattle.table.specs.Worlds.{andThen, InGoal}
 use Rattle.table.specs.Minimal.{In, Described, described, Outcome}
 use Rattle.table.specs.Start.{startTable}
 use Rattle.table.specs.Step.{stepTable}
-use Rattle.table.specs.Picture.{picture}
-use Rattle.table.specs.Picture.{sizeOf}
+use Rattle.table.specs.Picture.{picture, sizeOf}
 use Rattle.table.specs.Entries.{entries, tableOf}
 use Rattle.table.specs.Calls.{orGiven, startOf, actionAt, stepOf}
 use Rattle.table.specs.PictureCalls.{refusal, tooLong, pictureOf}
@@ -42,18 +41,18 @@ use Rattle.plan.specs.declared.RunAnswer.{RunAnswer}
 use Rattle.plan.specs.declared.Verdict as case
 use Rattle.plan.specs.declared.Verdict.the-variants as ran
 use Rattle.plan.specs.Run.{actionsOf, Verdict, reached, short, stopped, full, runFrom, lastTable, rowOf, rowsFrom}
-use Rattle.plan.specs.inner.TableRuns.{movesTaken}
+use Rattle.plan.specs.inner.TableRuns.{movesTaken, thenTable, tableAt, Refuses}
 use Rattle.plan.specs.Calls.{verdictOf, runOf, rowsOf, rowsAfter}
-use Rattle.plan.specs.inner.TableRuns.{thenTable, tableAt, Refuses}
 use Rattle.plan.specs.Demand3.{takenBy, runRefused}
 use Rattle.plan.specs.DemandWords.{taken, whenAccepted, stepped, arrived, StepRefused, clausesOr}
-use Rattle.plan.proofs.laws.runs.RunTables.{Story, story, last-at, taken-all, taken-refused}
+use Rattle.plan.proofs.laws.runs.RunTables.{last-at}
 use Rattle.plan.proofs.laws.runs.RunTables as running
 use Rattle.plan.proofs.laws.runs.StartRuns.{taken-by, place-arrives, by-stopped, by-full, by-reached, by-short}
-use Rattle.plan.proofs.laws.runs.Verdicts.{all-take}
+use Rattle.plan.proofs.laws.runs.PlanWorlds.{all-take}
 use Rattle.plan.proofs.laws.runs.CallRuns.{run-call, rows-call}
-use Rattle.plan.proofs.laws.runs.CallAnswers.{run-fault-rows, run-number, run-rows-kept}
-use Rattle.plan.proofs.laws.runs.RunAnswers.{verdict-injective, refused-is, rows-enough, run-starts, Outcomes, outcomes}
+use Rattle.plan.proofs.laws.runs.RunRefusals.{run-fault-rows, run-number, run-rows-kept, rows-enough, run-starts}
+use Rattle.plan.proofs.laws.runs.CallVerdicts.{verdict-injective, refused-is}
+use Rattle.plan.proofs.laws.runs.StartOutcomes.{Outcomes, outcomes}
 
 -- ---- the table at place i of a plan is that of its first i moves
 at-take : (i : ℕ) (plan : List Action) (t : List Literals) → tableAt 128 i (take i plan) t ≡ tableAt 128 i plan t
@@ -66,13 +65,6 @@ at-take (suc i) (a ∷ plan) t = go (stepTable 128 a t) (at-take i plan)
     go (Outcome.refused k) ih = refl
     go (Outcome.table u) ih = ih u
 
-taken-most : (plan : List Action) (t : List Literals) → movesTaken 128 plan t ≤ length plan
-taken-most plan t = go (story 128 plan t)
-  where
-    go : Story 128 plan t → movesTaken 128 plan t ≤ length plan
-    go (inl x) = omega (arith, taken-all 128 plan t (x .0) (x .1))
-    go (inr x) = omega (arith, taken-refused 128 plan t (x .0) (x .1) (x .2), running.refuses-within 128 plan t (x .0) (x .1) (x .2))
-
 -- ---- outcomes as calls
 tabled : Option (List Literals) → Option Table
 tabled o = andThen o (λ u. some (tableOf u))
@@ -81,6 +73,16 @@ number-of : (t : Table) (o : Outcome) (N : ℕ) → orGiven t o .answer ≡ Refu
 unfolding orGiven
 number-of t (Outcome.refused k) N e = let i : k ≡ N = cc in ap Outcome.refused i
 number-of t (Outcome.table u) N e = absurd (let z : _≡_ {A = ℕ} 0 1 = cc in omega arith)
+
+-- row i after the run, of the table that the first i moves arrive at
+abbrev RowAt : List ℕ → Statement → List Row → ℕ → Row → Type 0
+RowAt s x rows i d = (u : Table) × (arrived s (take i (x .plan)) ≡ some u)
+    × (getD (rowsAfter (sheetOf s) rows) i d
+    ≡ record {
+      place = i;
+      entries = u .count;
+      clauses = clausesOr (pictureOf (sheetOf s) u 2050 .answer) (pictureOf (sheetOf s) u 2050 .clauses);
+    })
 
 module _ (s : List ℕ) (x : Statement) (says : Says s x) where
   abbrev p : Problem
@@ -327,12 +329,14 @@ module _ (s : List ℕ) (x : Statement) (says : Says s x) where
       taken-first = ap (λ (v : case.Verdict). takenBy v (x .plan)) call-verdict ∙ taken-by 128 (x .problem .goal) plan t (x .plan) size
 
       taken-count : length (taken s x rows) ≡ movesTaken 128 plan t
-      taken-count = ap length taken-first ∙ length-take-le (movesTaken 128 plan t) (x .plan) (omega (arith, size, taken-most plan t))
+      taken-count =
+          ap length taken-first ∙ length-take-le (movesTaken 128 plan t) (x .plan) (omega (arith, size, running.taken-within 128 plan t))
 
       last-is : arrived s (taken s x rows) ≡ some (runOf (sheetOf s) rows .table)
       last-is =
           ap (arrived s) taken-first
-          ∙ arrived-some (movesTaken 128 plan t) (lastTable 128 plan t) (omega (arith, size, taken-most plan t)) (last-at 128 plan t)
+          ∙ arrived-some (movesTaken 128 plan t) (lastTable 128 plan t) (omega (arith, size, running.taken-within 128 plan t))
+          (last-at 128 plan t)
           ∙ ap some (sym (ap (λ (r : RunAnswer). r .table) (run-call s x says rows enough t starts)))
 
       -- ---- the rows
@@ -343,7 +347,7 @@ module _ (s : List ℕ) (x : Statement) (says : Says s x) where
       rows-many = ap length rows-are ∙ running.rows-length 128 0 plan t
 
       rows-fit : length (rowsOf (sheetOf s) rows) ≤ 65
-      rows-fit = omega (arith, rows-many, taken-most plan t, size, statement-proper s x says .plan .most)
+      rows-fit = omega (arith, rows-many, running.taken-within 128 plan t, size, statement-proper s x says .plan .most)
 
     -- the clauses of a row, by the picture call
     row-clauses : (u : List Literals) → Described 128 (p .n) u
@@ -368,19 +372,11 @@ module _ (s : List ℕ) (x : Statement) (says : Says s x) where
       abbrev wrote : List Row
       wrote = rowsOf (sheetOf s) (length rows)
 
-      row-is : (i : ℕ) → i ≤ length (taken s x (length rows)) → (d : Row)
-          → (u : Table) × (arrived s (take i (x .plan)) ≡ some u)
-          × (getD (rowsAfter (sheetOf s) rows) i d
-          ≡ record {
-            place = i;
-            entries = u .count;
-            clauses = clausesOr (pictureOf (sheetOf s) u 2050 .answer)
-                (pictureOf (sheetOf s) u 2050 .clauses);
-          })
+      row-is : (i : ℕ) → i ≤ length (taken s x (length rows)) → (d : Row) → RowAt s x rows i d
       row-is i l d = (tableOf (k .0), arrived-some i (k .0) below (k .1), inside ∙ row)
         where
           below : i ≤ length (x .plan)
-          below = omega (arith, l, taken-count (length rows) enough, taken-most plan t, size)
+          below = omega (arith, l, taken-count (length rows) enough, running.taken-within 128 plan t, size)
 
           k : (u : List Literals) × (tableAt 128 i plan t ≡ some u)
           k = running.arrived 128 plan t i .0 (omega (arith, l, taken-count (length rows) enough))
@@ -489,15 +485,7 @@ module _ (s : List ℕ) (x : Statement) (says : Says s x) where
   run-last rows f = last-is (run-starts s x says rows f .0) (run-starts s x says rows f .1) rows (rows-enough s x says rows f)
 
   pub run-row : (rows : List Row) → runRefused (runOf (sheetOf s) (length rows)) ≡ false → (i : ℕ) → i ≤ length (taken s x (length rows))
-      → (d : Row)
-      → (u : Table) × (arrived s (take i (x .plan)) ≡ some u)
-      × (getD (rowsAfter (sheetOf s) rows) i d
-      ≡ record {
-        place = i;
-        entries = u .count;
-        clauses = clausesOr (pictureOf (sheetOf s) u 2050 .answer)
-            (pictureOf (sheetOf s) u 2050 .clauses);
-      })
+      → (d : Row) → RowAt s x rows i d
   run-row rows f = row-is (run-starts s x says (length rows) f .0) (run-starts s x says (length rows) f .1) rows
       (rows-enough s x says (length rows) f)
 

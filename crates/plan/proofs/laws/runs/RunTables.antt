@@ -1,7 +1,7 @@
 -- A run by its tables T_k: its verdict, the table that it returns, the moves taken and the rows. Assumes nothing.
 use mathlib.Core.Path.{_≡_, refl, ap, _∙_}
 use mathlib.Core.List.{List, [], _∷_}
-use mathlib.Core.Logic.{_⊎_, inl, inr, _↔_}
+use mathlib.Core.Logic.{_⊎_, inl, inr, _↔_, ⊎-elim}
 use mathlib.Core.Option.{Option, some, Option·some-injective, Option·none-ne-some}
 use Prim.Native.Nat.{ℕ, zero, suc, _+_, _≤_, _<_}
 use native.Mathlib.Nat.{le-of-suc-le-suc}
@@ -15,8 +15,7 @@ use Rattle.table.specs.Minimal.{Outcome, refused, table}
 use Rattle.table.specs.Step.{stepTable}
 use Rattle.plan.specs.declared.Row.{Row}
 use Rattle.plan.specs.Run.{inGoal, endedIn, haltedBy, onward, runFrom, tableOr, lastTable, rowOf, rowsOr, rowsFrom}
-use Rattle.plan.specs.inner.TableRuns.{countOr, movesTaken}
-use Rattle.plan.specs.inner.TableRuns.{thenTable, tableAt, Refuses}
+use Rattle.plan.specs.inner.TableRuns.{countOr, movesTaken, thenTable, tableAt, Refuses}
 
 module _ (cap : ℕ) where
   -- ---- T_k of a longer plan
@@ -140,6 +139,12 @@ module _ (cap : ℕ) where
   taken-refused (a ∷ plan) t (suc k) N r =
       let x = rest-refuses a plan t k N r in
       ap (λ (o : Outcome). countOr o (λ v. movesTaken cap plan v)) (x .1) ∙ ap suc (taken-refused plan (x .0) k N (x .2))
+
+  -- no more than the plan has
+  pub taken-within : (plan : List Action) (t : List Literals) → movesTaken cap plan t ≤ length plan
+  taken-within plan t =
+      ⊎-elim (λ x. omega (arith, taken-all plan t (x .0) (x .1)))
+      (λ x. omega (arith, taken-refused plan t (x .0) (x .1) (x .2), refuses-within plan t (x .0) (x .1) (x .2))) (story plan t)
 
   -- T_i exists exactly for the places arrived at
   pub arrived : (plan : List Action) (t : List Literals) (i : ℕ) → (i ≤ movesTaken cap plan t)

@@ -1,5 +1,5 @@
--- Runs of any plan from the start table of a problem: the verdict by the tables and by the starting worlds; they are exact. Assumes
--- nothing.
+-- Any plan of a problem, run from its start table: the verdict by the tables T_k (`by-reached` and so on) and by the starting worlds
+-- (`verdict-is`). For RunPlaces and RunDemands (TH5), and for StartSearches and ExactRuns. Assumes nothing.
 use mathlib.Core.Path.{_≡_, refl, sym, ap, subst, _∙_}
 use mathlib.Core.Bool.{Bool, true, false}
 use mathlib.Core.List.{List}
@@ -20,24 +20,21 @@ use Rattle.sheet.proofs.laws.base.ListFacts.{all-map, all-imaged}
 use Rattle.table.specs.Worlds.{Starting, InGoal}
 use Rattle.table.specs.Minimal.{In, Described, refused, table}
 use Rattle.table.specs.Start.{startTable}
-use Rattle.table.specs.Picture.{picture}
 use Rattle.table.specs.Calls.{actionAt}
 use Rattle.table.proofs.Demands.{start-table}
 use Rattle.table.proofs.laws.steps.StepWorlds as stepping
-use Rattle.table.proofs.laws.steps.StepWorlds.{at-proper, code-is, table-refused}
-use Rattle.table.proofs.laws.pictures.Primes.{primeList-same}
-use Rattle.table.proofs.laws.pictures.PictureWorlds.{picture-list, picture-ascending, picture-worlds}
+use Rattle.table.proofs.laws.steps.StepWorlds.{code-is, table-refused, at-proper}
 use Rattle.plan.specs.Run.{actionsOf, inGoal, Verdict, reached, short, stopped, full, endedIn, haltedBy, runFrom, lastTable}
-use Rattle.plan.specs.inner.TableRuns.{movesTaken}
+use Rattle.plan.specs.inner.TableRuns.{movesTaken, tableAt, Refuses}
 use Rattle.plan.specs.Calls.{verdictOf}
-use Rattle.plan.specs.inner.TableRuns.{tableAt, Refuses}
-use Rattle.plan.specs.Meaning.{Ends, Every, Comes}
 use Rattle.plan.specs.inner.RunEnds.{Means}
 use Rattle.plan.specs.Demand3.{takenBy}
 use Rattle.plan.proofs.laws.runs.GoalWorlds.{goal-each, goal-lacks, goal-entries}
 use Rattle.plan.proofs.laws.runs.RunTables.{Story, story, run-ended, run-refused, last-at, taken-all, taken-refused}
-use Rattle.plan.proofs.laws.runs.Verdicts.{Arrives, all-next, arrives, run-means, one-verdict}
-use Rattle.plan.proofs.laws.runs.ExactRuns.{Exact}
+use Rattle.plan.proofs.laws.runs.PlanWorlds.{all-next}
+use Rattle.plan.proofs.laws.runs.ArrivedWorlds.{Arrives, arrives}
+use Rattle.plan.proofs.laws.runs.VerdictWorlds.{run-means}
+use Rattle.plan.proofs.laws.runs.VerdictClasses.{one-verdict}
 
 -- ---- the moves of a plan are the sheet's
 pub plan-proper : (p : Problem) → ProperProblem p → (q : List ℕ) → All (λ i. i < length (p .actions)) q
@@ -149,52 +146,50 @@ module _ (p : Problem) (hp : ProperProblem p) (t : List Literals) (starts : star
           (stepping.step-kind (p .n) (hp .n-most) (r .move)
           (all-next (ProperAction (p .n)) (x .0) plan (r .move) (r .later) (r .next) moves) (r .last) (a .described .proper) 128)))
 
-  pub by-stopped : (k N : ℕ) → (verdict ≡ stopped k N) ↔ Stopped k N
+  -- and the verdict is the one that is meant
+  is-meant : (v : Verdict) → Meant v → verdict ≡ v
   unfolding Meant
-  by-stopped k N = (λ e. subst Meant e meant, back)
+  is-meant reached x =
+      run-ended 128 (p .goal) 0 plan t (x .0) (x .1)
+      ∙ ap endedIn (T-true (allOf (inGoal (p .goal)) (x .0))
+      (goal-entries (p .n) (p .goal) (x .0) goals (place-arrives (length plan) (x .0) (x .1) .described .proper) .1 (x .2)))
+  is-meant short x =
+      run-ended 128 (p .goal) 0 plan t (x .0) (x .1)
+      ∙ ap endedIn (T-false (allOf (inGoal (p .goal)) (x .0))
+      (not-in (allOf (inGoal (p .goal)) (x .0)) (λ g. x .2 .3 (goal-each (p .n) (p .goal) (x .0) g (x .2 .0) (x .2 .2)))))
+  is-meant (stopped k N) x = go (x .3)
     where
-      back : Stopped k N → verdict ≡ stopped k N
-      back x = go (x .3)
-        where
-          at : suc (0 + x .0) ≡ k
-          at = omega (arith, x .1)
+      by : (c : ℕ) → N ≡ c → verdict ≡ haltedBy (eqb c 21) k c
+      by c e =
+          let at : suc (0 + x .0) ≡ k = omega (arith, x .1) in
+          run-refused 128 (p .goal) 0 plan t (x .0) c (subst (Refuses 128 plan t (x .0)) e (x .2))
+          ∙ ap (λ (i : ℕ). haltedBy (eqb c 21) i c) at
 
-          by : (c : ℕ) → N ≡ c → runFrom 128 (p .goal) 0 plan t ≡ haltedBy (eqb c 21) k c
-          by c e =
-              run-refused 128 (p .goal) 0 plan t (x .0) c (subst (Refuses 128 plan t (x .0)) e (x .2))
-              ∙ ap (λ (i : ℕ). haltedBy (eqb c 21) i c) at
+      go : (N ≡ 24) ⊎ (N ≡ 25) → verdict ≡ stopped k N
+      go (inl e) = by 24 e ∙ ap (stopped k) (sym e)
+      go (inr e) = by 25 e ∙ ap (stopped k) (sym e)
+  is-meant (full k) x =
+      let at : suc (0 + x .0) ≡ k = omega (arith, x .1) in
+      run-refused 128 (p .goal) 0 plan t (x .0) 21 (x .2) ∙ ap full at
 
-          go : (N ≡ 24) ⊎ (N ≡ 25) → runFrom 128 (p .goal) 0 plan t ≡ stopped k N
-          go (inl e) = by 24 e ∙ ap (stopped k) (sym e)
-          go (inr e) = by 25 e ∙ ap (stopped k) (sym e)
-
-  pub by-full : (k : ℕ) → (verdict ≡ full k) ↔ Filled k
-  unfolding Meant
-  by-full k = (
-    λ e. subst Meant e meant,
-    λ x. let e : suc (0 + x .0) ≡ k = omega (arith, x .1) in run-refused 128 (p .goal) 0 plan t (x .0)
-        21 (x .2) ∙ ap full e,
-  )
+  by-verdict : (v : Verdict) → (verdict ≡ v) ↔ Meant v
+  by-verdict v = (λ e. subst Meant e meant, is-meant v)
 
   pub by-reached : (verdict ≡ reached) ↔ Reached
   unfolding Meant
-  by-reached = (
-    λ e. subst Meant e meant,
-    λ x.
-        run-ended 128 (p .goal) 0 plan t (x .0) (x .1)
-        ∙ ap endedIn (T-true (allOf (inGoal (p .goal)) (x .0))
-        (goal-entries (p .n) (p .goal) (x .0) goals (place-arrives (length plan) (x .0) (x .1) .described .proper) .1 (x .2))),
-  )
+  by-reached = by-verdict reached
 
   pub by-short : (verdict ≡ short) ↔ Short
   unfolding Meant
-  by-short = (
-    λ e. subst Meant e meant,
-    λ x.
-        run-ended 128 (p .goal) 0 plan t (x .0) (x .1)
-        ∙ ap endedIn (T-false (allOf (inGoal (p .goal)) (x .0))
-        (not-in (allOf (inGoal (p .goal)) (x .0)) (λ g. x .2 .3 (goal-each (p .n) (p .goal) (x .0) g (x .2 .0) (x .2 .2))))),
-  )
+  by-short = by-verdict short
+
+  pub by-stopped : (k N : ℕ) → (verdict ≡ stopped k N) ↔ Stopped k N
+  unfolding Meant
+  by-stopped k N = by-verdict (stopped k N)
+
+  pub by-full : (k : ℕ) → (verdict ≡ full k) ↔ Filled k
+  unfolding Meant
+  by-full k = by-verdict (full k)
 
   -- ---- (d) by the starting worlds
   pub verdict-means : Means (p .n) (p .goal) (Starting p) plan verdict
@@ -206,23 +201,3 @@ module _ (p : Problem) (hp : ProperProblem p) (t : List Literals) (starts : star
     λ e. subst (Means (p .n) (p .goal) (Starting p) plan) e verdict-means,
     one-verdict (p .n) (p .goal) (Starting p) plan verdict v f g verdict-means,
   )
-
-  -- ---- the run is exact
-  pub table-exact : Exact p plan verdict (picture (lastTable 128 plan t))
-  table-exact = record {
-    means = verdict-means;
-    defined = subst (Every (p .n) (Starting p) Ends) (sym taken) (last-arrives .defined);
-    ascending = λ s e. picture-ascending (hp .n-most) (last-arrives .described) e .0;
-    primes = λ s e. primeList-same same (picture-list (hp .n-most) (last-arrives .described) e);
-    worlds = λ s e w l.
-        let x = same w l in
-        let y = picture-worlds (hp .n-most) (last-arrives .described) e w l in
-        (λ i. y .0 (x .1 i), λ i. x .0 (y .1 i));
-  }
-    where
-      taken : takenBy (verdictOf verdict) plan ≡ take (movesTaken 128 plan t) plan
-      taken = taken-by 128 (p .goal) plan t plan refl
-
-      same : (w : ℕ) → w < 2 ^ p .n → In (p .n) (lastTable 128 plan t) w ↔ Comes (p .n) (Starting p) (takenBy (verdictOf verdict) plan) w
-      same w l = subst (λ (a : List Action). In (p .n) (lastTable 128 plan t) w ↔ Comes (p .n) (Starting p) a w) (sym taken)
-          (last-arrives .worlds w l)

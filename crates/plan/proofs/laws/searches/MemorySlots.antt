@@ -1,56 +1,25 @@
--- What a slot says of its table, the slots that a memory has, and what a walk makes of them. Assumes nothing.
-use mathlib.Core.Path.{_≡_, refl, sym, ap, subst, _∙_}
-use mathlib.Core.Bool.{Bool, true, false}
-use mathlib.Core.List.{List, _++_, map}
+-- What a slot of the memory says of its table (`Remembers`), what is recalled, entered and tried, and a slot that is written. For the
+-- functions of `memory` and for `searches::try_plans`. Assumes nothing.
+use mathlib.Core.Path.{_≡_, sym, ap, subst, _∙_}
+use mathlib.Core.List.{List}
 use Prim.Native.Nat.{ℕ, _+_, _*_, _-_, _/_, _≤_, _<_}
 use native.Mathlib.Nat.{not-suc-le-zero}
 use native.Mathlib.Omega.{arith}
 use native.Mathlib.Decide.{ℕ-discrete}
 use borrow.Author.Count.{below-more}
-use borrow.Author.Tests.{ltb-true, ltb-false}
-use lib.Dec.{ltb}
-use lib.ListN.{length, getD, set, take, drop, length-append, length-drop, length-set, List·getD-append}
-use lib.Seq.{getD-set-same, getD-set-other, getD-take, getD-drop, getD-append-add, ext-getD, take-at, drop-at, length-take-le}
+use lib.ListN.{length, getD, set, take, drop, length-set}
+use lib.Seq.{getD-set-same, getD-set-other, getD-take, getD-drop}
 use Rattle.sheet.specs.declared.Literals.{Literals}
-use Rattle.sheet.specs.Lists.{All}
-use Rattle.sheet.specs.Problem.{Action}
 use Rattle.sheet.specs.inner.Packed.{itemAt, setsIn, actionOf, goalIn, movesIn}
-use Rattle.sheet.proofs.laws.base.ListFacts.{all-map, any-out}
 use Rattle.sheet.proofs.laws.reader.PackedParts.{item-lent, itemAnew, item-anew-long, item-same, item-other}
 use Rattle.table.specs.Entries.{entriesOf}
-use Rattle.plan.specs.Search.{plansOf, nothing, firstOf}
-use Rattle.plan.specs.inner.FirstPlans.{Fails}
-use Rattle.plan.specs.inner.Searches.{ranFrom, firstFrom, NoShorterPlan, NoShorterFrom}
+use Rattle.plan.specs.Search.{nothing}
+use Rattle.plan.specs.inner.Searches.{firstFrom, NoShorterFrom}
 use Rattle.plan.specs.inner.Memory.{markIn, tableIn, Remembers, Recalls}
-use Rattle.plan.proofs.laws.searches.PlanOrder.{plans-in, plans-out, none-is, none-each}
-use Rattle.plan.proofs.laws.searches.Pruning.{fails-place, agree-entries}
+use Rattle.plan.proofs.laws.searches.NoShorterPlans.{quiet-place, quiet-none, quiet-more}
+use Rattle.plan.proofs.laws.searches.SameEntries.{agree-entries}
 
--- ---- no answer within so many moves
-module _ (goal : List Literals) (f : ℕ → Action) (k : ℕ) (t : List Literals) where
-  -- wherever the plans begin
-  pub quiet-place : (a b n : ℕ) → NoShorterPlan goal f k a t n → NoShorterPlan goal f k b t n
-  quiet-place a b n h q i s = fails-place goal (map f q) t a b (h q i s)
-
-  -- so the plans of fewer moves have none
-  pub quiet-none : (at n left : ℕ) → NoShorterPlan goal f k at t n → left < n → firstFrom goal f k at t left ≡ nothing
-  quiet-none at n left h l =
-      none-is (ranFrom goal f at t) (plansOf k left)
-      (all-map (λ q. All (λ i. i < k) q × (length q ≡ left)) (λ q. Fails (ranFrom goal f at t q))
-      (λ q w. h q (w .0) (omega (arith, w .1))) (plansOf k left) (plans-out k left))
-
-  -- where the plans of n moves have none either, it is so of one move more
-  pub quiet-more : (at n : ℕ) → NoShorterPlan goal f k at t n → firstFrom goal f k at t n ≡ nothing → NoShorterPlan goal f k at t (n + 1)
-  quiet-more at n h e q i s = go (ℕ-discrete (length q) n)
-    where
-      go : Dec (length q ≡ n) → Fails (ranFrom goal f at t q)
-      go (yes z) =
-          any-out (λ p. Fails (ranFrom goal f at t p)) (λ p. p ≡ q) (λ p w r. subst (λ (x : List ℕ). Fails (ranFrom goal f at t x)) r w)
-          (plansOf k (length q))
-          (none-each (ranFrom goal f at t) (plansOf k (length q)) (ap (λ (m : ℕ). firstOf (ranFrom goal f at t) (plansOf k m)) z ∙ e))
-          (plans-in k q i)
-      go (no z) = h q i (omega (arith, s, z))
-
--- ---- the laws of a memory
+-- ---- what the slots say
 module _ (packed : List ℕ) (count : ℕ) where
   -- what is recalled need not be tried
   pub skip : {memory : List ℕ} {es : List Literals} {left : ℕ} (at : ℕ) → Remembers packed count memory → Recalls memory es left

@@ -7,7 +7,8 @@ use native.Mathlib.Omega.{arith}
 use native.Mathlib.Decide.{ℕ-discrete}
 use lib.ListN.{length}
 use Rattle.sheet.specs.Lists.{Any, All, collect}
-use Rattle.sheet.proofs.laws.base.ListFacts.{any-map, all-map, any-out, all-by, all-with, any-append, any-append-l, any-append-r, all-append, all-parts, any-imaged, all-imaged, any-collected, all-collected}
+use Rattle.sheet.proofs.laws.base.ListFacts.{any-map, all-map, any-out, all-by, all-with, any-append, any-append-l, any-append-r}
+use Rattle.sheet.proofs.laws.base.ListFacts.{all-append, all-parts, any-imaged, all-imaged, any-collected, all-collected}
 use Rattle.plan.specs.Run.{Verdict, reached, short, stopped, full}
 use Rattle.plan.specs.Search.{upto, plansOf, plansUpTo, Answer, found, fullAt, nothing, orNext, firstOf}
 use Rattle.plan.specs.Order.{Lower, Earlier, PlanOf}

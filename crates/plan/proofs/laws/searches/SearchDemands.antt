@@ -38,10 +38,11 @@ use Rattle.plan.specs.inner.FirstPlans.{Fails, FirstPlan}
 use Rattle.plan.specs.Demand3.{fullVerdict, runFull, SamePlanSheet}
 use Rattle.plan.specs.DemandWords.{Solves, Spoiled, runWith, Misses, FirstRun, planFound}
 use Rattle.plan.proofs.laws.runs.StartRuns.{verdict-is}
-use Rattle.plan.proofs.laws.runs.CallRuns.{not-full}
-use Rattle.plan.proofs.laws.runs.CallAnswers.{search-fault, search-within, search-8}
-use Rattle.plan.proofs.laws.searches.SearchRuns as searches
-use Rattle.plan.proofs.laws.runs.RunAnswers.{Outcomes, outcomes, verdict-injective, with-table, with-refused}
+use Rattle.plan.proofs.laws.runs.CallVerdicts.{not-full, verdict-injective}
+use Rattle.plan.proofs.laws.searches.SearchRefusals.{search-fault, search-within, search-8}
+use Rattle.plan.proofs.laws.searches.StartSearches as searches
+use Rattle.plan.proofs.laws.runs.StartOutcomes.{Outcomes, outcomes}
+use Rattle.plan.proofs.laws.searches.CarriedPlans.{with-table, with-refused}
 
 -- ---- verdicts that the search passes over
 fails-misses : (v : Verdict) → Fails v → Misses (verdictOf v)

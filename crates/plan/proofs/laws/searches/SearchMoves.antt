@@ -6,11 +6,11 @@ use Prim.Native.Nat.{ℕ, _+_, _<_}
 use native.Mathlib.Omega.{arith}
 use lib.ListN.{length, replicate}
 use Rattle.sheet.specs.declared.Literals.{Literals}
-use Rattle.sheet.specs.inner.Packed.{setsIn, goalIn, movesIn}
+use Rattle.sheet.specs.inner.Packed.{setsIn, goalIn, movesIn, actionOf}
 use Rattle.table.specs.declared.Table.{Table}
 use Rattle.table.specs.Minimal.{Outcome, refused, table, Described}
 use Rattle.table.specs.Step.{stepTable}
-use Rattle.table.specs.Entries.{entriesOf, entries, tableOf}
+use Rattle.table.specs.Entries.{entriesOf, entries, tableOf, lent}
 use Rattle.table.specs.inner.Slots.{Room}
 use Rattle.table.specs.Calls.{orGiven}
 use Rattle.table.proofs.Demands.{step-table}
@@ -19,16 +19,14 @@ use Rattle.plan.specs.declared.SearchAnswer.{SearchAnswer}
 use Rattle.table.specs.declared.steps.Stepped.{Stepped}
 use Rattle.table.specs.declared.steps.Stepped.the-variants as moved
 use Rattle.table.specs.inner.Steps.{MoveFits, stepAnswer}
-use Rattle.table.specs.Entries.{lent}
 use Rattle.plan.specs.Search.{fullAt, nothing}
 use Rattle.plan.specs.Calls.{answered}
-use Rattle.sheet.specs.inner.Packed.{actionOf}
 use Rattle.plan.specs.inner.Searches.{answeredAt, isEnd, NoShorterFrom, Searchable, plansTried, moveTried}
 use Rattle.plan.specs.inner.Memory.{Storable}
 use Rattle.plan.specs.inner.Course.{Ready}
 use Rattle.table.proofs.laws.answers.CallTables.{entries-table}
-use Rattle.plan.proofs.laws.runs.CourseSteps.{stepped, stopped, ready-table, ready-count}
-use Rattle.plan.proofs.laws.searches.Pruning.{quiet-after, unchanged}
+use Rattle.plan.proofs.laws.runs.ReadyTables.{stepped, stopped, ready-table, ready-count}
+use Rattle.plan.proofs.laws.searches.NoShorterPlans.{quiet-after, unchanged}
 use Rattle.plan.proofs.laws.searches.SearchReturns.{written, onward-ended, onward-not, at-stop, at-full}
 
 -- the slots of the table, and that they hold the entries

@@ -17,7 +17,8 @@ use Rattle.plan.specs.Run.{inGoal, endedIn}
 use Rattle.plan.specs.Search.{plansOf, plansUpTo, Answer, found, fullAt, nothing, orNext, firstOf}
 use Rattle.plan.specs.Calls.{answered}
 use Rattle.plan.specs.inner.Searches.{ranFrom, firstFrom, firstBy, answeredAt, isEnd}
-use Rattle.plan.proofs.laws.searches.FirstAnswers.{some, is-nothing, firstBelow, first-below, none-next, found-here, consed, first-by-moves, by-table, by-stop, by-full}
+use Rattle.plan.proofs.laws.searches.FirstByMove.{some, is-nothing, firstBelow, first-below, none-next, found-here, consed}
+use Rattle.plan.proofs.laws.searches.FirstByMove.{first-by-moves, by-table, by-stop, by-full}
 
 -- ---- the bytes of a plan, written on the way back
 pad-zeros : (n a b : ℕ) → pad n 0 (replicate a 0 ++ replicate b 0) ≡ replicate {A = ℕ} n 0

@@ -2,18 +2,17 @@
 -- nothing.
 use mathlib.Core.Path.{_≡_}
 use mathlib.Core.List.{[]}
-use Prim.Native.Nat.{_-_}
+use Prim.Native.Nat.{_-_, _<_}
 use native.Mathlib.Omega.{arith}
 use borrow.Author.Needs.{needs}
-use lib.ListN.{length}
+use lib.ListN.{length, getD}
 use Rattle.sheet.proofs.laws.base.Prefixes.{length-mapped}
 use Rattle.sheet.specs.inner.Packed.{goalIn, setsIn}
-use Rattle.table.specs.Entries.{entries as tableEntries}
-use Rattle.table.specs.Entries.{lent}
+use Rattle.table.specs.Entries.{entries as tableEntries, lent}
 use Rattle.plan.specs.inner.Course.{countsIn, courseFrom}
-use Rattle.plan.proofs.laws.runs.CourseSteps.{ready-count}
 use Rattle.plan.proofs.laws.searches.SearchMoves.{slots-room, move-fits}
-use Rattle.plan.proofs.laws.runs.RunLoop.{left, Going, going-start, going-room, going-end, number-below, going-on, going-halt, no-rows}
+use Rattle.plan.proofs.laws.runs.RunLoop.{left, Going, going-start, going-room, going-end, number-below, going-on, going-halt}
+use Rattle.plan.proofs.laws.runs.RunLoop.{no-rows, going-note}
 use Rattle.plan.proofs.runs.run_from.Statement.{statement}
 use Rattle.plan.proofs.runs.run_from.Tie as tie
 
@@ -30,93 +29,77 @@ loop-holds c =
     let n : length (c .before .args .t1 .numbers) ≡ 64 = search (needs, length-mapped) in
     going-start (c .before .pre .0) n (no-rows (c .before .pre .1))
 
+-- ---- the states that the answers name, each from a later one
+-- in the loop, before the row of its table was noted
+abbrev turn : tie.After-note Inv-loop μ-loop → tie.In-loop Inv-loop μ-loop
+turn c = c .before .before .before .before .before .before .before
+
+abbrev noted : tie.After-step-here Inv-loop μ-loop → tie.After-note Inv-loop μ-loop
+noted c = c .before .before .before .before
+
+-- after the loop, before the last row was noted
+abbrev done : tie.After-note2 Inv-loop μ-loop → tie.After-loop Inv-loop μ-loop
+done c = c .before .before .before .before .before .before .before
+
 note-requires : tie.Need-note-requires Inv-loop μ-loop
-note-requires c κs =
-    let at-loop = c .before .before .before .before .before .before .before in
-    let v = at-loop .loop .inv in
-    ((going-room v, ready-count (v .can .fits .n) _ (v .can .fits .ready) .0), slots-room (v .can .fits))
+note-requires c κs = going-note (c .before .before .before .before .before .before .before .loop .inv)
 
 add-place : tie.Need-add-place Inv-loop μ-loop
-add-place c =
-    let at-loop = c .before .before .before .before .before .before .before .before in
-    omega (arith, going-room (at-loop .loop .inv))
+add-place c = omega (arith, going-room (turn c .before .loop .inv))
 
 element-copy-out-index : tie.Need-element-copy-out-index Inv-loop μ-loop
-element-copy-out-index c =
-    let after-loop-test = c .before .before .before .before .before .before .before in
-    let at-loop = after-loop-test .before in
-    omega (arith, at-loop .loop .inv .can .most, after-loop-test .loop-test .taken)
+element-copy-out-index c = omega (arith, turn c .before .loop .inv .can .most, turn c .loop-test .taken)
+
+-- the move at hand is one of the sheet's
+below : (c : tie.After-note Inv-loop μ-loop) → let l = turn c .before in
+    getD (l .before .before .args .t1 .numbers) (l .loop .i) 0 < l .loop .inv .can .count
+below c = let v = turn c .before .loop .inv in number-below (v .can) (v .long) (turn c .loop-test .taken)
 
 cast-index : tie.Need-cast-index Inv-loop μ-loop
-cast-index c =
-    let after-loop-test = c .before .before .before .before .before .before .before .before in
-    let at-loop = after-loop-test .before in
-    let v = at-loop .loop .inv in
-    omega (arith, number-below (v .can) (v .long) (after-loop-test .loop-test .taken), v .can .fits .most)
+cast-index c = omega (arith, below (c .before), turn (c .before) .before .loop .inv .can .fits .most)
 
 step-here-requires : tie.Need-step-here-requires Inv-loop μ-loop
-step-here-requires c κs =
-    let after-loop-test = c .before .before .before .before .before .before .before .before .before .before in
-    let at-loop = after-loop-test .before in
-    let v = at-loop .loop .inv in
-    let h = v .can .fits in
-    let l = number-below (v .can) (v .long) (after-loop-test .loop-test .taken) in
-    move-fits h l
+step-here-requires c κs = let n = c .before .before .before in move-fits (turn n .before .loop .inv .can .fits) (below n)
 
 returns : tie.Need-returns Inv-loop μ-loop
 unfolding tableEntries
 returns c =
-    let after-number = c .before .before in
-    let after-step-here = after-number .before .before in
-    let after-note = after-step-here .before .before .before .before in
-    let after-loop-test = after-note .before .before .before .before .before .before .before in
-    let at-loop = after-loop-test .before in
-    going-halt (at-loop .loop .inv) (after-loop-test .loop-test .taken) _ _ _ (after-step-here .step-here .ensures)
-    (after-note .note .ensures) (after-number .number .given .1) (c .halt .ensures)
+    let refused = c .before .before in
+    let stepped = refused .before .before in
+    let n = noted stepped in
+    going-halt (turn n .before .loop .inv) (turn n .loop-test .taken) _ _ _ (stepped .step-here .ensures) (n .note .ensures)
+    (refused .number .given .1) (c .halt .ensures)
 
 add-i : tie.Need-add-i Inv-loop μ-loop
-add-i c =
-    let at-loop = c .before .before .before .before .before .before .before .before .before .before .before .before .before .before .before in
-    omega (arith, going-room (at-loop .loop .inv))
+add-i c = omega (arith, going-room (turn (noted (c .before .before .before)) .before .loop .inv))
 
 loop-again : tie.Need-loop-again Inv-loop μ-loop
 unfolding tableEntries
 loop-again c =
-    let after-step-here = c .before .before .before in
-    let after-note = after-step-here .before .before .before .before in
-    let after-loop-test = after-note .before .before .before .before .before .before .before in
-    let at-loop = after-loop-test .before in
-    going-on (at-loop .loop .inv) (after-loop-test .loop-test .taken) _ _ _ (after-step-here .step-here .ensures)
-    (after-note .note .ensures) (c .before .grown .given .1)
+    let stepped = c .before .before .before in
+    let n = noted stepped in
+    going-on (turn n .before .loop .inv) (turn n .loop-test .taken) _ _ _ (stepped .step-here .ensures) (n .note .ensures)
+    (c .before .grown .given .1)
 
 note-requires-2 : tie.Need-note-requires-2 Inv-loop μ-loop
-note-requires-2 c κs =
-    let at-loop = c .before .before .before .before .before .before .before in
-    let v = at-loop .loop .inv in
-    ((going-room v, ready-count (v .can .fits .n) _ (v .can .fits .ready) .0), slots-room (v .can .fits))
+note-requires-2 c κs = going-note (c .before .before .before .before .before .before .before .loop .inv)
 
 part-goal-end : tie.Need-part-goal-end Inv-loop μ-loop
-part-goal-end c =
-    let at-loop = c .before .before .before .before .before .before .before .before in
-    omega (arith, at-loop .loop .inv .can .fits .long)
+part-goal-end c = omega (arith, done c .before .loop .inv .can .fits .long)
 
 end-requires : tie.Need-end-requires Inv-loop μ-loop
 end-requires c κs =
-    let at-loop = c .before .before .before .before .before .before .before .before .before .before .before .before .before in
-    let h = at-loop .loop .inv .can .fits in (h .goal-fits, slots-room h)
+    let h = done (c .before .before .before .before .before) .before .loop .inv .can .fits in
+    (h .goal-fits, slots-room h)
 
 add-t40 : tie.Need-add-t40 Inv-loop μ-loop
-add-t40 c =
-    let at-loop = c .before .before .before .before .before .before .before .before .before .before .before .before .before .before in
-    omega (arith, going-room (at-loop .loop .inv))
+add-t40 c = omega (arith, going-room (done (c .before .before .before .before .before .before) .before .loop .inv))
 
 returns-2 : tie.Need-returns-2 Inv-loop μ-loop
 unfolding tableEntries
 returns-2 c =
-    let after-note2 = c .before .before .before .before .before .before in
-    let after-loop-test = after-note2 .before .before .before .before .before .before .before in
-    let at-loop = after-loop-test .before in
-    going-end (at-loop .loop .inv) (after-loop-test .loop-test .left) (c .end .ensures) (after-note2 .note2 .ensures)
+    let n = c .before .before .before .before .before .before in
+    going-end (done n .before .loop .inv) (done n .loop-test .left) (c .end .ensures) (n .note2 .ensures)
 
 pub run-from-spec : {M : Type 1} → statement M
 run-from-spec =

@@ -10,8 +10,8 @@ use Rattle.table.specs.Entries.{entriesOf, entries}
 use Rattle.plan.specs.Search.{nothing}
 use Rattle.sheet.specs.inner.Packed.{actionOf}
 use Rattle.plan.specs.inner.Searches.{firstFrom}
-use Rattle.plan.proofs.laws.searches.FirstAnswers.{firstBelow}
-use Rattle.plan.proofs.laws.searches.Pruning.{quiet-lengths}
+use Rattle.plan.proofs.laws.searches.FirstByMove.{firstBelow}
+use Rattle.plan.proofs.laws.searches.NoShorterPlans.{quiet-lengths}
 use Rattle.plan.proofs.laws.searches.SearchReturns.{length-found, length-next, length-none}
 use lib.ListN as N
 use Rattle.plan.specs.inner.Memory.{Remembers}
@@ -26,22 +26,28 @@ Inv-loop packed move-count trues falses count limit memory₀ length₀ memory l
 abbrev μ-loop : tie.MeasureT-loop
 μ-loop packed move-count trues falses count limit memory₀ length₀ memory length = limit + 1 - length
 
+-- ---- the states that the answers name, each from a later one
+abbrev entry : tie.At-loop Inv-loop μ-loop → tie.Start Inv-loop μ-loop
+entry c = c .before .before .before .before .before .before .before .before .before
+
+-- the plans of one length were tried
+abbrev turn : tie.After-try-plans Inv-loop μ-loop → tie.In-loop Inv-loop μ-loop
+turn c = c .before .before
+
 loop-holds : tie.Need-loop-holds Inv-loop μ-loop
 loop-holds c =
-    let after-forget = c .before .before in
-    let start = after-forget .before .before .before .before .before .before in
-    let s = start .args in
-    (refl, omega arith, refl, after-forget .forget .ensures (now (s .packed)) (s .move-count))
+    let forgot = c .before .before in
+    let s = forgot .before .before .before .before .before .before .args in
+    (refl, omega arith, refl, forgot .forget .ensures (now (s .packed)) (s .move-count))
 
 try-plans-requires : tie.Need-try-plans-requires Inv-loop μ-loop
 unfolding entries
 try-plans-requires c κs =
-    let at-loop = c .before .before in
-    let start = at-loop .before .before .before .before .before .before .before .before .before in
-    let s = start .args in
-    let g = at-loop .loop in
+    let l = c .before .before in
+    let s = entry l .args in
+    let g = l .loop in
     record {
-      can = start .pre .0;
+      can = entry l .pre .0;
       most = omega arith;
       no-shorter = quiet-lengths (setsIn (goalIn (now (s .packed)))) (actionOf (movesIn (now (s .packed)))) (s .move-count)
           (entriesOf (s .count) (now (s .trues)) (now (s .falses))) (g .length) (g .inv .0);
@@ -51,39 +57,33 @@ try-plans-requires c κs =
 returns : tie.Need-returns Inv-loop μ-loop
 unfolding entries
 returns c =
-    let after-try-plans = c .before .before .before .before in
-    let after-loop-test = after-try-plans .before .before in
-    let at-loop = after-loop-test .before in
-    let start = at-loop .before .before .before .before .before .before .before .before .before in
-    let s = start .args in
-    let g = at-loop .loop in
+    let tried = c .before .before .before .before in
+    let s = entry (turn tried .before) .args in
+    let g = turn tried .before .loop in
     length-found (setsIn (goalIn (now (s .packed)))) (actionOf (movesIn (now (s .packed)))) (s .move-count)
-    (entriesOf (s .count) (now (s .trues)) (now (s .falses))) (s .limit) (g .length) _ (g .inv .0) (after-loop-test .loop-test .taken)
-    (after-try-plans .try-plans .ensures .0) (sym (c .before .is-end .ensures) ∙ c .if1 .taken)
+    (entriesOf (s .count) (now (s .trues)) (now (s .falses))) (s .limit) (g .length) _ (g .inv .0) (turn tried .loop-test .taken)
+    (tried .try-plans .ensures .0) (sym (c .before .is-end .ensures) ∙ c .if1 .taken)
 
 loop-again : tie.Need-loop-again Inv-loop μ-loop
 unfolding entries
 loop-again c =
-    let after-try-plans = c .before .before .before .before in
-    let at-loop = after-try-plans .before .before .before in
-    let start = at-loop .before .before .before .before .before .before .before .before .before in
-    let s = start .args in
-    let g = at-loop .loop in (
+    let tried = c .before .before .before .before in
+    let s = entry (turn tried .before) .args in
+    let g = turn tried .before .loop in (
       length-next (setsIn (goalIn (now (s .packed)))) (actionOf (movesIn (now (s .packed)))) (s .move-count)
           (entriesOf (s .count) (now (s .trues)) (now (s .falses))) (s .limit) (g .length) _ (g .inv .0)
-          (after-try-plans .try-plans .ensures .0) (sym (c .before .is-end .ensures) ∙ c .if1 .left),
+          (tried .try-plans .ensures .0) (sym (c .before .is-end .ensures) ∙ c .if1 .left),
       omega arith,
       search needs,
-      after-try-plans .try-plans .ensures .1,
+      tried .try-plans .ensures .1,
     )
 
 returns-2 : tie.Need-returns-2 Inv-loop μ-loop
 unfolding entries
 returns-2 c =
-    let at-loop = c .before .before in
-    let start = at-loop .before .before .before .before .before .before .before .before .before in
-    let s = start .args in
-    let g = at-loop .loop in
+    let l = c .before .before in
+    let s = entry l .args in
+    let g = l .loop in
     length-none (setsIn (goalIn (now (s .packed)))) (actionOf (movesIn (now (s .packed)))) (s .move-count)
     (entriesOf (s .count) (now (s .trues)) (now (s .falses))) (s .limit) (g .length) _ (g .inv .0) (omega arith) (c .none .ensures)
 

@@ -8,7 +8,7 @@ use borrow.Author.Needs.{needs}
 use borrow.Author.Count.{below-more}
 use denote.Ref.{now}
 use lib.ListN.{getD}
-use Rattle.plan.proofs.laws.searches.Pruning.{Agree, agree-entries}
+use Rattle.plan.proofs.laws.searches.SameEntries.{Agree, agree-entries}
 use Rattle.plan.proofs.searches.same.Statement.{statement}
 use Rattle.plan.proofs.searches.same.Tie as tie
 

@@ -6,27 +6,20 @@ use borrow.Author.Needs.{needs}
 use Rattle.plan.proofs.text.write_verdict.Statement.{statement}
 use Rattle.plan.proofs.text.write_verdict.Tie as tie
 
+-- a verdict of one piece: its line, by what the verdict is
 returns : tie.Need-returns
 unfolding lastLine
-returns c =
-    let after-write-bytes = c .before .before in
-    let after-enum-told = after-write-bytes .before .before .before in
-    rw (after-enum-told .enum-told .given .1) (after-write-bytes .write-bytes .ensures)
+returns c = let w = c .before .before in rw (w .before .before .before .enum-told .given .1) (w .write-bytes .ensures)
 
 returns-2 : tie.Need-returns-2
 unfolding lastLine
-returns-2 c =
-    let after-write-bytes2 = c .before .before in
-    let after-enum-told2 = after-write-bytes2 .before .before .before in
-    rw (after-enum-told2 .enum-told2 .given .1) (after-write-bytes2 .write-bytes2 .ensures)
+returns-2 c = let w = c .before .before in rw (w .before .before .before .enum-told2 .given .1) (w .write-bytes2 .ensures)
 
 returns-3 : tie.Need-returns-3
 unfolding lastLine
-returns-3 c =
-    let after-write-at = c .before .before in
-    let after-verdict = after-write-at .before .before .before .before in
-    rw (after-verdict .verdict .given .1) (after-write-at .write-at .ensures)
+returns-3 c = let w = c .before .before in rw (w .before .before .before .before .verdict .given .1) (w .write-at .ensures)
 
+-- of three
 returns-4 : tie.Need-returns-4
 unfolding lastLine
 returns-4 c =
@@ -39,10 +32,7 @@ returns-4 c =
 
 returns-5 : tie.Need-returns-5
 unfolding lastLine
-returns-5 c =
-    let after-write-at2 = c .before .before in
-    let after-verdict3 = after-write-at2 .before .before .before .before in
-    rw (after-verdict3 .verdict3 .given .1) (after-write-at2 .write-at2 .ensures)
+returns-5 c = let w = c .before .before in rw (w .before .before .before .before .verdict3 .given .1) (w .write-at2 .ensures)
 
 pub write-verdict-spec : {M : Type 1} → statement M
 write-verdict-spec =

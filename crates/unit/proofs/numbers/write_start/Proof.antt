@@ -13,8 +13,7 @@ use Rattle.unit.proofs.numbers.write_start.Tie as tie
 write-entries-requires : tie.Need-write-entries-requires
 write-entries-requires c κs =
     let after-started = c .before .before .before .before in
-    let after-7 = after-started .before .before .before in
-    let s = after-7 in (
+    let s = after-started .before .before .before in (
       s .pre .0,
       count-by (λ (x : Started). startAnswer x (s .args .trues .now) (s .args .falses .now)) (after-started .started .given .1)
           (s .pre .1),
@@ -29,8 +28,7 @@ returns : tie.Need-returns
 returns c =
     let after-write-entries = c .before .before in
     let after-started = after-write-entries .before .before .before .before .before in
-    let after-10 = after-started .before .before .before in
-    let s = after-10 in
+    let s = after-started .before .before .before in
     let e = after-started .started .given .1 in (
       answer-by (λ (x : Started). startAnswer x (s .args .trues .now) (s .args .falses .now)) e,
       table-by (λ (x : Started). startAnswer x (s .args .trues .now) (s .args .falses .now)) e (s .args .numbers .now) _
@@ -41,8 +39,7 @@ returns-2 : tie.Need-returns-2
 returns-2 c =
     let after-write-entries2 = c .before .before in
     let after-started2 = after-write-entries2 .before .before .before .before .before .before .before in
-    let after-12 = after-started2 .before .before .before in
-    let s = after-12 in
+    let s = after-started2 .before .before .before in
     let e = after-started2 .started2 .given .1 in (
       answer-by (λ (x : Started). startAnswer x (s .args .trues .now) (s .args .falses .now)) e,
       table-by (λ (x : Started). startAnswer x (s .args .trues .now) (s .args .falses .now)) e (s .args .numbers .now) _

@@ -10,8 +10,7 @@ use Rattle.unit.proofs.numbers.write_step.Tie as tie
 write-entries-requires : tie.Need-write-entries-requires
 write-entries-requires c κs =
     let after-stepped = c .before .before in
-    let after-5 = after-stepped .before .before .before in
-    let s = after-5 in (
+    let s = after-stepped .before .before .before in (
       s .pre .0,
       count-by (λ (x : Stepped). stepAnswer (tableIn (s .args .numbers .now)) x (s .args .trues .now) (s .args .falses .now))
           (after-stepped .stepped .given .1) (s .pre .1),
@@ -21,8 +20,7 @@ returns : tie.Need-returns
 returns c =
     let after-write-entries = c .before .before in
     let after-stepped = after-write-entries .before .before .before in
-    let after-8 = after-stepped .before .before .before in
-    let s = after-8 in
+    let s = after-stepped .before .before .before in
     let e = after-stepped .stepped .given .1 in (
       answer-by (λ (x : Stepped). stepAnswer (tableIn (s .args .numbers .now)) x (s .args .trues .now) (s .args .falses .now)) e,
       table-by (λ (x : Stepped). stepAnswer (tableIn (s .args .numbers .now)) x (s .args .trues .now) (s .args .falses .now)) e

@@ -1,5 +1,5 @@
--- The search from a start table: the first plan that is reached or full; a full plan is full at its last move; what failing means for the
--- starting worlds. Assumes nothing.
+-- The search of a problem from its start table: the first plan that is reached or full; a full plan is full at its last move; what
+-- failing means for the starting worlds. For SearchDemands (TH6). Assumes nothing.
 use mathlib.Core.Path.{_≡_, refl, sym, subst, _∙_}
 use mathlib.Core.List.{List}
 use mathlib.Core.Logic.{inl, _↔_}
@@ -27,7 +27,8 @@ use Rattle.plan.specs.Order.{Earlier, PlanOf}
 use Rattle.plan.specs.inner.FirstPlans.{Fails, FirstPlan}
 use Rattle.plan.specs.DemandWords.{Solves, Spoiled}
 use Rattle.plan.proofs.laws.runs.RunTables.{refuses-within, refuses-prefix}
-use Rattle.plan.proofs.laws.runs.Verdicts.{all-take, one-end, stop-class}
+use Rattle.plan.proofs.laws.runs.PlanWorlds.{all-take}
+use Rattle.plan.proofs.laws.runs.VerdictClasses.{one-end, stop-class}
 use Rattle.plan.proofs.laws.runs.StartRuns.{by-full, verdict-means}
 use Rattle.plan.proofs.laws.searches.PlanOrder as searching
 

@@ -1,27 +1,25 @@
--- Where no shorter plan is reached or full: so it is after a move, and a move that leaves the table as it was leads to no answer.
--- Assumes nothing.
-use mathlib.Core.Path.{_≡_, sym, ap, ap₂, subst, _∙_}
+-- Where no shorter plan is reached or full (`NoShorterPlan`): so it is after a move, from any place, and for one move more; and a move that
+-- leaves the table as it was leads to no answer. For SearchMoves, MemorySlots and `searches::lengths`. Assumes nothing.
+use mathlib.Core.Path.{_≡_, ap, subst, _∙_}
 use mathlib.Core.Bool.{Bool, true, false}
 use mathlib.Core.List.{List, [], _∷_, map}
 use Prim.Native.Nat.{ℕ, suc, _+_, _<_}
 use native.Mathlib.Omega.{arith}
 use lib.Dec.{eqb}
-use lib.ListN.{length, getD}
-use lib.Seq.{ext-getD}
+use lib.ListN.{length}
 use Rattle.sheet.specs.declared.Literals.{Literals}
-use Rattle.sheet.specs.Lists.{All, pad}
+use Rattle.sheet.specs.Lists.{All}
 use Rattle.sheet.specs.Problem.{Action}
 use Rattle.sheet.proofs.laws.base.ListFacts.{all-map, any-out}
 use Rattle.table.specs.Minimal.{Outcome, refused, table}
 use Rattle.table.specs.Step.{stepTable}
-use Rattle.table.specs.Entries.{pairs, entriesOf}
-use Rattle.sheet.proofs.laws.base.Padding.{length-pad, getD-pad}
 use Rattle.plan.specs.Run.{haltedBy, onward, runFrom}
-use Rattle.plan.specs.Search.{plansOf, nothing}
+use Rattle.plan.specs.Search.{plansOf, nothing, firstOf}
 use Rattle.plan.specs.inner.FirstPlans.{Fails}
 use Rattle.plan.specs.inner.Searches.{ranFrom, firstFrom, firstBy, NoShorterPlan}
 use Rattle.plan.proofs.laws.searches.PlanOrder.{plans-in, plans-out, none-is, none-each}
-use Rattle.plan.proofs.laws.searches.FirstAnswers.{firstBelow, each-nothing, consed, by-table}
+use Rattle.plan.proofs.laws.searches.FirstByMove.{firstBelow, each-nothing, consed, by-table}
+use native.Mathlib.Decide.{ℕ-discrete}
 
 -- a plan fails or not wherever it begins
 pub fails-place : (goal : List Literals) (plan : List Action) (t : List Literals) (a b : ℕ) → Fails (runFrom 128 goal a plan t)
@@ -61,16 +59,27 @@ quiet-lengths goal f k t n e q i s =
     (plansOf k (length q))
     (none-each (ranFrom goal f 0 t) (plansOf k (length q)) (each-nothing (firstFrom goal f k 0 t) n e (length q) s)) (plans-in k q i)
 
--- ---- the same numbers in the slots
-abbrev pub Agree : List ℕ → List ℕ → ℕ → Type 0
-Agree xs ys n = (i : ℕ) → i < n → getD xs i 0 ≡ getD ys i 0
+-- ---- no answer within so many moves
+module _ (goal : List Literals) (f : ℕ → Action) (k : ℕ) (t : List Literals) where
+  -- wherever the plans begin
+  pub quiet-place : (a b n : ℕ) → NoShorterPlan goal f k a t n → NoShorterPlan goal f k b t n
+  quiet-place a b n h q i s = fails-place goal (map f q) t a b (h q i s)
 
-agree-pad : (n : ℕ) (xs ys : List ℕ) → Agree xs ys n → pad n 0 xs ≡ pad n 0 ys
-agree-pad n xs ys h =
-    ext-getD 0 (pad n 0 xs) (pad n 0 ys) (length-pad n 0 xs ∙ sym (length-pad n 0 ys))
-    (λ i l. let b : i < n = omega (arith, length-pad n 0 xs) in getD-pad n 0 xs i b ∙ h i b ∙ sym (getD-pad n 0 ys i b))
+  -- so the plans of fewer moves have none
+  pub quiet-none : (at n left : ℕ) → NoShorterPlan goal f k at t n → left < n → firstFrom goal f k at t left ≡ nothing
+  quiet-none at n left h l =
+      none-is (ranFrom goal f at t) (plansOf k left)
+      (all-map (λ q. All (λ i. i < k) q × (length q ≡ left)) (λ q. Fails (ranFrom goal f at t q))
+      (λ q w. h q (w .0) (omega (arith, w .1))) (plansOf k left) (plans-out k left))
 
-pub agree-entries : (n m : ℕ) (ts fs us gs : List ℕ) → n ≡ m → Agree ts us n → Agree fs gs n → entriesOf n ts fs ≡ entriesOf m us gs
-unfolding entriesOf
-agree-entries n m ts fs us gs e a b =
-    ap₂ pairs (agree-pad n ts us a) (agree-pad n fs gs b) ∙ ap (λ (i : ℕ). pairs (pad i 0 us) (pad i 0 gs)) e
+  -- where the plans of n moves have none either, it is so of one move more
+  pub quiet-more : (at n : ℕ) → NoShorterPlan goal f k at t n → firstFrom goal f k at t n ≡ nothing → NoShorterPlan goal f k at t (n + 1)
+  quiet-more at n h e q i s = go (ℕ-discrete (length q) n)
+    where
+      go : Dec (length q ≡ n) → Fails (ranFrom goal f at t q)
+      go (yes z) =
+          any-out (λ p. Fails (ranFrom goal f at t p)) (λ p. p ≡ q) (λ p w r. subst (λ (x : List ℕ). Fails (ranFrom goal f at t x)) r w)
+          (plansOf k (length q))
+          (none-each (ranFrom goal f at t) (plansOf k (length q)) (ap (λ (m : ℕ). firstOf (ranFrom goal f at t) (plansOf k m)) z ∙ e))
+          (plans-in k q i)
+      go (no z) = h q i (omega (arith, s, z))

@@ -1,4 +1,5 @@
--- One interface for runs of any kind: verdict and final clauses by the starting worlds alone; demand 3 follows from it. Assumes nothing.
+-- A run told by the starting worlds alone (`Exact`): its verdict and its final clauses; so are runs from a start table, and two such
+-- runs on one problem agree. For ExactCalls (TH7, TH9). Assumes nothing.
 use mathlib.Core.Path.{_≡_, refl, sym, ap, subst, _∙_}
 use mathlib.Core.List.{List}
 use mathlib.Core.Logic.{_↔_}
@@ -13,16 +14,23 @@ use Rattle.sheet.specs.Lists.{All}
 use Rattle.sheet.specs.Problem.{Action, Problem}
 use Rattle.sheet.proofs.laws.literals.ProperSets.{all-members}
 use Rattle.table.specs.Worlds.{runWorld, Starting}
-use Rattle.table.specs.Picture.{Ascending, pictureBytes}
+use Rattle.table.specs.Picture.{Ascending, pictureBytes, picture}
 use Rattle.table.proofs.laws.pictures.Primes.{PrimeList, list-exactly, primeList-same}
-use Rattle.table.proofs.laws.pictures.PictureWorlds.{prime-unique}
+use Rattle.table.proofs.laws.pictures.PictureWorlds.{prime-unique, picture-list, picture-ascending, picture-worlds}
 use Rattle.table.proofs.laws.pictures.PictureBytes.{Fit, bytes-injective}
-use Rattle.plan.specs.Run.{Verdict, reached, short, stopped, full}
+use Rattle.plan.specs.Run.{Verdict, reached, short, stopped, full, actionsOf, runFrom, lastTable}
 use Rattle.plan.specs.Calls.{verdictOf}
 use Rattle.plan.specs.Meaning.{Ends, Every, Comes}
 use Rattle.plan.specs.inner.RunEnds.{Means}
 use Rattle.plan.specs.Demand3.{Class, isReached, isShort, isStopped, classOf, takenBy}
-use Rattle.plan.proofs.laws.runs.Verdicts.{ClassMeans, one-class, class-other, stop-class}
+use Rattle.plan.proofs.laws.runs.VerdictClasses.{ClassMeans, one-class, class-other, stop-class}
+use Rattle.plan.proofs.laws.runs.StartRuns.{last-arrives, verdict-means, taken-by}
+use lib.ListN.{length, take}
+use Rattle.sheet.specs.Encoding.{ProperProblem}
+use Rattle.table.specs.Minimal.{In, table}
+use Rattle.table.specs.Start.{startTable}
+use Rattle.plan.specs.inner.TableRuns.{movesTaken}
+use Rattle.plan.proofs.laws.runs.ArrivedWorlds.{Arrives}
 
 -- the verdict v and the final clauses of a run of the plan on the problem p: v means what the starting worlds do; they all take the moves
 -- taken; and the clauses, if any, are the prime implicates, ascending, of the worlds that they then come to
@@ -33,6 +41,37 @@ pub record Exact (p : Problem) (plan : List Action) (v : Verdict) (clauses : Opt
   pub primes : (s : List Literals) → clauses ≡ some s → PrimeList (p .n) (Comes (p .n) (Starting p) (takenBy (verdictOf v) plan)) s
   pub worlds : (s : List Literals) → clauses ≡ some s → (w : ℕ) → w < 2 ^ p .n
       → Comes (p .n) (Starting p) (takenBy (verdictOf v) plan) w ↔ All (λ c. T (meets c (state (p .n) w))) s
+
+-- ---- a run from a start table is exact
+module _ (p : Problem) (hp : ProperProblem p) (t : List Literals) (starts : startTable 128 p ≡ table t) (q : List ℕ)
+    (hq : All (λ i. i < length (p .actions)) q) where
+  abbrev plan : List Action
+  plan = actionsOf p q
+
+  abbrev verdict : Verdict
+  verdict = runFrom 128 (p .goal) 0 (actionsOf p q) t
+
+  last : Arrives 128 (p .n) (Starting p) plan (movesTaken 128 plan t) (lastTable 128 plan t)
+  last = last-arrives p hp t starts q hq
+
+  pub table-exact : Exact p plan verdict (picture (lastTable 128 plan t))
+  table-exact = record {
+    means = verdict-means p hp t starts q hq;
+    defined = subst (Every (p .n) (Starting p) Ends) (sym taken) (last .defined);
+    ascending = λ s e. picture-ascending (hp .n-most) (last .described) e .0;
+    primes = λ s e. primeList-same same (picture-list (hp .n-most) (last .described) e);
+    worlds = λ s e w l.
+        let x = same w l in
+        let y = picture-worlds (hp .n-most) (last .described) e w l in
+        (λ i. y .0 (x .1 i), λ i. x .0 (y .1 i));
+  }
+    where
+      taken : takenBy (verdictOf verdict) plan ≡ take (movesTaken 128 plan t) plan
+      taken = taken-by 128 (p .goal) plan t plan refl
+
+      same : (w : ℕ) → w < 2 ^ p .n → In (p .n) (lastTable 128 plan t) w ↔ Comes (p .n) (Starting p) (takenBy (verdictOf verdict) plan) w
+      same w l = subst (λ (a : List Action). In (p .n) (lastTable 128 plan t) w ↔ Comes (p .n) (Starting p) a w) (sym taken)
+          (last .worlds w l)
 
 -- ---- the class of a verdict that is not full; where it is not stopped, all moves are taken
 pub class-of : (n : ℕ) (goal : List Literals) (S : ℕ → Type 0) (plan : List Action) (v : Verdict) → ((k : ℕ) → v ≡ full k → ⊥)
