@@ -2,6 +2,7 @@
 -- ---- may be cited from above
 pub mod Bools
 pub mod ListFacts
+pub mod ListMembers
 pub mod Prefixes
 pub mod Padding
 pub mod Copying

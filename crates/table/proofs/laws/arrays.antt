@@ -3,6 +3,5 @@
 pub mod HeldLists
 pub mod EntryLoops
 -- ---- for this crate alone
-pub mod ListMembers
 pub mod KeptMembers
 pub mod Compaction

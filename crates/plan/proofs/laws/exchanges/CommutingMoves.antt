@@ -13,10 +13,9 @@ use Rattle.sheet.specs.declared.Effect.{Effect}
 use Rattle.sheet.specs.Literals.{has, mem, within, join, clash, consistent, replace, names, state}
 use Rattle.sheet.specs.Problem.{Action}
 use Rattle.sheet.specs.Encoding.{ProperAction}
-use Rattle.sheet.proofs.laws.base.Bools.{T-false, true-T, false-T, and-l, and-r, or-not-l, or-not-r, not-not}
+use Rattle.sheet.proofs.laws.base.Bools.{T-false, true-T, false-T, and-l, and-r, or-not-l, or-not-r, not-not, or-cases, or-left, or-right}
 use Rattle.sheet.proofs.laws.literals.MaskBits.{Sub, has-or, disjoint-of, of-disjoint}
-use Rattle.sheet.proofs.laws.literals.LiteralSets.{Within, mem-join, or-cases, or-left, or-right, join-comm, clash-sym, apart-of, of-apart}
-use Rattle.sheet.proofs.laws.literals.AscendingBytes.{mem-none}
+use Rattle.sheet.proofs.laws.literals.LiteralSets.{Within, mem-join, join-comm, clash-sym, apart-of, of-apart, mem-none}
 use Rattle.sheet.proofs.laws.literals.Results.{has-names, named, within-other, replace-join}
 use Rattle.table.specs.Worlds.{addResult, results, takes, worldAfter, when, stepWorld, andThen}
 use Rattle.table.proofs.laws.steps.StepWorlds.{after-world}

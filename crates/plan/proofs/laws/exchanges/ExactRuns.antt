@@ -12,7 +12,7 @@ use Rattle.sheet.specs.declared.Literals.{Literals}
 use Rattle.sheet.specs.Literals.{state, meets}
 use Rattle.sheet.specs.Lists.{All}
 use Rattle.sheet.specs.Problem.{Action, Problem}
-use Rattle.sheet.proofs.laws.literals.ProperSets.{all-members}
+use Rattle.sheet.proofs.laws.base.ListMembers.{all-members}
 use Rattle.table.specs.Worlds.{runWorld, Starting}
 use Rattle.table.specs.Picture.{Ascending, pictureBytes, picture}
 use Rattle.table.proofs.laws.pictures.Primes.{PrimeList, list-exactly, primeList-same}

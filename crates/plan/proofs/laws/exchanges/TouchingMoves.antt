@@ -6,7 +6,7 @@ use mathlib.Core.Logic.{_⊎_, inl, inr, _↔_}
 use Prim.Native.Nat.{ℕ, zero, suc, _+_, _<_}
 use native.Mathlib.Omega.{arith}
 use lib.Dec.{T, eqb}
-use lib.Bits.{bitAnd, bitOr}
+use lib.Bits.{bitAnd}
 use lib.ListN.{length}
 use borrow.Author.Tests.{eq-eqb, eqb-true}
 use Rattle.sheet.specs.declared.Literals.{Literals}
@@ -15,9 +15,8 @@ use Rattle.sheet.specs.Literals.{has, mem, clash, names}
 use Rattle.sheet.specs.Lists.{Any}
 use Rattle.sheet.specs.Problem.{Action}
 use Rattle.sheet.proofs.laws.literals.MaskBits.{has-or, has-none, disjoint-of, not-disjoint}
-use Rattle.sheet.proofs.laws.base.Bools.{T-true, true-T}
-use Rattle.sheet.proofs.laws.literals.LiteralSets.{mem-join, clash-at, clash-here, or-cases, or-left, or-right}
-use Rattle.sheet.proofs.laws.literals.AscendingBytes.{mem-none}
+use Rattle.sheet.proofs.laws.base.Bools.{T-true, true-T, or-cases, or-left, or-right}
+use Rattle.sheet.proofs.laws.literals.LiteralSets.{mem-join, clash-at, clash-here, mem-none}
 use Rattle.sheet.proofs.laws.base.ListFacts.{any-map}
 use Rattle.sheet.proofs.laws.literals.Results.{has-names}
 use Rattle.plan.specs.Exchange.{resultsBy, namedBy, readBy, changed, reads, named, touch, touchAnywhere, swap, exchangeBy, exchanges}

@@ -98,3 +98,22 @@ cond-true {A} x y e = sym (ap (λ (p : Bool). cond {A = A} p x y) e)
 
 pub cond-false : {A : Type 0} {b : Bool} (x y : A) → b ≡ false → y ≡ cond b x y
 cond-false {A} x y e = sym (ap (λ (p : Bool). cond {A = A} p x y) e)
+
+-- ---- tests as equations
+pub or-cases : (x y : Bool) → (x || y) ≡ true → (x ≡ true) ⊎ (y ≡ true)
+or-cases true y e = inl refl
+or-cases false y e = inr e
+
+pub or-left : (x y : Bool) → x ≡ true → (x || y) ≡ true
+or-left x y e = rw e
+
+pub or-right : (x y : Bool) → y ≡ true → (x || y) ≡ true
+or-right true y e = refl
+or-right false y e = e
+
+pub and-true : (x y : Bool) → x ≡ true → y ≡ true → (x && y) ≡ true
+and-true x y e f = rw (e, f)
+
+pub not-twice : (s : Bool) → not (not s) ≡ s
+not-twice true = refl
+not-twice false = refl

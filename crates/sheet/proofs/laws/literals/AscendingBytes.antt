@@ -15,9 +15,8 @@ use Rattle.sheet.specs.Literals.{mem, noLiteral, single, sign, literal, 
 use Rattle.sheet.specs.inner.Masks.{byte, next}
 use Rattle.sheet.specs.Form.{Form, done, _>>=_, judged, due}
 use Rattle.sheet.specs.Format.{literalFault, ascending, setOf}
-use Rattle.sheet.proofs.laws.literals.MaskBits.{has-none}
-use Rattle.sheet.proofs.laws.base.Bools.{iff-eq}
-use Rattle.sheet.proofs.laws.literals.LiteralSets.{mem-join, set-ext, mem-self, single-is, or-cases, or-left, or-right, both, consistent-of, of-consistent, consistent-join, consistent-single, clash-single, of-below, below-join, below-single}
+use Rattle.sheet.proofs.laws.base.Bools.{iff-eq, or-cases, or-left, or-right, and-true}
+use Rattle.sheet.proofs.laws.literals.LiteralSets.{mem-none, mem-join, set-ext, mem-self, single-is, consistent-of, of-consistent, consistent-join, consistent-single, clash-single, of-below, below-join, below-single}
 use Rattle.sheet.proofs.laws.literals.LiteralBytes.{next-is, byte-place, byte-of, contains-byte, contains-lt, down, next-found, next-ge, members-here, members-step, members-end, members-cons, members-nil, of-member, member-of}
 use Rattle.sheet.proofs.laws.format.ByteRules.{beyond, least, literal-0}
 use Rattle.sheet.proofs.laws.format.DueForms.{run-byte, run-done, run-map}
@@ -55,11 +54,6 @@ contains-literal b m =
     (λ e. let i : (sign m ≡ sign b) × (m / 2 ≡ b / 2) = single-is (sign b) (b / 2) (sign m) (m / 2) e in eq-eqb m b
     (sym (byte-of m) ∙ ap₂ byte (i .0) (i .1) ∙ byte-of b))
     (λ e. ap (λ (x : ℕ). mem (single (sign b) (b / 2)) (sign x) (x / 2)) (eqb-true m b e) ∙ mem-self (sign b) (b / 2))
-
-pub mem-none : (s : Bool) (p : ℕ) → mem noLiteral s p ≡ false
-unfolding mem noLiteral
-mem-none true p = has-none p
-mem-none false p = has-none p
 
 contains-nil : (m : ℕ) → contains (setOf []) m ≡ false
 unfolding contains setOf
@@ -99,14 +93,14 @@ from-below : (n l : ℕ) (bs : List ℕ) → From n l bs → below n (setOf bs) 
 unfolding setOf literal
 from-below n l [] h = of-below n noLiteral (λ s p m. absurd (false≢true (sym (mem-none s p) ∙ m)))
 from-below n l (b ∷ bs) h =
-    below-join n (literal b) (setOf bs) ∙ both _ _ (below-single n (sign b) (b / 2) (omega arith)) (from-below n (beyond b) bs (h .2))
+    below-join n (literal b) (setOf bs) ∙ and-true _ _ (below-single n (sign b) (b / 2) (omega arith)) (from-below n (beyond b) bs (h .2))
 
 from-consistent : (n l : ℕ) (bs : List ℕ) → From n l bs → consistent (setOf bs) ≡ true
 unfolding setOf literal
 from-consistent n l [] h = of-consistent noLiteral (λ s p m. mem-none (not s) p)
 from-consistent n l (b ∷ bs) h =
     consistent-join (literal b) (setOf bs)
-    ∙ both _ _ (both _ _ (consistent-single (sign b) (b / 2)) (from-consistent n (beyond b) bs (h .2)))
+    ∙ and-true _ _ (and-true _ _ (consistent-single (sign b) (b / 2)) (from-consistent n (beyond b) bs (h .2)))
     (ap not (clash-single (sign b) (b / 2) (setOf bs) ∙ go (mem (setOf bs) (not (sign b)) (b / 2)) refl))
   where
     go : (t : Bool) → mem (setOf bs) (not (sign b)) (b / 2) ≡ t → mem (setOf bs) (not (sign b)) (b / 2) ≡ false

@@ -1,18 +1,23 @@
 -- Sets of literals by their members: `mem` of each operation, `within`, `clash`, `consistent`, `below`; none looks at a mask's digits.
 -- For all laws of literal sets, here and in table and plan. Assumes nothing.
 use mathlib.Core.Path.{_≡_, refl, sym, ap, ap₂, _∙_, subst}
-use mathlib.Core.Logic.{_⊎_, inl, inr, ⊎-elim}
+use mathlib.Core.Logic.{_⊎_, ⊎-elim}
 use mathlib.Core.Bool.{Bool, true, false, not, _&&_, _||_, Bool·beq, and-eq-true-iff, or-comm, or-assoc, true≢false, false≢true}
 use Prim.Native.Nat.{ℕ, _^_, _<_}
 use lib.Dec.{T, eqb, ltb}
 use lib.Bits.{bitAnd, and-comm}
 use borrow.Author.Tests.{eq-eqb, eqb-true, eqb-false, lt-ltb, ltb-true, not-true, not-false}
 use Rattle.sheet.specs.declared.Literals.{Literals}
-use Rattle.sheet.specs.Literals.{has, side, mem, within, clash, consistent, join, flip, replace, single, state, below, Proper}
-use Rattle.sheet.proofs.laws.base.Bools.{T-true, true-T, iff-eq}
+use Rattle.sheet.specs.Literals.{has, noLiteral, side, mem, within, clash, consistent, join, flip, replace, single, state, below, Proper}
+use Rattle.sheet.proofs.laws.base.Bools.{T-true, true-T, iff-eq, or-cases, or-left, or-right, and-true, not-twice}
 use Rattle.sheet.proofs.laws.literals.MaskBits.{has-or, has-minus, has-pow, has-none, has-not, has-below, below-has, ext, sub-of, of-sub, not-sub, disjoint-of, of-disjoint, not-disjoint}
 
 -- ---- the members of each set
+
+pub mem-none : (s : Bool) (p : ℕ) → mem noLiteral s p ≡ false
+unfolding mem noLiteral
+mem-none true p = has-none p
+mem-none false p = has-none p
 
 pub mem-join : (a b : Literals) (s : Bool) (p : ℕ) → mem (join a b) s p ≡ (mem a s p || mem b s p)
 unfolding mem join
@@ -130,24 +135,6 @@ clash-here a b s p e f = go (clash a b) refl
 
 -- ---- truth values
 
-pub or-cases : (x y : Bool) → (x || y) ≡ true → (x ≡ true) ⊎ (y ≡ true)
-or-cases true y e = inl refl
-or-cases false y e = inr e
-
-pub or-left : (x y : Bool) → x ≡ true → (x || y) ≡ true
-or-left x y e = rw e
-
-pub or-right : (x y : Bool) → y ≡ true → (x || y) ≡ true
-or-right true y e = refl
-or-right false y e = e
-
-pub both : (x y : Bool) → x ≡ true → y ≡ true → (x && y) ≡ true
-both x y e f = rw (e, f)
-
-pub not-not : (s : Bool) → not (not s) ≡ s
-not-not true = refl
-not-not false = refl
-
 -- ---- the order
 
 pub within-refl : (a : Literals) → T (within a a)
@@ -166,12 +153,12 @@ within-join-l a b = true-T (within a (join a b)) (of-within _ _ (λ s p e. mem-j
 pub within-join-r : (a b : Literals) → T (within b (join a b))
 within-join-r a b = true-T (within b (join a b)) (of-within _ _ (λ s p e. mem-join a b s p ∙ or-right (mem a s p) _ e))
 
--- the join is the least set that holds both
+-- the join is the least set that holds and-true
 pub within-join : (a b c : Literals) → within (join a b) c ≡ (within a c && within b c)
 within-join a b c =
     iff-eq _ _
     (λ e. let w = true-T (within (join a b) c) e in
-    both _ _ (T-true (within a c) (within-trans a (join a b) c (within-join-l a b) w))
+    and-true _ _ (T-true (within a c) (within-trans a (join a b) c (within-join-l a b) w))
     (T-true (within b c) (within-trans b (join a b) c (within-join-r a b) w)))
     (λ e.
     of-within _ _ (λ s p m.
@@ -180,7 +167,7 @@ within-join a b c =
 
 pub join-same : (a b : Literals) → within b a ≡ true → join a b ≡ a
 join-same a b e =
-    within-antisym _ _ (within-join a b a ∙ both _ _ (T-true (within a a) (within-refl a)) e)
+    within-antisym _ _ (within-join a b a ∙ and-true _ _ (T-true (within a a) (within-refl a)) e)
     (T-true (within a (join a b)) (within-join-l a b))
 
 pub join-comm : (a b : Literals) → join a b ≡ join b a
@@ -197,7 +184,7 @@ clash-sym a b = iff-eq _ _ (turn a b) (turn b a)
     turn : (a b : Literals) → clash a b ≡ true → clash b a ≡ true
     turn a b e =
         let r = clash-at a b e in
-        clash-here b a (not (r .0)) (r .1) (r .3) (ap (λ (t : Bool). mem a t (r .1)) (not-not (r .0)) ∙ r .2)
+        clash-here b a (not (r .0)) (r .1) (r .3) (ap (λ (t : Bool). mem a t (r .1)) (not-twice (r .0)) ∙ r .2)
 
 pub clash-within : (a b c : Literals) → within a b ≡ true → clash a c ≡ true → clash b c ≡ true
 clash-within a b c w e = let r = clash-at a c e in clash-here b c (r .0) (r .1) (within-of a b w (r .0) (r .1) (r .2)) (r .3)
@@ -261,7 +248,7 @@ same-sign true = refl
 same-sign false = refl
 
 pub mem-self : (s : Bool) (p : ℕ) → mem (single s p) s p ≡ true
-mem-self s p = mem-single s p s p ∙ both _ _ (same-sign s) (eq-eqb p p refl)
+mem-self s p = mem-single s p s p ∙ and-true _ _ (same-sign s) (eq-eqb p p refl)
 
 -- a member of the set of one literal is that literal
 pub single-is : (s : Bool) (p : ℕ) (t : Bool) (q : ℕ) → mem (single s p) t q ≡ true → (t ≡ s) × (q ≡ p)
@@ -307,8 +294,8 @@ meet-at a b e =
 
 pub meet-here : (a b : Literals) (s : Bool) (p : ℕ) → mem a s p ≡ true → mem b s p ≡ true → clash (flip a) b ≡ true
 meet-here a b s p e f =
-    clash-here (flip a) b (not s) p (mem-flip a (not s) p ∙ ap (λ (t : Bool). mem a t p) (not-not s) ∙ e)
-    (ap (λ (t : Bool). mem b t p) (not-not s) ∙ f)
+    clash-here (flip a) b (not s) p (mem-flip a (not s) p ∙ ap (λ (t : Bool). mem a t p) (not-twice s) ∙ e)
+    (ap (λ (t : Bool). mem b t p) (not-twice s) ∙ f)
 
 -- ---- the propositions named
 
@@ -323,7 +310,7 @@ below-of n a e false p m = has-below (ltb-true _ _ (and-eq-true-iff (ltb (a .tru
 
 pub of-below : (n : ℕ) (a : Literals) → Below n a → below n a ≡ true
 unfolding mem below
-of-below n a h = both _ _ (lt-ltb _ _ (below-has n (a .trues) (h true))) (lt-ltb _ _ (below-has n (a .falses) (h false)))
+of-below n a h = and-true _ _ (lt-ltb _ _ (below-has n (a .trues) (h true))) (lt-ltb _ _ (below-has n (a .falses) (h false)))
 
 pub below-trues : (n : ℕ) (a : Literals) → below n a ≡ true → a .trues < 2 ^ n
 unfolding below
@@ -339,7 +326,7 @@ below-within n a b w e = of-below n a (λ s p m. below-of n b e s p (within-of a
 pub below-join : (n : ℕ) (a b : Literals) → below n (join a b) ≡ (below n a && below n b)
 below-join n a b =
     iff-eq _ _
-    (λ e. both _ _ (below-within n a _ (T-true (within a (join a b)) (within-join-l a b)) e)
+    (λ e. and-true _ _ (below-within n a _ (T-true (within a (join a b)) (within-join-l a b)) e)
     (below-within n b _ (T-true (within b (join a b)) (within-join-r a b)) e))
     (λ e.
     of-below n _ (λ s p m.
@@ -349,7 +336,7 @@ below-join n a b =
 pub below-single : (n : ℕ) (s : Bool) (p : ℕ) → p < n → below n (single s p) ≡ true
 below-single n s p h = of-below n _ (λ t q m. subst (λ (x : ℕ). x < n) (sym (single-is s p t q m .1)) h)
 
--- ---- complements keep both
+-- ---- complements keep and-true
 
 pub consistent-flip : (a : Literals) → consistent (flip a) ≡ consistent a
 unfolding consistent flip
@@ -375,4 +362,4 @@ proper-consistent n a h = T-true (consistent a) (h .steady)
 
 pub proper-below : (n : ℕ) (a : Literals) → Proper n a → below n a ≡ true
 unfolding below
-proper-below n a h = both _ _ (lt-ltb _ _ (h .trues-below)) (lt-ltb _ _ (h .falses-below))
+proper-below n a h = and-true _ _ (lt-ltb _ _ (h .trues-below)) (lt-ltb _ _ (h .falses-below))

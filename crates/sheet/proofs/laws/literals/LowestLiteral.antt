@@ -14,7 +14,7 @@ use Rattle.sheet.specs.declared.Literals.{Literals}
 use Rattle.sheet.specs.Literals.{has, mem, sign, contains}
 use Rattle.sheet.specs.inner.Masks.{next}
 use Rattle.sheet.proofs.laws.literals.MaskBits.{has-zero, has-suc, has-or, has-none, has-below}
-use Rattle.sheet.proofs.laws.literals.LiteralSets.{or-cases}
+use Rattle.sheet.proofs.laws.base.Bools.{or-cases}
 use Rattle.sheet.proofs.laws.literals.LiteralBytes.{next-is}
 
 -- ---- bits after a shift

@@ -1,50 +1,28 @@
 -- Proper sets of literals: joined, replaced and denied, their worlds, their literals one by one; and members of lists.
 -- For the tables and pictures of table, and the runs of plan. Assumes nothing.
-use mathlib.Core.Path.{_≡_, refl, sym, ap, subst, _∙_}
+use mathlib.Core.Path.{_≡_, refl, sym, ap, _∙_}
 use mathlib.Core.Bool.{Bool, true, false, not, true≢false}
-use mathlib.Core.List.{List, [], _∷_, List·Memᴰ, List·Memᴰ·head, List·Memᴰ·tail}
-use mathlib.Core.Logic.{inl, inr}
 use Prim.Native.Nat.{ℕ, _/_, _^_, _≤_, _<_}
 use native.Mathlib.Omega.{arith}
 use lib.Dec.{T}
 use Rattle.sheet.specs.declared.Literals.{Literals}
 use Rattle.sheet.specs.Literals.{noLiteral, mem, within, clash, consistent, join, flip, replace, single, sign, literal, contains, state, below, members, Proper}
 use Rattle.sheet.specs.inner.Masks.{byte}
-use Rattle.sheet.specs.Lists.{Any, All, addIf, keep}
-use Rattle.sheet.proofs.laws.base.Bools.{both, T-true, T-false, true-T, false-T}
+use Rattle.sheet.specs.Lists.{Any, All}
+use Rattle.sheet.proofs.laws.base.ListMembers.{any-member, all-members}
+use Rattle.sheet.proofs.laws.base.Bools.{and-true, T-true, T-false, true-T, false-T, not-twice}
 use Rattle.sheet.proofs.laws.literals.LiteralSets as sets
-use Rattle.sheet.proofs.laws.literals.LiteralSets.{not-not, consistent-join, below-join, below-of, clash-sym, clash-single, consistent-single, below-single, proper-of, proper-consistent, proper-below}
+use Rattle.sheet.proofs.laws.literals.LiteralSets.{consistent-join, below-join, below-of, clash-sym, clash-single, consistent-single, below-single, proper-of, proper-consistent, proper-below, mem-none}
 use Rattle.sheet.proofs.laws.literals.Results.{consistent-replace, below-replace}
 use Rattle.sheet.proofs.laws.literals.Worlds.{completion, completion-with, fails-here}
-use Rattle.sheet.proofs.laws.literals.AscendingBytes.{mem-none}
 use Rattle.sheet.proofs.laws.literals.LiteralBytes.{byte-lt, contains-byte, literal-byte, of-member, member-of}
 
 -- ---- lists
-pub any-member : {A : Type 0} (P : A → Type 0) (xs : List A) (x : A) → List·Memᴰ x xs → P x → Any P xs
-any-member P (y ∷ xs) x (List·Memᴰ·head e) h = inl (subst P e h)
-any-member P (y ∷ xs) x (List·Memᴰ·tail m) h = inr (any-member P xs x m h)
-
-pub all-members : {A : Type 0} (P : A → Type 0) (xs : List A) → ((x : A) → List·Memᴰ x xs → P x) → All P xs
-all-members P [] f = tt
-all-members P (x ∷ xs) f = (f x (List·Memᴰ·head refl), all-members P xs (λ y m. f y (List·Memᴰ·tail m)))
-
--- a member that passes the test is kept
-pub any-passed : {A : Type 0} (f : A → Bool) (P : A → Type 0) (xs : List A) → Any (λ x. P x × T (f x)) xs → Any P (keep f xs)
-any-passed f P [] h = h
-any-passed f P (x ∷ xs) h = go (f x) refl h (any-passed f P xs)
-  where
-    go : (b : Bool) → f x ≡ b → Any (λ y. P y × T (f y)) (x ∷ xs) → (Any (λ y. P y × T (f y)) xs → Any P (keep f xs))
-        → Any P (addIf b x (keep f xs))
-    go true e (inl p) k = inl (p .0)
-    go true e (inr r) k = inr (k r)
-    go false e (inl p) k = both (f x) (p .1) (false-T (f x) e)
-    go false e (inr r) k = k r
-
 -- ---- within
 pub join-within : (a b c : Literals) → T (within a c) → T (within b c) → T (within (join a b) c)
 join-within a b c h k =
     true-T (within (join a b) c)
-    (sets.within-join a b c ∙ sets.both (within a c) (within b c) (T-true (within a c) h) (T-true (within b c) k))
+    (sets.within-join a b c ∙ and-true (within a c) (within b c) (T-true (within a c) h) (T-true (within b c) k))
 
 -- ---- no literal
 pub below-none : (n : ℕ) → below n noLiteral ≡ true
@@ -66,7 +44,7 @@ replace-proper n a r ha hr b =
 pub deny-proper : (n : ℕ) (d : Literals) (s : Bool) (p : ℕ) → Proper n d → p < n → mem d s p ≡ false → Proper n (join d (single (not s) p))
 deny-proper n d s p hd l e =
     join-proper n d (single (not s) p) hd (proper-of n (single (not s) p) (consistent-single (not s) p) (below-single n (not s) p l))
-    (false-T (clash (single (not s) p) d) (clash-single (not s) p d ∙ ap (λ (t : Bool). mem d t p) (not-not s) ∙ e))
+    (false-T (clash (single (not s) p) d) (clash-single (not s) p d ∙ ap (λ (t : Bool). mem d t p) (not-twice s) ∙ e))
 
 -- every proper set has a world
 pub some-world : (n : ℕ) (q : Literals) → Proper n q → (w : ℕ) × ((w < 2 ^ n) × T (within q (state n w)))
@@ -80,7 +58,7 @@ lacking-world n c d hc hd k =
     let r = sets.not-within c d (T-false (within c d) k) in
     let x = completion-with n d (not (r .0)) (r .1) (proper-consistent n d hd) (proper-below n d hd)
     (below-of n c (proper-below n c hc) (r .0) (r .1) (r .2))
-    (ap (λ (t : Bool). mem d t (r .1)) (not-not (r .0)) ∙ r .3) in (
+    (ap (λ (t : Bool). mem d t (r .1)) (not-twice (r .0)) ∙ r .3) in (
       x .0,
       (
         true-T (within d (state n (x .0))) (x .2),

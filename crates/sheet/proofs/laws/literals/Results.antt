@@ -9,8 +9,8 @@ use borrow.Author.Tests.{not-true}
 use Rattle.sheet.specs.declared.Literals.{Literals}
 use Rattle.sheet.specs.Literals.{has, mem, within, clash, consistent, join, replace, below, names}
 use Rattle.sheet.proofs.laws.literals.MaskBits.{has-or, disjoint-of}
-use Rattle.sheet.proofs.laws.base.Bools.{iff-eq}
-use Rattle.sheet.proofs.laws.literals.LiteralSets.{mem-join, mem-replace, set-ext, or-cases, or-left, or-right, not-not, within-of, of-within, apart-of, consistent-of, of-consistent, below-of, of-below}
+use Rattle.sheet.proofs.laws.base.Bools.{iff-eq, or-cases, or-left, or-right, not-twice}
+use Rattle.sheet.proofs.laws.literals.LiteralSets.{mem-join, mem-replace, set-ext, within-of, of-within, apart-of, consistent-of, of-consistent, below-of, of-below}
 
 -- the results come from a or from r
 pub replace-cases : (a r : Literals) (s : Bool) (p : ℕ) → mem (replace a r) s p ≡ true
@@ -46,7 +46,7 @@ consistent-replace a r e f =
         → ((mem a (not s) p ≡ true) × (mem r (not (not s)) p ≡ false)) ⊎ (mem r (not s) p ≡ true) → ⊥
     clear s p (inl k) (inl m) = true≢false (sym (m .0) ∙ consistent-of a e s p (k .0))
     clear s p (inl k) (inr m) = true≢false (sym m ∙ k .1)
-    clear s p (inr k) (inl m) = true≢false (sym k ∙ ap (λ (t : Bool). mem r t p) (sym (not-not s)) ∙ m .1)
+    clear s p (inr k) (inl m) = true≢false (sym k ∙ ap (λ (t : Bool). mem r t p) (sym (not-twice s)) ∙ m .1)
     clear s p (inr k) (inr m) = true≢false (sym m ∙ consistent-of r f s p k)
 
     none : (s : Bool) (p : ℕ) → ((mem a s p ≡ true) × (mem r (not s) p ≡ false)) ⊎ (mem r s p ≡ true)

@@ -9,8 +9,8 @@ use borrow.Author.Tests.{lt-ltb, ltb-true, not-true, not-false}
 use Rattle.sheet.specs.declared.Literals.{Literals}
 use Rattle.sheet.specs.Literals.{has, mem, within, clash, consistent, join, flip, replace, single, state, below}
 use Rattle.sheet.specs.inner.Masks.{overridden}
-use Rattle.sheet.proofs.laws.base.Bools.{T-true, true-T}
-use Rattle.sheet.proofs.laws.literals.LiteralSets.{mem-state, within-of, of-within, not-within, of-apart, clash-at, clash-here, clash-sym, clash-single, consistent-of, of-consistent, consistent-join, not-not, below-of, of-below, below-trues, below-join, below-single, within-join, within-join-l, within-join-r, within-trans, within-single, within-antisym, consistent-single, consistent-within, consistent-flip, below-within, below-flip}
+use Rattle.sheet.proofs.laws.base.Bools.{T-true, true-T, not-twice}
+use Rattle.sheet.proofs.laws.literals.LiteralSets.{mem-state, within-of, of-within, not-within, of-apart, clash-at, clash-here, clash-sym, clash-single, consistent-of, of-consistent, consistent-join, below-of, of-below, below-trues, below-join, below-single, within-join, within-join-l, within-join-r, within-trans, within-single, within-antisym, consistent-single, consistent-within, consistent-flip, below-within, below-flip}
 use Rattle.sheet.proofs.laws.literals.Results.{consistent-replace, below-replace, within-replace, replace-cases, replace-kept}
 
 -- ---- what holds in a world
@@ -180,7 +180,7 @@ module _ (n w : ℕ) (h : w < 2 ^ n) (r : Literals) (e : consistent r ≡ true) 
       here true m = within-of _ _ (within-replace (state n w) r) (not s) p m
       here false m =
           replace-kept (state n w) r (not s) p (keep m (mem (state n w) s p) refl)
-          (ap (λ (t : Bool). mem r t p) (not-not s) ∙ there (mem r s p) refl)
+          (ap (λ (t : Bool). mem r t p) (not-twice s) ∙ there (mem r s p) refl)
 
   pub after-lt : overridden w r < 2 ^ n
   unfolding overridden replace state

@@ -11,15 +11,14 @@ use borrow.Author.Needs.{needs}
 use borrow.Author.Tests.{eq-eqb, eqb-true, lt-ltb, ltb-true}
 use Rattle.sheet.specs.declared.Literals.{Literals}
 use Rattle.sheet.specs.Literals.{below}
-use Rattle.sheet.proofs.laws.base.Bools.{iff-eq}
-use Rattle.sheet.proofs.laws.literals.LiteralSets.{both}
+use Rattle.sheet.proofs.laws.base.Bools.{iff-eq, and-true}
 use Rattle.sheet.proofs.masks.below.Statement.{statement}
 use Rattle.sheet.proofs.masks.below.Tie as tie
 
 -- every mask is below 2 ^ 32
 wide : (n : ℕ) (a : Literals) → a .trues < 2 ^ 32 → a .falses < 2 ^ 32 → 32 ≤ n → true ≡ below n a
 unfolding below
-wide n a ht hf h = sym (both _ _ (lt-ltb _ _ (lt-of-lt-of-le ht (pow-mono h))) (lt-ltb _ _ (lt-of-lt-of-le hf (pow-mono h))))
+wide n a ht hf h = sym (and-true _ _ (lt-ltb _ _ (lt-of-lt-of-le ht (pow-mono h))) (lt-ltb _ _ (lt-of-lt-of-le hf (pow-mono h))))
 
 none-above : (x n : ℕ) → x / 2 ^ n ≡ 0 → x < 2 ^ n
 none-above x n e = omega (arith, div-lt-iff-lt-mul {x = x} {y = 1} (pow-pos n) .0 (omega arith))
@@ -30,7 +29,7 @@ narrow n a =
     iff-eq _ _
     (λ e.
     let h = none-above (bitOr (a .trues) (a .falses)) n (eqb-true _ 0 e) in
-    both _ _ (lt-ltb (a .trues) (2 ^ n) (omega (arith, h, or-add-and (a .trues) (a .falses), and-le-r (a .trues) (a .falses))))
+    and-true _ _ (lt-ltb (a .trues) (2 ^ n) (omega (arith, h, or-add-and (a .trues) (a .falses), and-le-r (a .trues) (a .falses))))
     (lt-ltb (a .falses) (2 ^ n) (omega (arith, h, or-add-and (a .trues) (a .falses), and-le-l (a .trues) (a .falses)))))
     (λ e.
     eq-eqb _ 0

@@ -13,7 +13,7 @@ use lib.Pow.{pow-mono}
 use Rattle.sheet.specs.declared.Literals.{Literals}
 use Rattle.sheet.specs.Literals.{state, meets}
 use Rattle.sheet.specs.Lists.{All}
-use Rattle.sheet.proofs.laws.literals.ProperSets.{all-members}
+use Rattle.sheet.proofs.laws.base.ListMembers.{all-members}
 use Rattle.table.specs.Minimal.{In, Antichain, Described, putAll}
 use Rattle.table.specs.Picture.{unions, primes, Ascending, sort, picture, pictureBytes}
 use Rattle.table.specs.Prime.{Prime, Exactly}

@@ -17,17 +17,16 @@ use Rattle.sheet.specs.inner.Masks.{byte}
 use Rattle.sheet.specs.Lists.{All, anyOf, collect}
 use Rattle.sheet.proofs.laws.base.Bools.{test, both, T-true, true-T, and-l, and-r, not-in}
 use Rattle.sheet.proofs.laws.base.ListFacts.{any-test, any-none, any-out, all-map, all-imaged}
-use Rattle.sheet.proofs.laws.literals.LiteralSets.{of-within, within-of, of-consistent, consistent-within, consistent-clash, mem-self, single-is, consistent-single, consistent-flip, meet-at, meet-here, below-within, below-join, below-flip, proper-of, proper-consistent, proper-below, within-refl, within-trans, within-join-l, within-join-r}
+use Rattle.sheet.proofs.laws.literals.LiteralSets.{of-within, within-of, of-consistent, consistent-within, consistent-clash, mem-self, single-is, consistent-single, consistent-flip, meet-at, meet-here, below-within, below-join, below-flip, proper-of, proper-consistent, proper-below, within-refl, within-trans, within-join-l, within-join-r, mem-none}
 use Rattle.sheet.proofs.laws.literals.LiteralBytes.{byte-of, contains-byte, contains-lt, within-literal, down, members-end, members-here, members-step, of-member, member-of}
 use Rattle.sheet.proofs.laws.literals.Worlds.{state-below, state-consistent, within-state, state-within, implied-clause}
-use Rattle.sheet.proofs.laws.literals.AscendingBytes.{mem-none}
-use Rattle.sheet.proofs.laws.literals.ProperSets.{below-none, all-members, join-within}
+use Rattle.sheet.proofs.laws.literals.ProperSets.{below-none, join-within}
+use Rattle.sheet.proofs.laws.base.ListMembers.{all-members, some-member, each-member, keep-member, member-keep, collect-member, member-collect}
 use Rattle.table.specs.Minimal.{In, Antichain, putAll}
 use Rattle.table.specs.Picture.{units, unions, fold, primes}
 use Rattle.table.specs.Prime.{Implicate, Prime, Exactly}
 use Rattle.table.proofs.laws.slots.PutInvariants.{then-some, put-all-antichain, put-all-size}
 use Rattle.table.proofs.laws.slots.LeastCandidates.{within-equal, Besides, antichain-equal, put-from, put-covers}
-use Rattle.table.proofs.laws.arrays.ListMembers.{some-member, each-member, keep-member, member-keep, collect-member, member-collect}
 use Rattle.table.proofs.laws.pictures.ClauseOrder.{same-masks}
 
 -- ---- clauses that hold

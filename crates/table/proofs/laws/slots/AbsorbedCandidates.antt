@@ -16,7 +16,7 @@ use Rattle.sheet.specs.Lists.{Any, All, anyOf, addIf, keep}
 use Rattle.sheet.proofs.laws.base.Bools.{test, both, T-true, true-T, not-in}
 use Rattle.sheet.proofs.laws.base.ListFacts.{all-map, all-by, any-map, any-append-r, all-append, all-imaged, any-imaged, any-test, any-tested, any-none, none-any, all-keep}
 use Rattle.sheet.proofs.laws.literals.LiteralSets as sets
-use Rattle.sheet.proofs.laws.literals.ProperSets.{any-passed}
+use Rattle.sheet.proofs.laws.base.ListMembers.{any-passed}
 use Rattle.sheet.proofs.laws.literals.LiteralSets.{within-refl, within-trans, within-join-l}
 use Rattle.table.specs.declared.slots.Grown.{Grown}
 use Rattle.table.specs.Worlds.{andThen}

@@ -11,10 +11,9 @@ use Rattle.sheet.specs.declared.Literals.{Literals}
 use Rattle.sheet.specs.Literals.{within}
 use Rattle.sheet.proofs.laws.base.Bools.{both, T-true}
 use Rattle.sheet.proofs.laws.literals.LiteralSets.{within-antisym, within-refl, within-trans}
-use Rattle.sheet.proofs.laws.literals.ProperSets.{any-member, all-members}
+use Rattle.sheet.proofs.laws.base.ListMembers.{any-member, all-members, some-member, each-member}
 use Rattle.table.specs.Minimal.{Antichain, putAll, Least}
 use Rattle.table.proofs.laws.slots.PutInvariants.{put-all-all, put-all-antichain, put-all-inside}
-use Rattle.table.proofs.laws.arrays.ListMembers.{some-member, each-member}
 
 -- ---- no member lies in another
 

@@ -9,9 +9,9 @@ use lib.Dec.{T}
 use Rattle.sheet.specs.declared.Literals.{Literals}
 use Rattle.sheet.specs.Literals.{within, join, flip, single, sign, literal, contains, state, below, members, Proper}
 use Rattle.sheet.specs.Lists.{Any, All}
-use Rattle.sheet.proofs.laws.base.Bools.{T-true, T-false, true-T, false-T}
+use Rattle.sheet.proofs.laws.base.Bools.{T-true, T-false, true-T, false-T, and-true}
 use Rattle.sheet.proofs.laws.base.ListFacts.{any-map, all-map, any-with, any-out, all-append, all-parts, any-image, any-imaged, all-imaged, any-collect, any-collected, all-collected}
-use Rattle.sheet.proofs.laws.literals.LiteralSets.{both, within-single, below-of, below-join, below-single, proper-below, within-trans, within-join-l, within-join-r}
+use Rattle.sheet.proofs.laws.literals.LiteralSets.{within-single, below-of, below-join, below-single, proper-below, within-trans, within-join-l, within-join-r}
 use Rattle.sheet.proofs.laws.literals.Worlds.{fails-at, fails-here}
 use Rattle.sheet.proofs.laws.literals.ProperSets.{join-within, members-all, members-any, flip-literal, flip-byte}
 use Rattle.table.specs.Worlds.{addOne, howMany}
@@ -86,7 +86,7 @@ module _ (n : ℕ) where
   Low d = below n d ≡ true
 
   join-low : (a b : Literals) → Low a → Low b → Low (join a b)
-  join-low a b ha hb = below-join n a b ∙ both (below n a) (below n b) ha hb
+  join-low a b ha hb = below-join n a b ∙ and-true (below n a) (below n b) ha hb
 
   flip-low : (o : Literals) (l : ℕ) → Proper n o → contains o l ≡ true → Low (flip (literal l))
   unfolding contains
@@ -166,7 +166,7 @@ module _ (n : ℕ) where
         (λ q m s. falsify-in hn (q .rest) (m .1) (join d (q .chosen)) (join-within d (q .chosen) st h (s .0)) (s .1))
         (picks [] alts) (picks-all (Proper n) [] alts tt hc) (one-pick (λ a. within a st) [] alts tt k))
 
-    -- both parts of what holds where d and a are joined
+    -- and-true parts of what holds where d and a are joined
     apart-in : (d a : Literals) → T (within (join d a) st) → T (within d st) × T (within a st)
     apart-in d a h = (within-trans d (join d a) st (within-join-l d a) h, within-trans a (join d a) st (within-join-r d a) h)
 

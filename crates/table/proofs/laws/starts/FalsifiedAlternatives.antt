@@ -12,7 +12,8 @@ use Rattle.sheet.specs.Literals.{single, sign, join, consistent, flip, literal,
 use Rattle.sheet.specs.inner.Masks.{next, minus}
 use Rattle.sheet.specs.Lists.{addIf, keep, collect}
 use Rattle.sheet.proofs.laws.literals.ProperSets.{flip-literal}
-use Rattle.sheet.proofs.laws.literals.LiteralSets.{consistent-join, consistent-single, clash-sym, clash-single, not-not}
+use Rattle.sheet.proofs.laws.literals.LiteralSets.{consistent-join, consistent-single, clash-sym, clash-single}
+use Rattle.sheet.proofs.laws.base.Bools.{not-twice}
 use Rattle.sheet.proofs.laws.literals.LiteralBytes.{next-found, members-nil}
 use Rattle.table.specs.Start.{falsify}
 use Rattle.table.specs.Step.{missing}
@@ -65,7 +66,7 @@ denied d l h =
       consistent-single (not (sign l)) (l / 2),
       clash-sym d (single (not (sign l)) (l / 2)),
       clash-single (not (sign l)) (l / 2) d,
-      not-not (sign l),
+      not-twice (sign l),
     ) refl
 
 -- so the choice of a literal that is left is consistent

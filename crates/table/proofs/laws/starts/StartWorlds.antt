@@ -17,7 +17,8 @@ use Rattle.sheet.proofs.laws.base.Bools.{T-true, true-T}
 use Rattle.sheet.proofs.laws.base.ListFacts.{any-map, all-map, all-append, all-parts, all-imaged, any-keep, all-keep, any-collect, any-collected, all-collected}
 use Rattle.sheet.proofs.laws.literals.LiteralSets.{consistent-within, proper-of, proper-below}
 use Rattle.sheet.proofs.laws.literals.Worlds.{state-consistent}
-use Rattle.sheet.proofs.laws.literals.ProperSets.{any-passed, some-world}
+use Rattle.sheet.proofs.laws.base.ListMembers.{any-passed}
+use Rattle.sheet.proofs.laws.literals.ProperSets.{some-world}
 use Rattle.table.specs.Worlds.{Starting}
 use Rattle.table.specs.Minimal.{In, Described, putAll, Outcome, refused, table}
 use Rattle.table.specs.Start.{Clause, orOf, oneOf, startClauses, candidates, fresh, grow, onTable, growAll, startTable, Stops}

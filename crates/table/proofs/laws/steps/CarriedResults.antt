@@ -14,8 +14,8 @@ use Rattle.sheet.specs.Literals.{noLiteral, mem, within, clash, consistent, joi
 use Rattle.sheet.specs.Lists.{All}
 use Rattle.sheet.proofs.laws.base.ListFacts.{all-parts}
 use lib.Dec.{T}
-use Rattle.sheet.proofs.laws.base.Bools.{T-true, true-T}
-use Rattle.sheet.proofs.laws.literals.LiteralSets.{or-right, not-not, within-of, within-refl, within-trans, within-join-l, within-join-r, join-comm, join-assoc, clash-here, clash-sym, clash-within, clash-single, consistent-clash, consistent-join, consistent-single, mem-self}
+use Rattle.sheet.proofs.laws.base.Bools.{T-true, true-T, or-right, not-twice}
+use Rattle.sheet.proofs.laws.literals.LiteralSets.{within-of, within-refl, within-trans, within-join-l, within-join-r, join-comm, join-assoc, clash-here, clash-sym, clash-within, clash-single, consistent-clash, consistent-join, consistent-single, mem-self}
 use Rattle.sheet.proofs.laws.literals.LiteralBytes.{next-found}
 use Rattle.sheet.proofs.laws.literals.ProperSets.{flip-literal}
 use Rattle.table.specs.Worlds.{addResult, results}
@@ -115,7 +115,7 @@ module _ (es hs : List Effect) (i : ℕ) (e : Effect) (at : drop i es ≡ e ∷ 
   past-denied s p h n =
       past false (join d (single (not s) p))
       (consistent-join d (single (not s) p)
-      ∙ rw (c .piece-steady, consistent-single (not s) p, clash-sym d (single (not s) p), clash-single (not s) p d, not-not s, n))
+      ∙ rw (c .piece-steady, consistent-single (not s) p, clash-sym d (single (not s) p), clash-single (not s) p d, not-twice s, n))
       (within-join-l d (single (not s) p))
       (λ q t k. outside (e .condition) (join d (single (not s) p)) q
       (clash-here (e .condition) (join d (single (not s) p)) s p h

@@ -13,8 +13,7 @@ use Rattle.sheet.specs.Lists.{All, anyOf, allOf, collect}
 use Rattle.sheet.specs.Encoding.{ProperEffect}
 use Rattle.sheet.proofs.laws.base.Bools.{test, both, T-true, T-false, true-T, false-T, T-ext, and-l, and-r, and-in, or-l, or-r, or-out, not-in}
 use Rattle.sheet.proofs.laws.base.ListFacts.{all-map, any-with, all-with, any-out, any-choose, any-test, all-test, all-fails, any-tested}
-use Rattle.sheet.proofs.laws.literals.LiteralSets.{of-apart, clash-sym, clash-join, of-consistent, consistent-join, consistent-within, below-join, proper-of, proper-below, within-trans, within-join-l, within-join-r}
-use Rattle.sheet.proofs.laws.literals.AscendingBytes.{mem-none}
+use Rattle.sheet.proofs.laws.literals.LiteralSets.{of-apart, clash-sym, clash-join, of-consistent, consistent-join, consistent-within, below-join, proper-of, proper-below, within-trans, within-join-l, within-join-r, mem-none}
 use Rattle.sheet.proofs.laws.literals.ProperSets.{join-within, some-world}
 use Rattle.table.specs.Worlds.{addResult, results}
 use Rattle.table.specs.Step.{pieces}

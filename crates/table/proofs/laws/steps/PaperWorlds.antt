@@ -14,8 +14,7 @@ use Rattle.sheet.specs.Lists.{Any}
 use Rattle.sheet.specs.Problem.{Action}
 use Rattle.sheet.specs.Encoding.{ProperAction}
 use Rattle.sheet.proofs.laws.base.Bools.{test, true-T, and-l, and-r, and-in, or-l, or-r, or-out}
-use Rattle.sheet.proofs.laws.literals.AscendingBytes.{mem-none}
-use Rattle.sheet.proofs.laws.literals.LiteralSets.{mem-join, mem-replace, set-ext}
+use Rattle.sheet.proofs.laws.literals.LiteralSets.{mem-none, mem-join, mem-replace, set-ext}
 use Rattle.table.specs.Worlds.{addResult, results, takes, worldAfter, stepWorld}
 use Rattle.table.proofs.laws.steps.StepWorlds.{step-goes, step-stays, after-world}
 

@@ -17,7 +17,8 @@ use Rattle.sheet.proofs.laws.base.ListFacts.{all-map, any-with, any-out, all-ke
 use Rattle.sheet.proofs.laws.literals.LiteralSets.{within-of, mem-self, clash-at, clash-here, clash-sym, clash-within, below-of, proper-below, within-refl, within-trans, within-join-l, within-join-r}
 use Rattle.sheet.proofs.laws.literals.Worlds.{fails-here, split-world}
 use Rattle.sheet.proofs.laws.literals.LiteralBytes.{contains-byte}
-use Rattle.sheet.proofs.laws.literals.ProperSets.{any-passed, join-within, join-proper, deny-proper, members-all, members-any, flip-literal, flip-byte}
+use Rattle.sheet.proofs.laws.base.ListMembers.{any-passed}
+use Rattle.sheet.proofs.laws.literals.ProperSets.{join-within, join-proper, deny-proper, members-all, members-any, flip-literal, flip-byte}
 use Rattle.table.specs.Worlds.{addResult, results}
 use Rattle.table.specs.Minimal.{In}
 use Rattle.table.specs.Step.{missing, splitBy, split, pieces}

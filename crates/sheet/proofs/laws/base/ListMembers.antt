@@ -1,13 +1,34 @@
--- The members of a list: some of them, each of them, those that pass a test, those that a function makes. For the least candidates
--- (`slots/LeastCandidates`) and the prime implicates (`pictures/Primes`). Assumes nothing.
+-- The members of a list: some of them, each of them, those that pass a test, those that a function makes. For sets of literals
+-- (`literals/ProperSets`), and in table for the least candidates and the prime implicates. Assumes nothing.
 use mathlib.Core.Path.{_≡_, refl, sym, subst}
 use mathlib.Core.Logic.{inl, inr}
-use mathlib.Core.Bool.{Bool}
+use mathlib.Core.Bool.{Bool, true, false}
 use mathlib.Core.List.{List, [], _∷_, List·Memᴰ, List·Memᴰ·head, List·Memᴰ·tail, Memᴰ·cast}
 use lib.Dec.{T}
-use Rattle.sheet.specs.Lists.{Any, All, keep, collect}
+use Rattle.sheet.specs.Lists.{Any, All, addIf, keep, collect}
+use Rattle.sheet.proofs.laws.base.Bools.{both, false-T}
 use Rattle.sheet.proofs.laws.base.ListFacts.{any-map, any-collect, any-collected, all-keep}
-use Rattle.sheet.proofs.laws.literals.ProperSets.{any-member, all-members, any-passed}
+
+-- P of some member, of each member, and of the members themselves
+pub any-member : {A : Type 0} (P : A → Type 0) (xs : List A) (x : A) → List·Memᴰ x xs → P x → Any P xs
+any-member P (y ∷ xs) x (List·Memᴰ·head e) h = inl (subst P e h)
+any-member P (y ∷ xs) x (List·Memᴰ·tail m) h = inr (any-member P xs x m h)
+
+pub all-members : {A : Type 0} (P : A → Type 0) (xs : List A) → ((x : A) → List·Memᴰ x xs → P x) → All P xs
+all-members P [] f = tt
+all-members P (x ∷ xs) f = (f x (List·Memᴰ·head refl), all-members P xs (λ y m. f y (List·Memᴰ·tail m)))
+
+-- a member that passes the test is kept
+pub any-passed : {A : Type 0} (f : A → Bool) (P : A → Type 0) (xs : List A) → Any (λ x. P x × T (f x)) xs → Any P (keep f xs)
+any-passed f P [] h = h
+any-passed f P (x ∷ xs) h = go (f x) refl h (any-passed f P xs)
+  where
+    go : (b : Bool) → f x ≡ b → Any (λ y. P y × T (f y)) (x ∷ xs) → (Any (λ y. P y × T (f y)) xs → Any P (keep f xs))
+        → Any P (addIf b x (keep f xs))
+    go true e (inl p) k = inl (p .0)
+    go true e (inr r) k = inr (k r)
+    go false e (inl p) k = both (f x) (p .1) (false-T (f x) e)
+    go false e (inr r) k = k r
 
 module _ {A : Type 0} where
   pub some-member : (P : A → Type 0) (xs : List A) → Any P xs → (x : A) × List·Memᴰ x xs × P x
