@@ -8,7 +8,7 @@ pub mod NoShorterPlans
 pub mod SameEntries
 pub mod MemorySlots
 pub mod SearchReturns
-pub mod SearchMoves
+pub mod ArrayMoves
 pub mod SheetStarts
 pub mod StartSearches
 pub mod CarriedPlans

@@ -26,6 +26,7 @@ use Rattle.plan.specs.inner.RunEnds.{finalClauses, finalPicture, SameEnd
 use Rattle.plan.proofs.laws.runs.CallVerdicts.{not-full}
 use Rattle.plan.proofs.laws.runs.CallRuns.{run-call, last-clauses, refused-call}
 use Rattle.plan.proofs.laws.exchanges.ExactRuns.{Exact, table-exact, same-bytes, same-class}
+use Rattle.plan.proofs.laws.runs.StartRuns.{verdict-means, last-arrives}
 
 -- an answer of the call as an exact run
 pub record Called (p : Problem) (plan : List Action) (r : RunAnswer) : Type 0 where
@@ -101,10 +102,13 @@ module _ (s : List ℕ) (x : Statement) (says : sheetOf s ≡ accepted x) (rows 
   p = x .problem
 
   called-table : (t : List Literals) → startTable 128 (x .problem) ≡ table t → Called p (actionsOf p (x .plan)) (runOf (sheetOf s) rows)
-  called-table t starts = let h = statement-proper s x says in record {
+  called-table t starts = record {
     answer = runFrom 128 (p .goal) 0 (actionsOf p (x .plan)) t;
     clauses = picture (lastTable 128 (actionsOf p (x .plan)) t);
-    exact = table-exact p (h .problem) t starts (x .plan) (h .plan .each);
+    exact =
+        let h = statement-proper s x says in
+        table-exact p (h .problem .n-most) (actionsOf p (x .plan)) t (verdict-means p (h .problem) t starts (x .plan) (h .plan .each))
+        (last-arrives p (h .problem) t starts (x .plan) (h .plan .each));
     verdict-is = ap (λ (r : RunAnswer). r .verdict) (run-call s x says rows enough t starts);
     clauses-are = last-clauses s x says rows enough t starts;
   }

@@ -1,5 +1,5 @@
--- Runs by the starting worlds: what the verdict of a run that is not full says of them, the moves they take, the worlds they become.
--- Assumes nothing.
+-- TH5 by the starting worlds: what the verdict of a run that is not full says of them, the moves they take, the worlds they become. For
+-- `run-worlds` in proofs/Demands. Assumes nothing.
 use mathlib.Core.Path.{_≡_, refl, sym, ap, subst, _∙_}
 use mathlib.Core.Bool.{false, true≢false}
 use mathlib.Core.List.{List}

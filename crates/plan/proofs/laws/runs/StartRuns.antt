@@ -38,7 +38,7 @@ use Rattle.plan.proofs.laws.runs.VerdictWorlds.{run-means}
 use Rattle.plan.proofs.laws.runs.VerdictClasses.{one-verdict}
 
 -- ---- the moves of a plan are the sheet's
-pub plan-proper : (p : Problem) → ProperProblem p → (q : List ℕ) → All (λ i. i < length (p .actions)) q
+plan-proper : (p : Problem) → ProperProblem p → (q : List ℕ) → All (λ i. i < length (p .actions)) q
     → All (ProperAction (p .n)) (actionsOf p q)
 unfolding actionsOf
 plan-proper p hp q h = all-imaged (actionAt p) (ProperAction (p .n)) q

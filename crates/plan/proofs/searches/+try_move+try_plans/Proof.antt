@@ -11,8 +11,8 @@ use Rattle.plan.specs.Search.{nothing}
 use Rattle.plan.specs.inner.Searches.{firstBy, NoShorterFrom, Searchable}
 use Rattle.plan.proofs.laws.searches.FirstByMove.{firstBelow}
 use Rattle.plan.proofs.laws.searches.SearchReturns.{no-answer, at-goal, at-short, not-yet, found-now, none-at-all}
-use Rattle.plan.proofs.laws.searches.SearchMoves.{trues-long, falses-long, slots-room, storable, move-fits, ready-after, quiet-next}
-use Rattle.plan.proofs.laws.searches.SearchMoves.{begun-same, begun-ended, begun-not, begun-full, begun-stopped}
+use Rattle.plan.proofs.laws.searches.ArrayMoves.{trues-long, falses-long, slots-room, storable, move-fits, ready-after, quiet-next}
+use Rattle.plan.proofs.laws.searches.ArrayMoves.{begun-same, begun-ended, begun-not, begun-full, begun-stopped}
 use Rattle.plan.specs.inner.Memory.{Remembers}
 use Rattle.plan.proofs.laws.searches.MemorySlots.{skip, entered, tried}
 use lib.ListN.{length}

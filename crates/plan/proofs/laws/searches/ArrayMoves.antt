@@ -1,4 +1,5 @@
--- One move of the search on tables in their slots: the step that it takes, and what is left after it. Assumes nothing.
+-- One move from a table held in arrays: it can be taken, and what is left after it. For `searches::try_move`, `runs::run_from` and RunLoop.
+-- Assumes nothing.
 use mathlib.Core.Path.{_≡_, refl, sym, ap, subst, _∙_}
 use mathlib.Core.Bool.{true, false}
 use mathlib.Core.List.{List, _∷_}
@@ -7,24 +8,24 @@ use native.Mathlib.Omega.{arith}
 use lib.ListN.{length, replicate}
 use Rattle.sheet.specs.declared.Literals.{Literals}
 use Rattle.sheet.specs.inner.Packed.{setsIn, goalIn, movesIn, actionOf}
+use Rattle.sheet.proofs.laws.base.Padding.{length-pad}
 use Rattle.table.specs.declared.Table.{Table}
 use Rattle.table.specs.Minimal.{Outcome, refused, table, Described}
 use Rattle.table.specs.Step.{stepTable}
 use Rattle.table.specs.Entries.{entriesOf, entries, tableOf, lent}
 use Rattle.table.specs.inner.Slots.{Room}
 use Rattle.table.specs.Calls.{orGiven}
-use Rattle.table.proofs.Demands.{step-table}
-use Rattle.sheet.proofs.laws.base.Padding.{length-pad}
-use Rattle.plan.specs.declared.SearchAnswer.{SearchAnswer}
 use Rattle.table.specs.declared.steps.Stepped.{Stepped}
 use Rattle.table.specs.declared.steps.Stepped.the-variants as moved
 use Rattle.table.specs.inner.Steps.{MoveFits, stepAnswer}
+use Rattle.table.proofs.Demands.{step-table}
+use Rattle.table.proofs.laws.answers.CallTables.{entries-table}
+use Rattle.plan.specs.declared.SearchAnswer.{SearchAnswer}
 use Rattle.plan.specs.Search.{fullAt, nothing}
 use Rattle.plan.specs.Calls.{answered}
 use Rattle.plan.specs.inner.Searches.{answeredAt, isEnd, NoShorterFrom, Searchable, plansTried, moveTried}
 use Rattle.plan.specs.inner.Memory.{Storable}
 use Rattle.plan.specs.inner.Course.{Ready}
-use Rattle.table.proofs.laws.answers.CallTables.{entries-table}
 use Rattle.plan.proofs.laws.runs.ReadyTables.{stepped, stopped, ready-table, ready-count}
 use Rattle.plan.proofs.laws.searches.NoShorterPlans.{quiet-after, unchanged}
 use Rattle.plan.proofs.laws.searches.SearchReturns.{written, onward-ended, onward-not, at-stop, at-full}
