@@ -14,7 +14,7 @@ use Rattle.sheet.specs.Problem.{Problem, Statement}
 use Rattle.sheet.specs.Format.{Judgement, accepted, refused, sheetOf}
 use Rattle.sheet.specs.Faults.{Says}
 use Rattle.sheet.specs.declared.Answer.the-variants.{Refused}
-use Rattle.table.specs.Minimal.{Outcome, Described}
+use Rattle.table.specs.Minimal.{Outcome}
 use Rattle.table.specs.Start.{startTable}
 use Rattle.table.specs.Entries.{tableOf}
 use Rattle.table.specs.Calls.{startOf}
@@ -163,20 +163,10 @@ module _ (s : List ℕ) (x : Statement) (says : Says s x) where
   -- what a run returns
   pub run-table : (rows : ℕ) → runRefused (runOf (sheetOf s) rows) ≡ false → AsDescribed x (runOf (sheetOf s) rows .table)
       × ZeroAfter (runOf (sheetOf s) rows .table)
-  run-table rows f = rw (ap (λ (r : RunAnswer). r .table) (run-call s x says rows enough t starts))
+  run-table rows f =
+      let enough = rows-enough s x says rows f in
+      let k = run-starts s x says rows f in
+      let last = lastTable 128 (actionsOf (x .problem) (x .plan)) (k .0) in
+      let d = last-described s x says rows enough (k .0) (k .1) in
+      rw (ap (λ (r : RunAnswer). r .table) (run-call s x says rows enough (k .0) (k .1)))
       (rw (entries-table last (d .most)) d, zero-after last (d .most))
-    where
-      enough : 65 ≤ rows
-      enough = rows-enough s x says rows f
-
-      t : List Literals
-      t = run-starts s x says rows f .0
-
-      starts : startTable 128 (x .problem) ≡ Outcome.table (run-starts s x says rows f .0)
-      starts = run-starts s x says rows f .1
-
-      last : List Literals
-      last = lastTable 128 (actionsOf (x .problem) (x .plan)) (run-starts s x says rows f .0)
-
-      d : Described 128 (x .problem .n) (lastTable 128 (actionsOf (x .problem) (x .plan)) (run-starts s x says rows f .0))
-      d = last-described s x says rows enough (run-starts s x says rows f .0) starts
