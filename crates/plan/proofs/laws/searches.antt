@@ -9,6 +9,7 @@ pub mod SameEntries
 pub mod MemorySlots
 pub mod SearchReturns
 pub mod ArrayMoves
+pub mod TriedMoves
 pub mod SheetStarts
 pub mod StartSearches
 pub mod CarriedPlans

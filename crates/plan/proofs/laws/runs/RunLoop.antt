@@ -221,7 +221,7 @@ module _ {plan : Plan} {packed : List ℕ} {whole : Course} {i : ℕ} {t : Table
             counts = (ed ∙ noted-rows) j;
           })
           ∙ sym (halted (setsIn (goalIn packed)) (h .rows) i (actionOf (movesIn packed) m) (left plan packed (i + 1)) (entries t) k
-          (refused-by (h .can .fits) below r us gs told e i 0))
+          (refused-by (h .can .fits) below r us gs told e))
           ∙ unrolled
 
 -- what noting a row asks

@@ -1,5 +1,5 @@
 -- Where no shorter plan is reached or full (`NoShorterPlan`): so it is after a move, from any place, and for one move more; and a move that
--- leaves the table as it was leads to no answer. For ArrayMoves, MemorySlots and `searches::lengths`. Assumes nothing.
+-- leaves the table as it was leads to no answer. For TriedMoves, MemorySlots and `searches::lengths`. Assumes nothing.
 use mathlib.Core.Path.{_≡_, ap, subst, _∙_}
 use mathlib.Core.Bool.{Bool, true, false}
 use mathlib.Core.List.{List, [], _∷_, map}
