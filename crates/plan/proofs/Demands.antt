@@ -65,9 +65,9 @@ unfolding pictureOf refusal
 picture-fault s t len k p e = rw e
 
 -- every call refuses with the sheet's fault first
-fault : (s : List ℕ) (k p : ℕ) → judgeOf s ≡ Refused k p → FaultDemand s k p
+fault-first : (s : List ℕ) (k p : ℕ) → judgeOf s ≡ Refused k p → FaultDemand s k p
 unfolding refusedRun refusedSearch
-fault s k p j =
+fault-first s k p j =
     let e = sheets.judge-refuses s k p .0 j in
     record {
       start = ap (λ (r : TableAnswer). r .answer) (tables.start-fault s k p e);
@@ -213,7 +213,7 @@ pub demand-1 : Demand1
 demand-1 = record {
   masks = masks;
   judge = judge;
-  fault = fault;
+  fault = fault-first;
   start = start;
   step = step;
   picture = picture;

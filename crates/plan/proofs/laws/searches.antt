@@ -8,7 +8,8 @@ pub mod NoShorterPlans
 pub mod SameEntries
 pub mod MemorySlots
 pub mod SearchReturns
-pub mod SearchMoves
+pub mod ArrayMoves
+pub mod TriedMoves
 pub mod SheetStarts
 pub mod StartSearches
 pub mod CarriedPlans

@@ -1,6 +1,6 @@
 -- `plan::goals::in_goal` meets its contract. The invariant: the clauses from i on decide. Assumes nothing.
 use mathlib.Core.Path.{_≡_, refl, sym, ap, _∙_}
-use Prim.Native.Nat.{_-_}
+use Prim.Native.Nat.{_-_, _+_}
 use native.Mathlib.Omega.{arith}
 use borrow.Author.Needs.{needs}
 use borrow.Author.Tests.{not-true, not-false}
@@ -13,6 +13,7 @@ use Rattle.table.proofs.laws.arrays.EntryLoops.{all-stop, all-on}
 use Rattle.plan.specs.Run.{inGoal}
 use Rattle.plan.proofs.goals.in_goal.Statement.{statement}
 use Rattle.plan.proofs.goals.in_goal.Tie as tie
+use mathlib.Core.List.{_∷_}
 
 abbrev Inv-loop : tie.InvT-loop
 Inv-loop goal d count i₀ i = (count ≡ getD goal 0 0) × (inGoal (setsIn goal) d ≡ inGoal (drop i (setsIn goal)) d)
@@ -30,34 +31,35 @@ set-at-requires : tie.Need-set-at-requires Inv-loop μ-loop
 set-at-requires c κs = let z = c .before .before .before .before in omega
     (arith, z .pre .0, z .pre .1, c .before .loop .inv .0, c .loop-test .taken)
 
+-- the set at hand is the first that is left
+here : (c : tie.After-set-at Inv-loop μ-loop) → let o = c .before .before in
+    let sets = setsIn (o .before .before .before .args .goal .now) in
+    drop (o .loop .i) sets ≡ c .set-at .result ∷ drop (o .loop .i + 1) sets
+unfolding setsIn
+here c =
+    let o = c .before .before in
+    let goal = o .before .before .before .args .goal .now in
+    sets-step (getD goal 0 0) (drop 1 goal) (o .loop .i) _ (omega (arith, o .loop .inv .0, c .before .loop-test .taken))
+    (c .set-at .ensures)
+
 returns : tie.Need-returns Inv-loop μ-loop
-unfolding setsIn inGoal
+unfolding inGoal
 returns c =
-    let after-set-at = c .before .before in
-    let after-loop-test = after-set-at .before in
-    let after-4 = after-loop-test .before in
-    let o = after-4 in
-    let a = o .before .before .before .args in
-    all-stop (λ x. meets x (a .d)) _ _ _ _
-    (sets-step (getD (a .goal .now) 0 0) (drop 1 (a .goal .now)) (o .loop .i) _
-    (omega (arith, o .loop .inv .0, after-loop-test .loop-test .taken)) (after-set-at .set-at .ensures))
-    (c .before .shares .ensures) (not-true (c .before .shares .result) (c .if1 .taken))
+    let s = c .before .before in
+    let o = s .before .before in
+    all-stop (λ x. meets x (o .before .before .before .args .d)) _ _ _ _ (here s) (c .before .shares .ensures)
+    (not-true (c .before .shares .result) (c .if1 .taken))
     ∙ sym (o .loop .inv .1)
 
 loop-again : tie.Need-loop-again Inv-loop μ-loop
-unfolding setsIn inGoal
+unfolding inGoal
 loop-again c =
-    let after-set-at = c .before .before in
-    let after-loop-test = after-set-at .before in
-    let after-4 = after-loop-test .before in
-    let o = after-4 in
-    let a = o .before .before .before .args in (
+    let s = c .before .before in
+    let o = s .before .before in (
       o .loop .inv .0,
       o .loop .inv .1
-          ∙ all-on (λ x. meets x (a .d)) _ _ _ _
-          (sets-step (getD (a .goal .now) 0 0) (drop 1 (a .goal .now)) (o .loop .i) _
-          (omega (arith, o .loop .inv .0, after-loop-test .loop-test .taken)) (after-set-at .set-at .ensures))
-          (c .before .shares .ensures) (not-false (c .before .shares .result) (c .if1 .left)),
+          ∙ all-on (λ x. meets x (o .before .before .before .args .d)) _ _ _ _ (here s) (c .before .shares .ensures)
+          (not-false (c .before .shares .result) (c .if1 .left)),
     )
 
 returns-2 : tie.Need-returns-2 Inv-loop μ-loop

@@ -1,5 +1,5 @@
--- What demand 3 asks for is met by two plans that differ: the sheet of two moves that both put the lamp out, in either order. Assumes
--- nothing.
+-- What demand 3 asks for is met by two plans that differ: two moves that both put the lamp out, in either order. For `demand-3` in
+-- proofs/Demands. Assumes nothing.
 use mathlib.Core.Path.{_≡_, refl, sym, ap, ap₂, _∙_}
 use mathlib.Core.Bool.{true, false}
 use mathlib.Core.List.{List, [], _∷_}

@@ -1,4 +1,4 @@
--- The sheet of document 01 meets what demand 3 asks for. Assumes nothing.
+-- The sheet of document 01 meets what demand 3 asks for. For `demand-3` in proofs/Demands, and for TextExamples. Assumes nothing.
 use mathlib.Core.Path.{_≡_, refl, sym, ap, ap₂, _∙_}
 use mathlib.Core.List.{List, [], _∷_}
 use mathlib.Core.Logic.{inl}

@@ -1,4 +1,5 @@
--- The text of the program `check` at what document 01 shows. Assumes nothing.
+-- The text of the program `check` at what document 01 shows, computed (`paper-output`), and each other last line. For `demand-1` in
+-- proofs/Demands. Assumes nothing.
 use mathlib.Core.Path.{_≡_, refl, ap, ap₂, _∙_}
 use mathlib.Core.List.{List, [], _∷_}
 use Prim.Native.Nat.{ℕ}

@@ -1,4 +1,5 @@
--- Two moves that do not touch, in either order, in every world: the same end, or none in both. Assumes nothing.
+-- Two moves that do not touch, in either order, in every world: the same end, or none in both. For TH7 (ExchangeDemands) and W2. Assumes
+-- nothing.
 use mathlib.Core.Path.{_≡_, refl, sym, ap, ap₂, _∙_}
 use mathlib.Core.Bool.{Bool, true, false, not, _&&_, _||_, true≢false, and-comm}
 use mathlib.Core.List.{List, [], _∷_}

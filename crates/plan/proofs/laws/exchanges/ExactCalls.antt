@@ -3,7 +3,7 @@
 use mathlib.Core.Path.{_≡_, sym, ap, subst, _∙_}
 use mathlib.Core.Bool.{false, true≢false}
 use mathlib.Core.List.{List}
-use mathlib.Core.Logic.{_⊎_, inl, inr, _↔_}
+use mathlib.Core.Logic.{inl, inr, _↔_}
 use mathlib.Core.Option.{Option, some}
 use Prim.Native.Nat.{ℕ, _^_, _≤_, _<_}
 use Rattle.sheet.specs.declared.Literals.{Literals}
@@ -11,7 +11,7 @@ use Rattle.sheet.specs.Problem.{Action, Problem, Statement}
 use Rattle.sheet.specs.Format.{accepted, sheetOf}
 use Rattle.sheet.proofs.Demands.{statement-proper}
 use Rattle.table.specs.Worlds.{runWorld, Starting}
-use Rattle.table.specs.Minimal.{refused, table}
+use Rattle.table.specs.Minimal.{table}
 use Rattle.table.specs.Start.{startTable}
 use Rattle.table.specs.Picture.{picture, pictureBytes}
 use Rattle.table.proofs.Demands.{start-20, start-kind}
@@ -21,11 +21,14 @@ use Rattle.plan.specs.declared.Verdict as case
 use Rattle.plan.specs.Run.{actionsOf, Verdict, runFrom, lastTable}
 use Rattle.plan.specs.Calls.{verdictOf, refusedRun, runOf}
 use Rattle.plan.specs.Meaning.{Comes}
-use Rattle.plan.specs.Demand3.{classOf, takenBy, fullVerdict, refusedVerdict, runFull, runRefused}
+use Rattle.plan.specs.Demand3.{classOf, takenBy, fullVerdict, runFull, runRefused}
 use Rattle.plan.specs.inner.RunEnds.{finalClauses, finalPicture, SameEnd}
 use Rattle.plan.proofs.laws.runs.CallVerdicts.{not-full}
 use Rattle.plan.proofs.laws.runs.CallRuns.{run-call, last-clauses, refused-call}
 use Rattle.plan.proofs.laws.exchanges.ExactRuns.{Exact, table-exact, same-bytes, same-class}
+use Rattle.plan.proofs.laws.runs.StartRuns.{verdict-means, last-arrives}
+use Rattle.plan.proofs.laws.runs.StartOutcomes.{Kinds}
+use Rattle.plan.proofs.laws.runs.RunRefusals.{run-starts}
 
 -- an answer of the call as an exact run
 pub record Called (p : Problem) (plan : List Action) (r : RunAnswer) : Type 0 where
@@ -101,37 +104,27 @@ module _ (s : List ℕ) (x : Statement) (says : sheetOf s ≡ accepted x) (rows 
   p = x .problem
 
   called-table : (t : List Literals) → startTable 128 (x .problem) ≡ table t → Called p (actionsOf p (x .plan)) (runOf (sheetOf s) rows)
-  called-table t starts = let h = statement-proper s x says in record {
+  called-table t starts = record {
     answer = runFrom 128 (p .goal) 0 (actionsOf p (x .plan)) t;
     clauses = picture (lastTable 128 (actionsOf p (x .plan)) t);
-    exact = table-exact p (h .problem) t starts (x .plan) (h .plan .each);
+    exact =
+        let h = statement-proper s x says in
+        table-exact p (h .problem .n-most) (actionsOf p (x .plan)) t (verdict-means p (h .problem) t starts (x .plan) (h .plan .each))
+        (last-arrives p (h .problem) t starts (x .plan) (h .plan .each));
     verdict-is = ap (λ (r : RunAnswer). r .verdict) (run-call s x says rows enough t starts);
     clauses-are = last-clauses s x says rows enough t starts;
   }
 
   -- ---- a run that is not refused is exact
   pub called : runRefused (runOf (sheetOf s) rows) ≡ false → Called p (actionsOf p (x .plan)) (runOf (sheetOf s) rows)
-  called f = go (start-kind 128 (x .problem))
-    where
-      not : {X : Type 0} (N : ℕ) → startTable 128 (x .problem) ≡ refused N → X
-      not N e = unfold runRefused refusedVerdict refusedRun in
-          absurd (true≢false (sym (ap runRefused (refused-call s x says rows enough N e)) ∙ f))
-
-      go : (startTable 128 (x .problem) ≡ refused 20) ⊎
-          ((startTable 128 (x .problem) ≡ refused 21) ⊎ ((t : List Literals) × (startTable 128 (x .problem) ≡ table t)))
-          → Called p (actionsOf p (x .plan)) (runOf (sheetOf s) rows)
-      go (inl e) = not 20 e
-      go (inr (inl e)) = not 21 e
-      go (inr (inr k)) = called-table (k .0) (k .1)
+  called f = let k = run-starts s x says rows f in called-table (k .0) (k .1)
 
   -- ---- so is one that is not full, where there is a starting world
   pub called-unless-full : (w : ℕ) → w < 2 ^ p .n → Starting p w → runFull (runOf (sheetOf s) rows) ≡ false
       → Called p (actionsOf p (x .plan)) (runOf (sheetOf s) rows)
   called-unless-full w l st f = go (start-kind 128 (x .problem))
     where
-      go : (startTable 128 (x .problem) ≡ refused 20) ⊎
-          ((startTable 128 (x .problem) ≡ refused 21) ⊎ ((t : List Literals) × (startTable 128 (x .problem) ≡ table t)))
-          → Called p (actionsOf p (x .plan)) (runOf (sheetOf s) rows)
+      go : Kinds (x .problem) → Called p (actionsOf p (x .plan)) (runOf (sheetOf s) rows)
       go (inl e) = absurd (start-20 p (statement-proper s x says .problem) 128 e w l st)
       go (inr (inl e)) = unfold runFull fullVerdict refusedRun in
           absurd (true≢false (sym (ap runFull (refused-call s x says rows enough 21 e)) ∙ f))

@@ -8,6 +8,7 @@ use Prim.Native.Nat.{ℕ, _^_, _≤_, _<_}
 use native.Mathlib.Nat.{lt-of-lt-of-le}
 use lib.Dec.{T}
 use lib.Pow.{pow-mono}
+use lib.ListN.{take}
 use Rattle.sheet.specs.declared.Literals.{Literals}
 use Rattle.sheet.specs.Literals.{state, meets}
 use Rattle.sheet.specs.Lists.{All}
@@ -15,21 +16,18 @@ use Rattle.sheet.specs.Problem.{Action, Problem}
 use Rattle.sheet.proofs.laws.base.ListMembers.{all-members}
 use Rattle.table.specs.Worlds.{runWorld, Starting}
 use Rattle.table.specs.Picture.{Ascending, pictureBytes, picture}
+use Rattle.table.specs.Minimal.{In}
 use Rattle.table.proofs.laws.pictures.Primes.{PrimeList, list-exactly, primeList-same}
 use Rattle.table.proofs.laws.pictures.PictureWorlds.{prime-unique, picture-list, picture-ascending, picture-worlds}
 use Rattle.table.proofs.laws.pictures.PictureBytes.{Fit, bytes-injective}
-use Rattle.plan.specs.Run.{Verdict, reached, short, stopped, full, actionsOf, runFrom, lastTable}
+use Rattle.plan.specs.Run.{Verdict, reached, short, stopped, full, runFrom, lastTable}
 use Rattle.plan.specs.Calls.{verdictOf}
 use Rattle.plan.specs.Meaning.{Ends, Every, Comes}
 use Rattle.plan.specs.inner.RunEnds.{Means}
 use Rattle.plan.specs.Demand3.{Class, isReached, isShort, isStopped, classOf, takenBy}
-use Rattle.plan.proofs.laws.runs.VerdictClasses.{ClassMeans, one-class, class-other, stop-class}
-use Rattle.plan.proofs.laws.runs.StartRuns.{last-arrives, verdict-means, taken-by}
-use lib.ListN.{length, take}
-use Rattle.sheet.specs.Encoding.{ProperProblem}
-use Rattle.table.specs.Minimal.{In, table}
-use Rattle.table.specs.Start.{startTable}
 use Rattle.plan.specs.inner.TableRuns.{movesTaken}
+use Rattle.plan.proofs.laws.runs.VerdictClasses.{ClassMeans, one-class, class-other, stop-class}
+use Rattle.plan.proofs.laws.runs.StartRuns.{taken-by}
 use Rattle.plan.proofs.laws.runs.ArrivedWorlds.{Arrives}
 
 -- the verdict v and the final clauses of a run of the plan on the problem p: v means what the starting worlds do; they all take the moves
@@ -42,27 +40,22 @@ pub record Exact (p : Problem) (plan : List Action) (v : Verdict) (clauses : Opt
   pub worlds : (s : List Literals) → clauses ≡ some s → (w : ℕ) → w < 2 ^ p .n
       → Comes (p .n) (Starting p) (takenBy (verdictOf v) plan) w ↔ All (λ c. T (meets c (state (p .n) w))) s
 
--- ---- a run from a start table is exact
-module _ (p : Problem) (hp : ProperProblem p) (t : List Literals) (starts : startTable 128 p ≡ table t) (q : List ℕ)
-    (hq : All (λ i. i < length (p .actions)) q) where
-  abbrev plan : List Action
-  plan = actionsOf p q
-
+-- ---- a run from a table is exact, by what its verdict means and by its last table
+module _ (p : Problem) (hn : p .n ≤ 32) (plan : List Action) (t : List Literals)
+    (meant : Means (p .n) (p .goal) (Starting p) plan (runFrom 128 (p .goal) 0 plan t))
+    (last : Arrives 128 (p .n) (Starting p) plan (movesTaken 128 plan t) (lastTable 128 plan t)) where
   abbrev verdict : Verdict
-  verdict = runFrom 128 (p .goal) 0 (actionsOf p q) t
-
-  last : Arrives 128 (p .n) (Starting p) plan (movesTaken 128 plan t) (lastTable 128 plan t)
-  last = last-arrives p hp t starts q hq
+  verdict = runFrom 128 (p .goal) 0 plan t
 
   pub table-exact : Exact p plan verdict (picture (lastTable 128 plan t))
   table-exact = record {
-    means = verdict-means p hp t starts q hq;
+    means = meant;
     defined = subst (Every (p .n) (Starting p) Ends) (sym taken) (last .defined);
-    ascending = λ s e. picture-ascending (hp .n-most) (last .described) e .0;
-    primes = λ s e. primeList-same same (picture-list (hp .n-most) (last .described) e);
+    ascending = λ s e. picture-ascending hn (last .described) e .0;
+    primes = λ s e. primeList-same same (picture-list hn (last .described) e);
     worlds = λ s e w l.
         let x = same w l in
-        let y = picture-worlds (hp .n-most) (last .described) e w l in
+        let y = picture-worlds hn (last .described) e w l in
         (λ i. y .0 (x .1 i), λ i. x .0 (y .1 i));
   }
     where
@@ -74,7 +67,7 @@ module _ (p : Problem) (hp : ProperProblem p) (t : List Literals) (starts : star
           (last .worlds w l)
 
 -- ---- the class of a verdict that is not full; where it is not stopped, all moves are taken
-pub class-of : (n : ℕ) (goal : List Literals) (S : ℕ → Type 0) (plan : List Action) (v : Verdict) → ((k : ℕ) → v ≡ full k → ⊥)
+class-of : (n : ℕ) (goal : List Literals) (S : ℕ → Type 0) (plan : List Action) (v : Verdict) → ((k : ℕ) → v ≡ full k → ⊥)
     → Means n goal S plan v
     → (c : Class) × (classOf (verdictOf v) ≡ some c) × ClassMeans n goal S plan c
     × ((c ≡ isStopped → ⊥) → takenBy (verdictOf v) plan ≡ plan)

@@ -1,5 +1,5 @@
--- Demand 3: exchanged plans are plans on the sheet; the final picture by the picture call and by its clauses; two plans on one sheet, one
--- what a list of exchanges makes of the other, or any two. Assumes nothing.
+-- TH7, TH9: exchanged plans are plans on the sheet; the final picture by the picture call and by its clauses; two plans on one sheet, one
+-- what a list of exchanges makes of the other, or any two. For `demand-3` in proofs/Demands. Assumes nothing.
 use mathlib.Core.Path.{_≡_, refl, sym, ap, subst, _∙_}
 use mathlib.Core.Bool.{Bool, true, false, cond}
 use mathlib.Core.List.{List, [], _++_}
@@ -235,7 +235,7 @@ module _ (s₁ s₂ : List ℕ) (x y : Statement) (same : SamePlanSheet s₁ s�
           (statement-proper s₁ x (same .first) .plan .each)) v lv
 
   -- TH7: the second plan is what a list of exchanges makes of the first
-  pub exchange-runs : (w : ℕ) → w < 2 ^ σ .n → Starting σ w → (ks : List ℕ) → y .plan ≡ exchanges (actionAt σ) ks (x .plan)
+  exchange-runs : (w : ℕ) → w < 2 ^ σ .n → Starting σ w → (ks : List ℕ) → y .plan ≡ exchanges (actionAt σ) ks (x .plan)
       → runFull run₁ ≡ false → runFull run₂ ≡ false → SameEnd run₁ run₂
   exchange-runs w l st ks e = exchange-runs-by touch (commute (σ .n)) w l st ks e
 

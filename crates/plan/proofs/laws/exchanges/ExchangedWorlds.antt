@@ -1,8 +1,9 @@
--- A list of exchanges changes no world's end, and it keeps the length and the numbers of a plan. Assumes nothing.
+-- A list of exchanges changes no world's end, and it keeps the length and the numbers of a plan. For TH7 (ExchangeDemands). Assumes
+-- nothing.
 use mathlib.Core.Path.{_≡_, refl, sym, ap, _∙_}
 use mathlib.Core.Bool.{Bool, true, false}
 use mathlib.Core.List.{List, [], _∷_, map}
-use mathlib.Core.Option.{Option, none, some, Option·some-injective, Option·none-ne-some}
+use mathlib.Core.Option.{Option, none, some}
 use Prim.Native.Nat.{ℕ, zero, suc, _^_, _<_}
 use lib.ListN.{length}
 use Rattle.sheet.specs.Lists.{All}
@@ -12,16 +13,6 @@ use Rattle.table.specs.Worlds.{stepWorld, andThen, runWorld}
 use Rattle.table.proofs.laws.steps.StepWorlds.{step-below}
 use Rattle.plan.specs.Exchange.{swap, exchangeBy, exchangesBy}
 
--- ---- worlds step to worlds
-pub run-below : (n : ℕ) (plan : List Action) → All (ProperAction n) plan → (w v : ℕ) → w < 2 ^ n → runWorld n plan w ≡ some v → v < 2 ^ n
-run-below n [] h w v l e = rw (← Option·some-injective w v e) l
-run-below n (a ∷ plan) h w v l e = go (stepWorld n a w) refl e (λ u. run-below n plan (h .1) u v)
-  where
-    go : (o : Option ℕ) → stepWorld n a w ≡ o → andThen o (runWorld n plan) ≡ some v
-        → ((u : ℕ) → u < 2 ^ n → runWorld n plan u ≡ some v → v < 2 ^ n) → v < 2 ^ n
-    go none k q ih = absurd (Option·none-ne-some v q)
-    go (some u) k q ih = ih u (step-below n a (h .0) w u l k) q
-
 then-assoc : {A B C : Type 0} (o : Option A) (f : A → Option B) (g : B → Option C)
     → andThen (andThen o f) g ≡ andThen o (λ v. andThen (f v) g)
 then-assoc none f g = refl
@@ -30,7 +21,7 @@ then-assoc (some v) f g = refl
 -- ---- by any test under which moves that do not touch commute in every world
 module _ (touches : Action → Action → Bool) (f : ℕ → Action) where
   -- what holds of the numbers of a plan holds after an exchange
-  pub exchange-all : (P : ℕ → Type 0) (k : ℕ) (plan : List ℕ) → All P plan → All P (exchangeBy touches f k plan)
+  exchange-all : (P : ℕ → Type 0) (k : ℕ) (plan : List ℕ) → All P plan → All P (exchangeBy touches f k plan)
   exchange-all P zero plan h = h
   exchange-all P (suc k) [] h = h
   exchange-all P (suc k) (a ∷ []) h = h

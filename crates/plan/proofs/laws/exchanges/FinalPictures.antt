@@ -1,4 +1,5 @@
--- The final picture of a run is what the picture call writes for the table that the run returns. Assumes nothing.
+-- The final picture of a run is what the picture call writes for the table that the run returns. For `final-written` in ExchangeDemands.
+-- Assumes nothing.
 use mathlib.Core.Path.{_≡_, sym, ap, ap₂, _∙_}
 use mathlib.Core.Bool.{Bool, true, false, cond}
 use mathlib.Core.List.{List, _++_}

@@ -1,4 +1,5 @@
--- Touching moves by their literals and propositions, moves that share the lamp, and an exchange by its place. Assumes nothing.
+-- Touching moves by their literals and propositions, moves that share the lamp, and an exchange by its place. For `exchange` in
+-- proofs/Demands (demand 3) and W2. Assumes nothing.
 use mathlib.Core.Path.{_≡_, refl, sym, ap, subst, _∙_}
 use mathlib.Core.Bool.{Bool, true, false, not, _&&_, _||_, true≢false}
 use mathlib.Core.List.{List, [], _∷_, _++_}

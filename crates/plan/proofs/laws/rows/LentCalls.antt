@@ -1,5 +1,5 @@
--- A call that is handed a lent slice which the caller still wants: it returns with the slice at its last list. Assumes `Given`, and that
--- the table of calls is monotone under a frame.
+-- A call that is handed a lent slice which the caller still wants returns with the slice at its last list (`lent-call`). For RowCalls and
+-- the call `run`. Assumes `Given`, and that the table of calls is monotone under a frame.
 use mathlib.Core.Path.{_≡_, refl, sym, _∙_, subst}
 use Prim.Native.Nat.{ℕ}
 use mathlib.Core.List.{[], List, _∷_}

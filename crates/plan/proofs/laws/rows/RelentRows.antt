@@ -1,5 +1,5 @@
 -- A lent slice of structs that is lent again for a call: `lends-again` opens its borrow for the new one, and `comes-back` closes it at the
--- last list. Assumes `Given`.
+-- last list. For LentCalls. Assumes `Given`.
 use mathlib.Core.Path.{_≡_, sym, ap, subst}
 use Prim.Native.Nat.{ℕ}
 use mathlib.Core.List.{List, [], _∷_}

@@ -1,5 +1,5 @@
--- The call of `write_row` by a function that still wants the rows: what `lent-call` asks, once for all callers. Assumes `Given`, and that
--- the table of calls is monotone under a frame.
+-- The call of `write_row` by a function that still wants the rows: what `lent-call` asks. For `rows::write_rows`. Assumes `Given`, and
+-- that the table of calls is monotone under a frame.
 use mathlib.Core.Path.{_≡_, refl, _∙_, ap}
 use Prim.Native.Nat.{ℕ, _<_, _^_}
 use mathlib.Core.List.{[], _∷_, List}

@@ -1,5 +1,5 @@
--- The rows of a run are back from their numbers: they have the places 0, 1, 2, .., and are at most 65 and no more than were lent. Assumes
--- nothing.
+-- The rows of a run are back from their numbers: they have the places 0, 1, 2, .., and are at most 65 and no more than were lent. For the
+-- calls `run` and `report`, and for unit. Assumes nothing.
 use mathlib.Core.Path.{_≡_, refl, sym, ap, _∙_}
 use mathlib.Core.Bool.{Bool, true, false, cond}
 use mathlib.Core.List.{List, [], _++_, map}

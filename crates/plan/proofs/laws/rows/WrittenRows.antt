@@ -1,4 +1,5 @@
--- Rows stored one after the other from the front: the list is then these rows, and the rest as it was. Assumes nothing.
+-- Rows stored one after the other from the front: the list is then these rows, and the rest as it was. For `rows::write_rows`. Assumes
+-- nothing.
 use mathlib.Core.Path.{_≡_, refl, sym, _∙_, ap}
 use Prim.Native.Nat.{ℕ, zero, suc, _≤_}
 use native.Mathlib.Nat.{le-of-lt}

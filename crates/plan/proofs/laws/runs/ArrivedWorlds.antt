@@ -1,5 +1,5 @@
--- The table T_k of a run by worlds (`Arrives`): every world takes the moves to it, and its worlds are those that they come to.
--- For VerdictWorlds and StartRuns. Assumes nothing.
+-- The table T_k of a run by worlds (`Arrives`): every world takes the moves to it, and its worlds are those that they come to. For
+-- VerdictWorlds, StartRuns and ExactRuns. Assumes nothing.
 use mathlib.Core.Path.{_≡_, refl, sym, ap, subst, _∙_}
 use mathlib.Core.List.{List, [], _∷_}
 use mathlib.Core.Logic.{_↔_}

@@ -1,5 +1,5 @@
 -- The call `run` on an accepted sheet with 65 rows or more, by the outcome of the start: its answer, its rows, its last table. For
--- RunRefusals, RunPlaces, RunDemands, ExactCalls and the examples. Assumes nothing.
+-- RunRefusals, RunPlaces, RunDemands, CarriedPlans, ExactCalls and the examples. Assumes nothing.
 use mathlib.Core.Path.{_≡_, ap, ap₂, _∙_}
 use mathlib.Core.Bool.{Bool, cond}
 use mathlib.Core.List.{List, []}

@@ -5,13 +5,13 @@ use mathlib.Core.Bool.{false, true≢false, true}
 use mathlib.Core.List.{List}
 use Prim.Native.Nat.{ℕ, _-_}
 use Rattle.sheet.specs.Problem.{Problem}
+use Rattle.sheet.proofs.laws.base.ListFacts.{map-take}
+use Rattle.table.specs.Calls.{actionAt}
 use Rattle.plan.specs.declared.Verdict as case
 use Rattle.plan.specs.Run.{actionsOf, Verdict, reached, short, stopped, full}
 use Rattle.plan.specs.Calls.{verdictOf}
 use Rattle.plan.specs.Demand3.{takenBy, fullVerdict, refusedVerdict}
 use Rattle.plan.specs.declared.Verdict.the-variants as ran
-use Rattle.sheet.proofs.laws.base.ListFacts.{map-take}
-use Rattle.table.specs.Calls.{actionAt}
 
 -- ---- of a plan: never refused; full or not
 pub never-refused : (v : Verdict) → refusedVerdict (verdictOf v) ≡ false

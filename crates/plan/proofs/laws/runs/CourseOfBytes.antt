@@ -4,18 +4,18 @@ use mathlib.Core.Path.{_≡_, sym, ap, _∙_}
 use mathlib.Core.Bool.{Bool, true, false, cond}
 use mathlib.Core.List.{List, []}
 use Prim.Native.Nat.{ℕ, _≤_, _<_}
-use borrow.Author.Tests.{lt-ltb, le-ltb}
 use lib.Dec.{ltb}
 use lib.ListN.{replicate}
+use borrow.Author.Tests.{lt-ltb, le-ltb}
 use Rattle.sheet.specs.Problem.{Statement}
 use Rattle.sheet.specs.Format.{Judgement, accepted, refused as faulty, sheetOf}
 use Rattle.table.specs.Minimal.{Outcome}
 use Rattle.table.specs.Start.{startTable}
 use Rattle.table.specs.Entries.{entries, lent}
+use Rattle.table.specs.inner.Slots.{Fresh}
 use Rattle.plan.specs.declared.Course.{Course}
 use Rattle.plan.specs.Calls.{refusedRun, planned, runOf, plannedRows, rowsOf}
 use Rattle.plan.specs.inner.Course.{countsOf, courseOf, refusedCourse, plannedCourse, FreshRows, courseIn}
-use Rattle.table.specs.inner.Slots.{Fresh}
 use Rattle.plan.specs.declared.RunRecord.{RunRecord}
 
 module _ (s : List ℕ) (x : Statement) (e : sheetOf s ≡ accepted x) (lent : ℕ) where

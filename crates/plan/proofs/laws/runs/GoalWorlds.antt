@@ -1,5 +1,5 @@
--- The goal by entries and by worlds: every entry of a table passes the test exactly if every world of the table is in the goal. Assumes
--- nothing.
+-- The goal by entries and by worlds: every entry of a table passes the test exactly if every world of the table is in the goal. For
+-- VerdictWorlds and StartRuns. Assumes nothing.
 use mathlib.Core.Bool.{not}
 use mathlib.Core.List.{List}
 use mathlib.Core.Logic.{_⊎_, inl, inr, _↔_}

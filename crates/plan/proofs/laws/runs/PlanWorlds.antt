@@ -1,16 +1,28 @@
--- One plan in one world: undefined from some move on, one move more; and what holds of every move of a plan. For ArrivedWorlds,
--- VerdictWorlds and VerdictClasses. Assumes nothing.
+-- One plan in one world: where it ends, undefined from some move on, one move more; and what holds of every move of a plan. For
+-- VerdictWorlds, VerdictClasses, StartRuns and StartSearches. Assumes nothing.
 use mathlib.Core.Path.{_≡_, refl, ap, subst, _∙_}
 use mathlib.Core.List.{List, [], _∷_, head-eq-of-cons-eq}
 use mathlib.Core.Option.{Option, none, some, Option·some-injective, Option·some-ne-none, Option·none-ne-some}
-use Prim.Native.Nat.{ℕ, zero, suc, _+_, _≤_}
+use Prim.Native.Nat.{ℕ, zero, suc, _+_, _≤_, _^_, _<_}
 use native.Mathlib.Nat.{le-of-suc-le-suc, not-suc-le-zero}
 use native.Mathlib.Omega.{arith}
 use lib.ListN.{length, take, drop}
 use lib.Seq.{take-all}
 use Rattle.sheet.specs.Lists.{All}
 use Rattle.sheet.specs.Problem.{Action}
+use Rattle.sheet.specs.Encoding.{ProperAction}
 use Rattle.table.specs.Worlds.{stepWorld, andThen, runWorld}
+use Rattle.table.proofs.laws.steps.StepWorlds.{step-below}
+
+-- ---- worlds step to worlds
+pub run-below : (n : ℕ) (plan : List Action) → All (ProperAction n) plan → (w v : ℕ) → w < 2 ^ n → runWorld n plan w ≡ some v → v < 2 ^ n
+run-below n [] h w v l e = rw (← Option·some-injective w v e) l
+run-below n (a ∷ plan) h w v l e = go (stepWorld n a w) refl e (λ u. run-below n plan (h .1) u v)
+  where
+    go : (o : Option ℕ) → stepWorld n a w ≡ o → andThen o (runWorld n plan) ≡ some v
+        → ((u : ℕ) → u < 2 ^ n → runWorld n plan u ≡ some v → v < 2 ^ n) → v < 2 ^ n
+    go none k q ih = absurd (Option·none-ne-some v q)
+    go (some u) k q ih = ih u (step-below n a (h .0) w u l k) q
 
 -- a longer part of the plan is undefined where a shorter one is
 pub take-none : (n i j : ℕ) (plan : List Action) (w : ℕ) → i ≤ j → runWorld n (take i plan) w ≡ none → runWorld n (take j plan) w ≡ none

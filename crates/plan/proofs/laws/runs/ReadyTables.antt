@@ -1,4 +1,4 @@
--- A table that a start or a step answers with: it is that of the outcome, and ready for the next step. For RunLoop, SearchMoves and
+-- A table that a start or a step answers with: it is that of the outcome, and ready for the next step. For RunLoop, ArrayMoves and
 -- SheetStarts. Assumes nothing.
 use mathlib.Core.Path.{_≡_, refl, sym, ap, subst, _∙_}
 use mathlib.Core.List.{List, []}
@@ -17,8 +17,8 @@ use Rattle.table.specs.Entries.{entries, tableOf}
 use Rattle.table.specs.Calls.{orGiven}
 use Rattle.table.proofs.laws.arrays.HeldLists.{length-entriesOf}
 use Rattle.table.proofs.Demands.{start-table}
-use Rattle.plan.specs.inner.Course.{Ready}
 use Rattle.table.proofs.laws.answers.CallTables.{entries-table}
+use Rattle.plan.specs.inner.Course.{Ready}
 
 -- ---- what a start or a step answers
 pub stepped : (t : Table) (o : Outcome) (s : TableAnswer) → s ≡ orGiven t o → s .answer ≡ Accepted → (u : List Literals) × (o ≡ table u)

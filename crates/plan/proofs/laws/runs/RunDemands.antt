@@ -1,9 +1,9 @@
--- Runs by the starting worlds: what the verdict of a run that is not full says of them, the moves they take, the worlds they become.
--- Assumes nothing.
+-- TH5 by the starting worlds: what the verdict of a run that is not full says of them, the moves they take, the worlds they become. For
+-- `run-worlds` in proofs/Demands. Assumes nothing.
 use mathlib.Core.Path.{_≡_, refl, sym, ap, subst, _∙_}
 use mathlib.Core.Bool.{false, true≢false}
 use mathlib.Core.List.{List}
-use mathlib.Core.Logic.{_⊎_, inl, inr, _↔_}
+use mathlib.Core.Logic.{inl, inr, _↔_}
 use Prim.Native.Nat.{ℕ, _^_, _≤_, _<_}
 use lib.ListN.{length, take}
 use Rattle.sheet.specs.declared.Literals.{Literals}
@@ -32,6 +32,7 @@ use Rattle.plan.proofs.laws.runs.StartRuns.{taken-by, verdict-is, last-
 use Rattle.plan.proofs.laws.runs.CallVerdicts.{not-full, not-refused, verdict-injective, taken-actions}
 use Rattle.plan.proofs.laws.runs.CallRuns.{run-call, last-entries}
 use Rattle.plan.proofs.laws.runs.RunRefusals.{run-number, full-run, rows-enough, run-starts, started-run}
+use Rattle.plan.proofs.laws.runs.StartOutcomes.{Kinds}
 
 module _ (s : List ℕ) (x : Statement) (says : Says s x) (rows : ℕ) (given : runRefused (runOf (sheetOf s) rows) ≡ false) where
   abbrev p : Problem
@@ -46,18 +47,18 @@ module _ (s : List ℕ) (x : Statement) (says : Says s x) (rows : ℕ) (given : 
   hq : All (λ i. i < length (p .actions)) (x .plan)
   hq = statement-proper s x says .plan .each
 
-  t : List Literals
+  abbrev t : List Literals
   t = run-starts s x says rows given .0
 
-  starts : startTable 128 (x .problem) ≡ Outcome.table (run-starts s x says rows given .0)
+  starts : startTable 128 (x .problem) ≡ Outcome.table t
   starts = run-starts s x says rows given .1
 
   abbrev verdict : Verdict
-  verdict = runFrom 128 (x .problem .goal) 0 (actionsOf (x .problem) (x .plan)) (run-starts s x says rows given .0)
+  verdict = runFrom 128 (x .problem .goal) 0 (actionsOf (x .problem) (x .plan)) t
 
   call-verdict : runOf (sheetOf s) rows .verdict ≡ verdictOf verdict
   call-verdict = ap (λ (r : RunAnswer). r .verdict)
-      (run-call s x says rows (rows-enough s x says rows given) (run-starts s x says rows given .0) starts)
+      (run-call s x says rows (rows-enough s x says rows given) t starts)
 
   -- by the starting worlds
   run-is : runFull (runOf (sheetOf s) rows) ≡ false → (v : Verdict) → ((k : ℕ) → v ≡ full k → ⊥)
@@ -69,23 +70,23 @@ module _ (s : List ℕ) (x : Statement) (says : Says s x) (rows : ℕ) (given : 
   )
     where
       law : (verdict ≡ v) ↔ Means (p .n) (p .goal) (Starting p) plan v
-      law = verdict-is p run-hp (run-starts s x says rows given .0) starts (x .plan) hq
+      law = verdict-is p run-hp t starts (x .plan) hq
           (not-full verdict (ap fullVerdict (sym call-verdict) ∙ f)) v g
 
   -- the moves taken
-  taken-first : actionsOf p (taken s x rows) ≡ take (movesTaken 128 plan (run-starts s x says rows given .0)) plan
+  taken-first : actionsOf p (taken s x rows) ≡ take (movesTaken 128 plan t) plan
   taken-first =
       taken-actions p (runOf (sheetOf s) rows .verdict) (x .plan)
       ∙ ap (λ (v : case.Verdict). takenBy v plan) call-verdict
-      ∙ taken-by 128 (p .goal) plan (run-starts s x says rows given .0) plan refl
+      ∙ taken-by 128 (p .goal) plan t plan refl
 
   pub run-takes : Every (p .n) (Starting p) Ends (actionsOf p (taken s x rows))
   run-takes = subst (Every (p .n) (Starting p) Ends) (sym taken-first)
-      (last-arrives p run-hp (run-starts s x says rows given .0) starts (x .plan) hq .defined)
+      (last-arrives p run-hp t starts (x .plan) hq .defined)
 
   pub run-comes : (v : ℕ) → v < 2 ^ p .n → In (p .n) (entries (runOf (sheetOf s) rows .table)) v ↔ Becomes s x rows v
-  run-comes v l = rw (last-entries s x says rows (rows-enough s x says rows given) (run-starts s x says rows given .0) starts, taken-first)
-      (last-arrives p run-hp (run-starts s x says rows given .0) starts (x .plan) hq .worlds v l)
+  run-comes v l = rw (last-entries s x says rows (rows-enough s x says rows given) t starts, taken-first)
+      (last-arrives p run-hp t starts (x .plan) hq .worlds v l)
 
 -- ---- a run that is not full, whether or not its start gives a table: it does where some starting world is known from what the verdict
 -- says
@@ -97,9 +98,7 @@ module _ (s : List ℕ) (x : Statement) (says : Says s x) (rows : ℕ) (enough :
   pub run-means : (Meant → (w : ℕ) × Starts (x .problem) w) → (runOf (sheetOf s) rows .verdict ≡ verdictOf v) ↔ Meant
   run-means has = go (tables.start-kind 128 (x .problem))
     where
-      go : (startTable 128 (x .problem) ≡ Outcome.refused 20)
-          ⊎ ((startTable 128 (x .problem) ≡ Outcome.refused 21) ⊎ ((t : List Literals) × (startTable 128 (x .problem) ≡ Outcome.table t)))
-          → (runOf (sheetOf s) rows .verdict ≡ verdictOf v) ↔ Meant
+      go : Kinds (x .problem) → (runOf (sheetOf s) rows .verdict ≡ verdictOf v) ↔ Meant
       go (inl e) = (
         λ h. absurd (not-refused v 20 0 (sym h ∙ run-number s x says rows enough 20 0 .1 (refl, e))),
         λ m. let k = has m in absurd (tables.start-20 (x .problem) (statement-proper s x says .problem) 128 e (k .0) (k .1 .0) (k .1 .1)),

@@ -13,8 +13,11 @@ use Rattle.sheet.specs.Lists.{allOf, pad}
 use Rattle.sheet.specs.Problem.{Action}
 use Rattle.sheet.specs.inner.Decoded.{planIn}
 use Rattle.sheet.specs.inner.Packed.{setsIn, goalIn, movesIn, actionOf}
+use Rattle.sheet.specs.declared.Answer.the-variants.{Refused}
+use Rattle.sheet.specs.declared.Literals.{Literals}
 use Rattle.sheet.proofs.laws.base.ListFacts.{all-at}
 use Rattle.sheet.proofs.laws.base.Prefixes.{part-step, part-end}
+use Rattle.sheet.proofs.laws.base.Padding.{pad-set}
 use Rattle.table.specs.declared.Table.{Table}
 use Rattle.table.specs.declared.TableAnswer.{TableAnswer}
 use Rattle.table.specs.declared.steps.Stepped.{Stepped}
@@ -33,14 +36,11 @@ use Rattle.plan.specs.Run.{inGoal, endedIn, haltedBy, rowOf, onward, run
 use Rattle.plan.specs.Calls.{verdictOf}
 use Rattle.plan.specs.inner.Course.{countsOf, countsIn, FreshRows, noted, courseFrom}
 use Rattle.plan.specs.inner.Searches.{Runnable}
-use Rattle.plan.proofs.laws.searches.SearchMoves.{slots-room, ready-after, came, refused-by}
-use Rattle.sheet.specs.declared.Answer.the-variants.{Refused}
-use Rattle.sheet.specs.declared.Literals.{Literals}
-use Rattle.sheet.proofs.laws.base.Padding.{pad-set}
+use Rattle.plan.proofs.laws.searches.ArrayMoves.{slots-room, ready-after, came, refused-by}
 use Rattle.plan.proofs.laws.runs.ReadyTables.{stopped, ready-count}
 
 -- ---- one row more
-pub note-row : (rows : List Row) (place : ℕ) (t : List Literals) → length rows < 65
+note-row : (rows : List Row) (place : ℕ) (t : List Literals) → length rows < 65
     → noted (countsOf rows) t ≡ countsOf (rows ++ rowOf place t ∷ [])
 unfolding noted countsOf rowOf
 note-row rows place t lt = λ j. record
@@ -59,7 +59,7 @@ abbrev pub Ending : case.Verdict → Table → Counts → Course
 Ending v t c = record { ran = record { verdict = v; table = t }; counts = c }
 
 module _ (goal : List Literals) (rows : List Row) (place : ℕ) (a : Action) (plan : List Action) (t : List Literals) where
-  pub taken : (u : List Literals) → stepTable 128 a t ≡ table u
+  taken : (u : List Literals) → stepTable 128 a t ≡ table u
       → courseFrom goal rows place (a ∷ plan) t ≡ courseFrom goal (rows ++ rowOf place t ∷ []) (suc place) plan u
   unfolding courseFrom
   taken u e =
@@ -76,7 +76,7 @@ module _ (goal : List Literals) (rows : List Row) (place : ℕ) (a : Action) (pl
       })
       (sym (append-assoc rows (rowOf place t ∷ []) (rowsFrom 128 (suc place) plan u)))
 
-  pub halted : (k : ℕ) → stepTable 128 a t ≡ refused k
+  halted : (k : ℕ) → stepTable 128 a t ≡ refused k
       → courseFrom goal rows place (a ∷ plan) t ≡ Ending (verdictOf (haltedBy (eqb k 21) (suc place) k)) (tableOf t)
       (countsOf (rows ++ rowOf place t ∷ []))
   unfolding courseFrom
@@ -221,7 +221,7 @@ module _ {plan : Plan} {packed : List ℕ} {whole : Course} {i : ℕ} {t : Table
             counts = (ed ∙ noted-rows) j;
           })
           ∙ sym (halted (setsIn (goalIn packed)) (h .rows) i (actionOf (movesIn packed) m) (left plan packed (i + 1)) (entries t) k
-          (refused-by (h .can .fits) below r us gs told e i 0))
+          (refused-by (h .can .fits) below r us gs told e))
           ∙ unrolled
 
 -- what noting a row asks

@@ -1,4 +1,4 @@
--- The run by the calls start, step and picture: what it stops at, the table it returns, its rows (Demand 1 of specs/Demands). Assumes
+-- TH5 by the calls start, step and picture: what a run stops at, the table it returns, its rows. For `run` in proofs/Demands. Assumes
 -- nothing.
 use mathlib.Core.Path.{_≡_, refl, sym, ap, subst, _∙_}
 use mathlib.Core.Bool.{Bool, true, false, cond}

@@ -1,5 +1,5 @@
--- TH4 for the call `run`: each number exactly on its own condition, in document 01's order, and what comes back beside it; a run that is
--- not refused has rows enough and a start table. No hypothesis stands on the bytes or the rows. Assumes nothing.
+-- TH4 for the call `run`, whatever the bytes and the rows: each number exactly on its own condition, in document 01's order, and what comes
+-- back beside it; a run that is not refused has rows enough and a start table. For `run` and `back` in proofs/Demands. Assumes nothing.
 use mathlib.Core.Path.{_≡_, refl, sym, ap, _∙_}
 use mathlib.Core.Bool.{Bool, true, false, cond, true≢false}
 use mathlib.Core.List.{List, []}
@@ -12,26 +12,26 @@ use borrow.Author.Tests.{ltb-true, ltb-false, lt-ltb}
 use Rattle.sheet.specs.declared.Literals.{Literals}
 use Rattle.sheet.specs.Problem.{Problem, Statement}
 use Rattle.sheet.specs.Format.{Judgement, accepted, refused, sheetOf}
-use Rattle.table.specs.Minimal.{Outcome, Described}
+use Rattle.sheet.specs.Faults.{Says}
+use Rattle.sheet.specs.declared.Answer.the-variants.{Refused}
+use Rattle.table.specs.Minimal.{Outcome}
 use Rattle.table.specs.Start.{startTable}
 use Rattle.table.specs.Entries.{tableOf}
+use Rattle.table.specs.Calls.{startOf}
+use Rattle.table.specs.CallWords.{AsDescribed, ZeroAfter}
+use Rattle.table.proofs.Demands as tables
+use Rattle.table.proofs.laws.answers.CallTables.{entries-table, zero-after}
 use Rattle.plan.specs.declared.Row.{Row}
 use Rattle.plan.specs.declared.Verdict.the-variants as ran
 use Rattle.plan.specs.Run.{actionsOf, runFrom, lastTable}
 use Rattle.plan.specs.Calls.{refusedRun, planned, runOf, plannedRows, rowsOf, rowsAfter}
 use Rattle.plan.specs.Demand3.{refusedVerdict, fullVerdict, runFull, runRefused}
+use Rattle.plan.specs.declared.RunAnswer.{RunAnswer}
 use Rattle.plan.proofs.laws.runs.CallVerdicts.{never-refused, not-refused}
 use Rattle.plan.proofs.laws.runs.CallRuns.{run-planned, run-call, last-described}
-use Rattle.sheet.specs.Faults.{Says}
-use Rattle.table.specs.Calls.{startOf}
-use Rattle.table.proofs.Demands as tables
-use Rattle.plan.specs.declared.RunAnswer.{RunAnswer}
-use Rattle.sheet.specs.declared.Answer.the-variants.{Refused}
-use Rattle.table.specs.CallWords.{AsDescribed, ZeroAfter}
-use Rattle.table.proofs.laws.answers.CallTables.{entries-table, zero-after}
 use Rattle.plan.proofs.laws.runs.StartOutcomes.{apart, start-refused, refused-by-start}
 
--- the run of a plan by the outcome of the start
+-- ---- the run of a plan by the outcome of the start
 module _ (p : Problem) (plan : List ℕ) where
   planned-refused : (o : Outcome) (k q : ℕ) → (planned p plan o .verdict ≡ ran.Refused k q) ↔ ((q ≡ 0) × (o ≡ Outcome.refused k))
   unfolding planned refusedRun
@@ -67,7 +67,7 @@ run-none (accepted x) rows k q e = go (ltb rows 65) (startTable 128 (x .problem)
     go true o e = (refl, refl)
     go false o e = planned-back (x .problem) (x .plan) o k q e
 
--- ---- run: the numbers in their order
+-- ---- the numbers in their order
 -- a fault of the sheet comes first
 pub run-fault : (s : List ℕ) (rows k p : ℕ) → sheetOf s ≡ refused k p → runOf (sheetOf s) rows ≡ refusedRun k p
 unfolding runOf
@@ -163,20 +163,10 @@ module _ (s : List ℕ) (x : Statement) (says : Says s x) where
   -- what a run returns
   pub run-table : (rows : ℕ) → runRefused (runOf (sheetOf s) rows) ≡ false → AsDescribed x (runOf (sheetOf s) rows .table)
       × ZeroAfter (runOf (sheetOf s) rows .table)
-  run-table rows f = rw (ap (λ (r : RunAnswer). r .table) (run-call s x says rows enough t starts))
+  run-table rows f =
+      let enough = rows-enough s x says rows f in
+      let k = run-starts s x says rows f in
+      let last = lastTable 128 (actionsOf (x .problem) (x .plan)) (k .0) in
+      let d = last-described s x says rows enough (k .0) (k .1) in
+      rw (ap (λ (r : RunAnswer). r .table) (run-call s x says rows enough (k .0) (k .1)))
       (rw (entries-table last (d .most)) d, zero-after last (d .most))
-    where
-      enough : 65 ≤ rows
-      enough = rows-enough s x says rows f
-
-      t : List Literals
-      t = run-starts s x says rows f .0
-
-      starts : startTable 128 (x .problem) ≡ Outcome.table (run-starts s x says rows f .0)
-      starts = run-starts s x says rows f .1
-
-      last : List Literals
-      last = lastTable 128 (actionsOf (x .problem) (x .plan)) (run-starts s x says rows f .0)
-
-      d : Described 128 (x .problem .n) (lastTable 128 (actionsOf (x .problem) (x .plan)) (run-starts s x says rows f .0))
-      d = last-described s x says rows enough (run-starts s x says rows f .0) starts

@@ -1,4 +1,5 @@
--- A run by its tables T_k: its verdict, the table that it returns, the moves taken and the rows. Assumes nothing.
+-- A run from any table by its tables T_k: its verdict, the table that it returns, the moves taken and the rows. For ArrivedWorlds,
+-- StartRuns, RunPlaces and RowCounts. Assumes nothing.
 use mathlib.Core.Path.{_≡_, refl, ap, _∙_}
 use mathlib.Core.List.{List, [], _∷_}
 use mathlib.Core.Logic.{_⊎_, inl, inr, _↔_, ⊎-elim}

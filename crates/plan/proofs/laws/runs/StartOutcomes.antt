@@ -1,5 +1,5 @@
--- The outcome of a start: a table, or the number 20 or 21; and an answer that is refused exactly where the start is. For RunRefusals
--- and SearchRefusals (TH4), RunPlaces and SearchDemands. Assumes nothing.
+-- The outcome of a start: a table, or the number 20 or 21; and an answer that is refused exactly where the start is. For RunRefusals,
+-- SearchRefusals (TH4), RunPlaces, RunDemands, SearchDemands and ExactCalls. Assumes nothing.
 use mathlib.Core.Path.{_≡_, sym, ap, _∙_}
 use mathlib.Core.List.{List}
 use mathlib.Core.Logic.{_↔_, _⊎_, inl, inr}
@@ -11,17 +11,20 @@ use Rattle.sheet.specs.Format.{refused}
 use Rattle.table.specs.Minimal.{Outcome}
 use Rattle.table.specs.Start.{startTable}
 use Rattle.table.proofs.Demands.{start-kind}
-use Rattle.table.proofs.Demands as tables
 
--- ---- a table, or a number
+-- ---- 20, 21, or a table (`start-kind`)
+abbrev pub Kinds : Problem → Type 0
+Kinds p = (startTable 128 p ≡ Outcome.refused 20) ⊎
+    ((startTable 128 p ≡ Outcome.refused 21) ⊎ ((t : List Literals) × (startTable 128 p ≡ Outcome.table t)))
+
+-- a table, or a number
 abbrev pub Outcomes : Problem → Type 0
 Outcomes p = ((N : ℕ) × (startTable 128 p ≡ Outcome.refused N)) ⊎ ((t : List Literals) × (startTable 128 p ≡ Outcome.table t))
 
 pub outcomes : (p : Problem) → Outcomes p
-outcomes p = go (tables.start-kind 128 p)
+outcomes p = go (start-kind 128 p)
   where
-    go : (startTable 128 p ≡ Outcome.refused 20) ⊎
-        ((startTable 128 p ≡ Outcome.refused 21) ⊎ ((t : List Literals) × (startTable 128 p ≡ Outcome.table t))) → Outcomes p
+    go : Kinds p → Outcomes p
     go (inl e) = inl (20, e)
     go (inr (inl e)) = inl (21, e)
     go (inr (inr e)) = inr e
@@ -34,8 +37,7 @@ apart e = let z : _≡_ {A = ℕ} 0 1 = cc in omega arith
 pub start-refused : (p : Problem) {k : ℕ} → startTable 128 p ≡ Outcome.refused k → (20 ≤ k) × (k ≤ 21)
 start-refused p {k} e = pick (start-kind 128 p)
   where
-    pick : (startTable 128 p ≡ Outcome.refused 20) ⊎
-        ((startTable 128 p ≡ Outcome.refused 21) ⊎ ((t : List Literals) × (startTable 128 p ≡ Outcome.table t))) → (20 ≤ k) × (k ≤ 21)
+    pick : Kinds p → (20 ≤ k) × (k ≤ 21)
     pick (inl f) = let i : k ≡ 20 = cc in (omega arith, omega arith)
     pick (inr (inl f)) = let i : k ≡ 21 = cc in (omega arith, omega arith)
     pick (inr (inr f)) = absurd (apart (sym e ∙ f .1))

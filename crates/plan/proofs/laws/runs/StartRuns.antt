@@ -1,5 +1,5 @@
 -- Any plan of a problem, run from its start table: the verdict by the tables T_k (`by-reached` and so on) and by the starting worlds
--- (`verdict-is`). For RunPlaces and RunDemands (TH5), and for StartSearches and ExactRuns. Assumes nothing.
+-- (`verdict-is`). For RunPlaces and RunDemands (TH5), StartSearches (TH6) and ExactCalls. Assumes nothing.
 use mathlib.Core.Path.{_≡_, refl, sym, ap, subst, _∙_}
 use mathlib.Core.Bool.{Bool, true, false}
 use mathlib.Core.List.{List}
@@ -37,7 +37,7 @@ use Rattle.plan.proofs.laws.runs.VerdictWorlds.{run-means}
 use Rattle.plan.proofs.laws.runs.VerdictClasses.{one-verdict}
 
 -- ---- the moves of a plan are the sheet's
-pub plan-proper : (p : Problem) → ProperProblem p → (q : List ℕ) → All (λ i. i < length (p .actions)) q
+plan-proper : (p : Problem) → ProperProblem p → (q : List ℕ) → All (λ i. i < length (p .actions)) q
     → All (ProperAction (p .n)) (actionsOf p q)
 unfolding actionsOf
 plan-proper p hp q h = all-imaged (actionAt p) (ProperAction (p .n)) q

@@ -70,7 +70,7 @@ module _ (n : ℕ) (S : ℕ → Type 0) (plan : List Action) where
       go (inr x) (inl y) = earlier j i (ltb→lt j i y) uj ei
       go (inr x) (inr y) = omega (arith, nltb→le i j x, nltb→le j i y)
 
-  pub one-stop : (k N k′ N′ : ℕ) → StopsAt n S plan k N → StopsAt n S plan k′ N′ → (k ≡ k′) × (N ≡ N′)
+  one-stop : (k N k′ N′ : ℕ) → StopsAt n S plan k N → StopsAt n S plan k′ N′ → (k ≡ k′) × (N ≡ N′)
   one-stop k N k′ N′ m m′ = (
     m .place ∙ ap suc e ∙ sym (m′ .place),
     numbers (m .number) (subst (λ (a : Action). Number a N′) (sym same-move) there),

@@ -23,10 +23,9 @@ use Rattle.plan.specs.Run.{inGoal, endedIn, haltedBy, runFrom}
 use Rattle.plan.specs.inner.TableRuns.{tableAt, Refuses}
 use Rattle.plan.specs.Meaning.{Ends, Undefined, Lacking, Every, Some, Comes, StopsAt}
 use Rattle.plan.specs.inner.RunEnds.{Means}
-use Rattle.plan.proofs.laws.exchanges.ExchangedWorlds.{run-below}
 use Rattle.plan.proofs.laws.runs.GoalWorlds.{goal-each, goal-lacks}
 use Rattle.plan.proofs.laws.runs.RunTables.{Story, story, run-ended, run-refused}
-use Rattle.plan.proofs.laws.runs.PlanWorlds.{take-next, all-next, all-take}
+use Rattle.plan.proofs.laws.runs.PlanWorlds.{run-below, take-next, all-next, all-take}
 use Rattle.plan.proofs.laws.runs.ArrivedWorlds.{Arrives, arrives}
 
 -- from a table t that stands for the worlds of S

@@ -1,4 +1,4 @@
--- Any plan of a problem on the sheet that carries it: the sheet is accepted, and its run is that of the plan. For SearchDemands (TH6).
+-- Any plan of a problem on the sheet that carries it: the sheet is accepted, and its run is that of the plan. For TH6 (SearchDemands).
 -- Assumes nothing.
 use mathlib.Core.Path.{_≡_, refl, ap}
 use mathlib.Core.List.{List}

@@ -1,4 +1,5 @@
--- The first answer over lists of plans one after another, and by the first move. Assumes nothing.
+-- The first answer among plans in order: over lists one after another, and by the first move. For SearchReturns, NoShorterPlans and
+-- SheetStarts. Assumes nothing.
 use mathlib.Core.Path.{_≡_, refl, sym, ap, _∙_}
 use mathlib.Core.Bool.{Bool, true, false, true≢false}
 use mathlib.Core.List.{List, [], _∷_, _++_, map, append-nil}
@@ -7,8 +8,8 @@ use native.Mathlib.Nat.{not-suc-le-zero}
 use native.Mathlib.Numerals.{add-one}
 use native.Mathlib.Omega.{arith}
 use native.Mathlib.Decide.{ℕ-discrete}
-use borrow.Author.Tests.{ne-eqb}
 use lib.ListN.{replicate}
+use borrow.Author.Tests.{ne-eqb}
 use Rattle.sheet.specs.declared.Literals.{Literals}
 use Rattle.sheet.specs.Lists.{All, collect}
 use Rattle.sheet.specs.Problem.{Action}

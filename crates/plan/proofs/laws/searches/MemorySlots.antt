@@ -6,9 +6,9 @@ use Prim.Native.Nat.{ℕ, _+_, _*_, _-_, _/_, _≤_, _<_}
 use native.Mathlib.Nat.{not-suc-le-zero}
 use native.Mathlib.Omega.{arith}
 use native.Mathlib.Decide.{ℕ-discrete}
-use borrow.Author.Count.{below-more}
 use lib.ListN.{length, getD, set, take, drop, length-set}
 use lib.Seq.{getD-set-same, getD-set-other, getD-take, getD-drop}
+use borrow.Author.Count.{below-more}
 use Rattle.sheet.specs.declared.Literals.{Literals}
 use Rattle.sheet.specs.inner.Packed.{itemAt, setsIn, actionOf, goalIn, movesIn}
 use Rattle.sheet.proofs.laws.reader.PackedParts.{item-lent, itemAnew, item-anew-long, item-same, item-other}

@@ -1,10 +1,11 @@
 -- Where no shorter plan is reached or full (`NoShorterPlan`): so it is after a move, from any place, and for one move more; and a move that
--- leaves the table as it was leads to no answer. For SearchMoves, MemorySlots and `searches::lengths`. Assumes nothing.
+-- leaves the table as it was leads to no answer. For TriedMoves, MemorySlots and `searches::lengths`. Assumes nothing.
 use mathlib.Core.Path.{_≡_, ap, subst, _∙_}
 use mathlib.Core.Bool.{Bool, true, false}
 use mathlib.Core.List.{List, [], _∷_, map}
 use Prim.Native.Nat.{ℕ, suc, _+_, _<_}
 use native.Mathlib.Omega.{arith}
+use native.Mathlib.Decide.{ℕ-discrete}
 use lib.Dec.{eqb}
 use lib.ListN.{length}
 use Rattle.sheet.specs.declared.Literals.{Literals}
@@ -19,10 +20,9 @@ use Rattle.plan.specs.inner.FirstPlans.{Fails}
 use Rattle.plan.specs.inner.Searches.{ranFrom, firstFrom, firstBy, NoShorterPlan}
 use Rattle.plan.proofs.laws.searches.PlanOrder.{plans-in, plans-out, none-is, none-each}
 use Rattle.plan.proofs.laws.searches.FirstByMove.{firstBelow, each-nothing, consed, by-table}
-use native.Mathlib.Decide.{ℕ-discrete}
 
 -- a plan fails or not wherever it begins
-pub fails-place : (goal : List Literals) (plan : List Action) (t : List Literals) (a b : ℕ) → Fails (runFrom 128 goal a plan t)
+fails-place : (goal : List Literals) (plan : List Action) (t : List Literals) (a b : ℕ) → Fails (runFrom 128 goal a plan t)
     → Fails (runFrom 128 goal b plan t)
 fails-place goal [] t a b h = h
 fails-place goal (x ∷ plan) t a b h = go (stepTable 128 x t) (λ u. fails-place goal plan u (suc a) (suc b)) h

@@ -1,4 +1,5 @@
--- The search: the plans tried are those within the limit, in their order; what its answers say of them. Assumes nothing.
+-- The plans tried are those within the limit, in their order, and what the first answer among them says. For TH6 (StartSearches),
+-- FirstByMove and NoShorterPlans; `collect-append` for unit too. Assumes nothing.
 use mathlib.Core.Path.{_≡_, refl, sym, ap, subst, _∙_}
 use mathlib.Core.List.{List, [], _∷_, _++_, map, append-assoc, append-nil}
 use mathlib.Core.Logic.{_⊎_, inl, inr, _↔_}

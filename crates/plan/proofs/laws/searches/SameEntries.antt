@@ -6,8 +6,8 @@ use native.Mathlib.Omega.{arith}
 use lib.ListN.{getD}
 use lib.Seq.{ext-getD}
 use Rattle.sheet.specs.Lists.{pad}
-use Rattle.table.specs.Entries.{pairs, entriesOf}
 use Rattle.sheet.proofs.laws.base.Padding.{length-pad, getD-pad}
+use Rattle.table.specs.Entries.{pairs, entriesOf}
 
 abbrev pub Agree : List ℕ → List ℕ → ℕ → Type 0
 Agree xs ys n = (i : ℕ) → i < n → getD xs i 0 ≡ getD ys i 0

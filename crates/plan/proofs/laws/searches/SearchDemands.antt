@@ -1,5 +1,5 @@
--- The call search: the first run that is reached or full, or none, by the call run on the sheets that carry the plans, and by worlds; its
--- eight bytes. Assumes nothing.
+-- TH6: the call search gives the first run that is reached or full, or none, by the call run on the sheets that carry the plans, and by
+-- worlds; its eight bytes. For `search-finds` and `back` in proofs/Demands. Assumes nothing.
 use mathlib.Core.Path.{_≡_, refl, sym, ap, subst, _∙_}
 use mathlib.Core.Bool.{Bool, true, false, cond, true≢false}
 use mathlib.Core.List.{List, []}

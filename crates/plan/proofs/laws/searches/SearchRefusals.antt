@@ -1,5 +1,5 @@
--- TH4 for the call `search`: each number exactly on its own condition, in document 01's order, and what comes back beside it. No
--- hypothesis stands on the bytes or the limit. For `search_with` too. Assumes nothing.
+-- TH4 for the call `search`, whatever the bytes and the limit: each number exactly on its own condition, in document 01's order, and what
+-- comes back beside it. For `search` and `back` in proofs/Demands, and for `search_with`. Assumes nothing.
 use mathlib.Core.Path.{_≡_, refl, ap}
 use mathlib.Core.Bool.{Bool, true, false, cond}
 use mathlib.Core.List.{List}
@@ -12,26 +12,26 @@ use borrow.Author.Tests.{ltb-true, ltb-false, lt-ltb, le-ltb}
 use Rattle.sheet.specs.Lists.{pad}
 use Rattle.sheet.specs.Problem.{Problem, Statement}
 use Rattle.sheet.specs.Format.{Judgement, accepted, refused, sheetOf}
+use Rattle.sheet.specs.declared.Answer.the-variants.{Refused}
+use Rattle.sheet.specs.Faults.{Says}
 use Rattle.table.specs.Minimal.{Outcome}
 use Rattle.table.specs.Start.{startTable}
+use Rattle.table.specs.Calls.{startOf}
+use Rattle.table.proofs.Demands as tables
 use Rattle.plan.specs.declared.Kind.the-variants as kind
 use Rattle.plan.specs.Search.{Answer, found, fullAt, nothing}
 use Rattle.plan.specs.Calls.{refusedSearch, answered, searched, searchOf}
-use Rattle.sheet.specs.declared.Answer.the-variants.{Refused}
-use Rattle.sheet.specs.Faults.{Says}
-use Rattle.table.specs.Calls.{startOf}
-use Rattle.table.proofs.Demands as tables
 use Rattle.plan.specs.declared.SearchAnswer.{SearchAnswer}
 use Rattle.plan.proofs.laws.runs.StartOutcomes.{start-refused, refused-by-start}
 
--- what a search answers is no refusal
+-- ---- the search by the outcome of the start
+-- what it answers is no refusal
 not-answered : (a : Answer) (k q : ℕ) → answered a .kind ≡ kind.Refused k q → ⊥
 unfolding answered
 not-answered (found plan) k q e = let z : _≡_ {A = ℕ} 0 1 = cc in omega arith
 not-answered (fullAt plan place) k q e = let z : _≡_ {A = ℕ} 0 1 = cc in omega arith
 not-answered nothing k q e = let z : _≡_ {A = ℕ} 0 1 = cc in omega arith
 
--- the search by the outcome of the start
 module _ (p : Problem) (limit : ℕ) where
   searched-refused : (o : Outcome) (k q : ℕ) → (searched p limit o .kind ≡ kind.Refused k q) ↔ ((q ≡ 0) × (o ≡ Outcome.refused k))
   unfolding searched refusedSearch
@@ -43,6 +43,7 @@ module _ (p : Problem) (limit : ℕ) where
   searched-back (Outcome.refused j) k q e = (refl, refl)
   searched-back (Outcome.table t) k q e = absurd (not-answered _ k q e)
 
+-- ---- the numbers in their order
 -- a fault of the sheet comes first
 pub search-fault : (s : List ℕ) (limit k p : ℕ) → sheetOf s ≡ refused k p → searchOf (sheetOf s) limit ≡ refusedSearch k p
 unfolding searchOf

@@ -1,4 +1,5 @@
--- What each return of the search's inner functions says of the plans that are left. Assumes nothing.
+-- What each return of the search's functions says of the plans that are left. For `searches::try_move`, `try_plans`, `lengths` and `full`,
+-- and for TriedMoves. Assumes nothing.
 use mathlib.Core.Path.{_≡_, refl, sym, ap, ap₂, _∙_}
 use mathlib.Core.Bool.{Bool, true, false, true≢false}
 use mathlib.Core.List.{List, [], _∷_, _++_}

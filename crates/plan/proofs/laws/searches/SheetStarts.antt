@@ -14,28 +14,28 @@ use Rattle.sheet.specs.Problem.{Action, Problem}
 use Rattle.sheet.specs.Encoding.{ProperAction, ProperProblem}
 use Rattle.sheet.specs.inner.Decoded.{planIn, problemIn, statementIn, Filled}
 use Rattle.sheet.specs.inner.Packed.{itemAt, itemsAt, setsIn, countIn, actionFrom, actionOf, goalIn, movesIn}
+use Rattle.sheet.specs.declared.Sheet.{Sheet}
 use Rattle.sheet.proofs.laws.base.ListFacts.{all-map}
+use Rattle.sheet.proofs.laws.reader.PackedParts.{part-long, sets-long, effects-long, item-at, items-length}
+use Rattle.sheet.proofs.laws.reader.ReadSheets.{numbers-below}
 use Rattle.table.specs.declared.Table.{Table}
 use Rattle.table.specs.declared.TableAnswer.{TableAnswer}
 use Rattle.table.specs.Start.{startTable}
 use Rattle.table.specs.Entries.{entries, tableOf, lent}
 use Rattle.table.specs.Calls.{orGiven, actionAt}
+use Rattle.table.specs.declared.starts.Started.{Started}
+use Rattle.table.specs.declared.starts.Started.the-variants as started
+use Rattle.table.specs.inner.Starts.{startAnswer}
+use Rattle.table.specs.Minimal.{table}
+use Rattle.table.proofs.laws.steps.StepWorlds.{at-proper}
 use Rattle.plan.specs.Run.{actionsOf, runFrom}
 use Rattle.plan.specs.Search.{plansUpTo}
 use Rattle.plan.specs.Order.{PlanOf}
 use Rattle.plan.specs.Calls.{refusedSearch, answered, searchedFrom, searched, planned, plannedRows}
 use Rattle.plan.specs.inner.Course.{courseFrom, Ready, refusedCourse, plannedCourse}
 use Rattle.plan.specs.inner.Searches.{ranFrom, Searchable, Runnable, searchedBy}
-use Rattle.sheet.proofs.laws.reader.PackedParts.{part-long, sets-long, effects-long, item-at, items-length}
-use Rattle.table.proofs.laws.steps.StepWorlds.{at-proper}
 use Rattle.plan.proofs.laws.searches.PlanOrder.{out-plans}
 use Rattle.plan.proofs.laws.searches.FirstByMove.{same-first}
-use Rattle.sheet.specs.declared.Sheet.{Sheet}
-use Rattle.sheet.proofs.laws.reader.ReadSheets.{numbers-below}
-use Rattle.table.specs.declared.starts.Started.{Started}
-use Rattle.table.specs.declared.starts.Started.the-variants as started
-use Rattle.table.specs.inner.Starts.{startAnswer}
-use Rattle.table.specs.Minimal.{table}
 use Rattle.plan.proofs.laws.runs.ReadyTables.{stopped, ready-count, start-ready, started}
 
 map-below : (f g : ℕ → Action) (k : ℕ) → ((i : ℕ) → i < k → f i ≡ g i) → (q : List ℕ) → All (λ i. i < k) q → map f q ≡ map g q

@@ -1,5 +1,5 @@
 -- The search of a problem from its start table: the first plan that is reached or full; a full plan is full at its last move; what
--- failing means for the starting worlds. For SearchDemands (TH6). Assumes nothing.
+-- failing means for the starting worlds. For TH6 (SearchDemands). Assumes nothing.
 use mathlib.Core.Path.{_≡_, refl, sym, subst, _∙_}
 use mathlib.Core.List.{List}
 use mathlib.Core.Logic.{inl, _↔_}

@@ -1,4 +1,5 @@
--- The call `report`: the text of the run with the numbers of its rows is the output for the sheet. Assumes nothing.
+-- The text of the run with the numbers of its rows is the output for the sheet. For the call `report`; `report-within` for plan_cases and
+-- check_main. Assumes nothing.
 use mathlib.Core.Path.{_≡_, ap, _∙_}
 use mathlib.Core.Bool.{Bool, true, false, cond}
 use mathlib.Core.List.{List, _++_}

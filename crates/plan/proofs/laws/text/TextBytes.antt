@@ -1,4 +1,4 @@
--- Bytes written one after the other, decimal digits, and the text of rows. Assumes nothing.
+-- Bytes written one after the other, decimal digits, and the text of rows. For the functions of `text`. Assumes nothing.
 use mathlib.Core.Path.{_≡_, refl, sym, ap, ap₂, _∙_}
 use mathlib.Core.Bool.{Bool, true, false, cond}
 use mathlib.Core.List.{List, [], _∷_, _++_, append-assoc, append-nil}
@@ -20,13 +20,13 @@ use Rattle.plan.specs.inner.Writing.{Wrote}
 
 -- ---- bytes in a buffer
 -- nothing is written
-pub wrote-none : (b : List ℕ) (at : ℕ) → Wrote b at [] at b
+wrote-none : (b : List ℕ) (at : ℕ) → Wrote b at [] at b
 wrote-none b at =
     let e : at + 0 ≡ at = omega arith in
     record { place = omega arith; bytes = sym (ap (λ (k : ℕ). take at b ++ drop k b) e ∙ take-append-drop at b) }
 
 -- one byte
-pub wrote-byte : (b : List ℕ) (at x : ℕ) → at < length b → Wrote b at (x ∷ []) (at + 1) (set b at x)
+wrote-byte : (b : List ℕ) (at x : ℕ) → at < length b → Wrote b at (x ∷ []) (at + 1) (set b at x)
 wrote-byte b at x h =
     let e : suc at ≡ at + 1 = omega arith in
     record { place = omega arith; bytes = set-split b at x h ∙ ap (λ (k : ℕ). take at b ++ (x ∷ drop k b)) e }
@@ -84,12 +84,12 @@ enough (suc j) zero n h i = absurd (omega arith)
 enough (suc j) (suc k) n h i = same-higher n _ _ (ltb n 10) refl (λ g. enough j k (n / 10) (omega arith) (omega arith))
 
 -- the digit of a number below 10
-pub decimal-low : (n : ℕ) → n < 10 → decimal n ≡ (48 + n) ∷ []
+decimal-low : (n : ℕ) → n < 10 → decimal n ≡ (48 + n) ∷ []
 unfolding decimal
 decimal-low n h = rw (lt-ltb n 10 h, mod-eq-of-lt h)
 
 -- the digits of any other number
-pub decimal-high : (n : ℕ) → 10 ≤ n → decimal n ≡ decimal (n / 10) ++ ((48 + n % 10) ∷ [])
+decimal-high : (n : ℕ) → 10 ≤ n → decimal n ≡ decimal (n / 10) ++ ((48 + n % 10) ∷ [])
 unfolding decimal
 decimal-high n h = rw (le-ltb n 10 h)
     (ap (λ (x : List ℕ). x ++ ((48 + n % 10) ∷ [])) (enough n (suc (n / 10)) (n / 10) (omega arith) (omega arith)))
@@ -102,7 +102,7 @@ longer k n false e f =
     omega (arith, ap length (decimal-high n h), length-append (decimal (n / 10)) ((48 + n % 10) ∷ []), f h)
 
 -- a number below 10 ^ (k + 1) has at most k + 1 digits
-pub decimal-length : (k n : ℕ) → n < 10 ^ suc k → length (decimal n) ≤ suc k
+decimal-length : (k n : ℕ) → n < 10 ^ suc k → length (decimal n) ≤ suc k
 decimal-length zero n h = longer 0 n (ltb n 10) refl (λ g. absurd (omega arith))
 decimal-length (suc k) n h = longer (suc k) n (ltb n 10) refl (λ g. decimal-length k (n / 10) (omega (arith, pow-suc 10 (suc k))))
 
@@ -124,7 +124,7 @@ wrote-high b at n q m h i e f =
 
 -- ---- rows
 -- one row more
-pub rows-snoc : (rows : List Row) (r : Row) → rowsText (rows ++ (r ∷ [])) ≡ rowsText rows ++ rowText r
+rows-snoc : (rows : List Row) (r : Row) → rowsText (rows ++ (r ∷ [])) ≡ rowsText rows ++ rowText r
 unfolding rowsText
 rows-snoc [] r = append-nil (rowText r)
 rows-snoc (x ∷ rows) r = ap (λ (t : List ℕ). rowText x ++ t) (rows-snoc rows r) ∙ sym (append-assoc (rowText x) (rowsText rows) (rowText r))

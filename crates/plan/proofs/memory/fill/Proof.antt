@@ -22,17 +22,15 @@ loop-holds c =
 slice-write-slot-4 : tie.Need-slice-write-slot-4 Inv-loop μ-loop
 slice-write-slot-4 c =
     let at-loop = c .before .before .before in
-    let after-4 = at-loop .before in
     let g = at-loop .loop in
-    let s = after-4 in
+    let s = at-loop .before in
     omega (arith, length-set (g .slot) (2 + g .i) (getD (s .args .trues .now) (g .i) 0), g .inv .0 .long, s .pre .1 .most)
 
 loop-again : tie.Need-loop-again Inv-loop μ-loop
 loop-again c =
     let at-loop = c .before .before .before in
-    let after-4 = at-loop .before in
     let g = at-loop .loop in
-    let s = after-4 in (
+    let s = at-loop .before in (
       laid-next {slot = g .slot} {ts = s .args .trues .now} {fs = s .args .falses .now} {n = s .args .count} {mark = s .args .mark}
           {i = g .i} (g .inv .0) (omega (arith, s .pre .1 .most)),
       omega arith,

@@ -10,7 +10,7 @@ use Rattle.sheet.proofs.laws.base.Prefixes.{length-mapped}
 use Rattle.sheet.specs.inner.Packed.{goalIn, setsIn}
 use Rattle.table.specs.Entries.{entries as tableEntries, lent}
 use Rattle.plan.specs.inner.Course.{countsIn, courseFrom}
-use Rattle.plan.proofs.laws.searches.SearchMoves.{slots-room, move-fits}
+use Rattle.plan.proofs.laws.searches.ArrayMoves.{slots-room, move-fits}
 use Rattle.plan.proofs.laws.runs.RunLoop.{left, Going, going-start, going-room, going-end, number-below, going-on, going-halt}
 use Rattle.plan.proofs.laws.runs.RunLoop.{no-rows, going-note}
 use Rattle.plan.proofs.runs.run_from.Statement.{statement}

@@ -1,22 +1,20 @@
 -- The cycle {try_move, try_plans}: where `left` moves are left, `try_plans` has the measure 2 · left and `try_move` 2 · left - 1.
 -- The loop's invariant: no move below index has an answer, and what the memory says is so. Assumes nothing.
 use mathlib.Core.Path.{_≡_, refl, sym, _∙_}
-use Prim.Native.Nat.{_+_, _*_, _-_, _≤_}
+use Prim.Native.Nat.{_*_, _-_, _≤_, ℕ, _<_}
 use native.Mathlib.Omega.{arith}
 use borrow.Author.Needs.{needs}
 use denote.Ref.{now}
 use Rattle.sheet.specs.inner.Packed.{goalIn, movesIn, setsIn, actionOf}
 use Rattle.table.specs.Entries.{entriesOf, entries, lent}
 use Rattle.plan.specs.Search.{nothing}
-use Rattle.plan.specs.inner.Searches.{firstBy, NoShorterFrom, Searchable}
+use Rattle.plan.specs.inner.Searches.{firstBy, Searchable}
 use Rattle.plan.proofs.laws.searches.FirstByMove.{firstBelow}
 use Rattle.plan.proofs.laws.searches.SearchReturns.{no-answer, at-goal, at-short, not-yet, found-now, none-at-all}
-use Rattle.plan.proofs.laws.searches.SearchMoves.{trues-long, falses-long, slots-room, storable, move-fits, ready-after, quiet-next}
-use Rattle.plan.proofs.laws.searches.SearchMoves.{begun-same, begun-ended, begun-not, begun-full, begun-stopped}
+use Rattle.plan.proofs.laws.searches.ArrayMoves.{trues-long, falses-long, slots-room, storable, move-fits}
 use Rattle.plan.specs.inner.Memory.{Remembers}
 use Rattle.plan.proofs.laws.searches.MemorySlots.{skip, entered, tried}
 use lib.ListN.{length}
-use Prim.Native.Nat.{ℕ, _<_}
 use borrow.Fn.Kinds.{In}
 use borrow.Fn.PlainCycle.{Measures, is, falls, and}
 use Rattle.plan.proofs.searches.try_move.Reads as try-move
@@ -35,6 +33,8 @@ use Rattle.plan.proofs.searches.none.Reads as none-reads
 use Rattle.plan.proofs.searches.same.Reads as same-reads
 use Rattle.plan.proofs.searches.+try_move+try_plans.{statement}
 use Rattle.plan.proofs.searches.+try_move+try_plans.Tie.{close}
+use Rattle.plan.proofs.laws.searches.TriedMoves.{can-after, none-after, tried-same, tried-ended, tried-not, tried-full}
+use Rattle.plan.proofs.laws.searches.TriedMoves.{tried-stopped}
 
 abbrev μ-try-move : Measures 3 try-move-kinds.ps ℕ
 μ-try-move κs a = 2 * a .1 .0 .left - 1
@@ -120,19 +120,11 @@ Tried t = try-move-lts.After-try-plans (try-move-claims t) (try-move-at t) try-m
 abbrev tried-moved : {t : ℕ} → Tried t → Moved t
 tried-moved c = moved (c .before .before .before .before .before)
 
--- no plan with fewer moves than are left, this one among them, has an answer
-none-shorter : {t : ℕ} (c : Entry t) → let a = c .args in
-    NoShorterFrom (a .packed .now) (a .depth .moves) (a .depth .at) (entries (lent (a .count) (a .trues .now) (a .falses .now)))
-    (a .depth .left - 1 + 1)
-none-shorter c p i l = c .pre .1 .underway .no-shorter p i (omega (arith, l, c .pre .1 .some-left))
-
 -- the search can go on from the table that the step gave
-can-after : {t : ℕ} (c : Moved t) → let a = entry (step c) .args in
+can-go-on : {t : ℕ} (c : Moved t) → let a = entry (step c) .args in
     let arrays = step c .step-at .last .1 .1 .1 .1 .1 in
     Searchable (a .packed .now) (a .depth .moves) (lent (c .stepped .given .0 .0) (arrays .0) (arrays .1 .0))
-can-after c =
-    let h = entry (step c) .pre .1 in
-    ready-after (h .underway .can) (h .below) _ _ _ (step c .step-at .ensures) (c .stepped .given .1)
+can-go-on c = can-after (entry (step c) .pre .1) _ _ _ (step c .step-at .ensures) (c .stepped .given .1)
 
 try-move-step-at-requires : (t : ℕ) → try-move-lts.Need-step-at-requires (try-move-claims t) (try-move-at t) try-move.Post
 try-move-step-at-requires t c κs =
@@ -147,27 +139,25 @@ try-move-enum-known-stepped : (t : ℕ) → try-move-lts.Need-enum-known-stepped
 try-move-enum-known-stepped t c = search needs
 
 try-move-slice-aggregate-same : (t : ℕ) → try-move-lts.Need-slice-aggregate-same (try-move-claims t) (try-move-at t) try-move.Post
-try-move-slice-aggregate-same t c = sym (trues-long (can-after (c .before .before)))
+try-move-slice-aggregate-same t c = sym (trues-long (can-go-on (c .before .before)))
 
 try-move-slice-aggregate-same-2 : (t : ℕ) → try-move-lts.Need-slice-aggregate-same-2 (try-move-claims t) (try-move-at t) try-move.Post
-try-move-slice-aggregate-same-2 t c = sym (falses-long (can-after (c .before .before .before)))
+try-move-slice-aggregate-same-2 t c = sym (falses-long (can-go-on (c .before .before .before)))
 
 try-move-same-requires : (t : ℕ) → try-move-lts.Need-same-requires (try-move-claims t) (try-move-at t) try-move.Post
 try-move-same-requires t c κs =
     let m = c .before .before .before in
-    (slots-room (can-after m), slots-room (entry (step m) .pre .1 .underway .can))
+    (slots-room (can-go-on m), slots-room (entry (step m) .pre .1 .underway .can))
 
 try-move-none-requires : (t : ℕ) → try-move-lts.Need-none-requires (try-move-claims t) (try-move-at t) try-move.Post
 try-move-none-requires t c κs = search needs
 
 try-move-returns : (t : ℕ) → try-move-lts.Need-returns (try-move-claims t) (try-move-at t) try-move.Post
 try-move-returns t c =
-    let m = moved (c .before .before) in
-    let s = entry (step m) in
-    let d = s .args .depth in
-    let h = s .pre .1 in (
-      begun-same (h .underway .can) (h .below) _ _ _ (step m .step-at .ensures) (m .stepped .given .1) (d .at) (d .left - 1)
-          (none-shorter s) (c .before .before .same .ensures (c .before .if1 .taken)) (c .none .ensures),
+    let same = c .before .before in
+    let m = moved same in
+    let h = entry (step m) .pre .1 in (
+      tried-same h _ _ _ (step m .step-at .ensures) (m .stepped .given .1) (same .same .ensures (c .before .if1 .taken)) (c .none .ensures),
       h .underway .remembers,
     )
 
@@ -177,24 +167,21 @@ try-move-add-t25 t c =
     omega (arith, h .underway .most, h .some-left)
 
 try-move-slice-aggregate-try-plans : (t : ℕ) → try-move-lts.Need-slice-aggregate-try-plans (try-move-claims t) (try-move-at t) try-move.Post
-try-move-slice-aggregate-try-plans t c = sym (trues-long (can-after (moved (c .before .before))))
+try-move-slice-aggregate-try-plans t c = sym (trues-long (can-go-on (moved (c .before .before))))
 
 try-move-slice-aggregate-try-plans-2 : (t : ℕ) → try-move-lts.Need-slice-aggregate-try-plans-2 (try-move-claims t) (try-move-at t)
     try-move.Post
-try-move-slice-aggregate-try-plans-2 t c = sym (falses-long (can-after (moved (c .before .before .before))))
+try-move-slice-aggregate-try-plans-2 t c = sym (falses-long (can-go-on (moved (c .before .before .before))))
 
 try-move-try-plans-requires : (t : ℕ) → try-move-lts.Need-try-plans-requires (try-move-claims t) (try-move-at t) try-move.Post
 try-move-try-plans-requires t c κs =
     let m = moved (c .before .before .before .before) in
-    let s = entry (step m) in
-    let d = s .args .depth in
-    let h = s .pre .1 in (
+    let h = entry (step m) .pre .1 in (
       omega (arith, h .some-left),
       record {
-        can = can-after m;
+        can = can-go-on m;
         most = omega (arith, h .underway .most, h .some-left);
-        no-shorter = quiet-next (h .underway .can) (h .below) _ _ _ (step m .step-at .ensures) (m .stepped .given .1) (d .at)
-            (d .left - 1) (none-shorter s);
+        no-shorter = none-after h _ _ _ (step m .step-at .ensures) (m .stepped .given .1);
         remembers = h .underway .remembers;
       },
     )
@@ -223,11 +210,8 @@ try-move-full-requires t c κs =
 try-move-returns-2 : (t : ℕ) → try-move-lts.Need-returns-2 (try-move-claims t) (try-move-at t) try-move.Post
 try-move-returns-2 t c =
     let m = c .before .before .before in
-    let s = entry (halted-step m) in
-    let d = s .args .depth in
-    let h = s .pre .1 in (
-      begun-full (h .underway .can) (h .below) _ _ _ (halted-step m .step-at .ensures) (m .stepped2 .given .1) (d .at) (d .left - 1)
-          (c .before .if3 .taken) (c .full .ensures),
+    let h = entry (halted-step m) .pre .1 in (
+      tried-full h _ _ _ (halted-step m .step-at .ensures) (m .stepped2 .given .1) (c .before .if3 .taken) (c .full .ensures),
       h .underway .remembers,
     )
 
@@ -240,12 +224,9 @@ try-move-same-length t c = search needs
 try-move-returns-3 : (t : ℕ) → try-move-lts.Need-returns-3 (try-move-claims t) (try-move-at t) try-move.Post
 try-move-returns-3 t c =
     let r = c .before .before .before .before in
-    let m = tried-moved r in
-    let s = entry (step m) in
-    let d = s .args .depth in
-    let h = s .pre .1 in (
-      begun-ended (h .underway .can) (h .below) _ _ _ (step m .step-at .ensures) (m .stepped .given .1) (d .at) (d .left - 1)
-          (r .try-plans .ensures .0) (sym (c .before .is-end .ensures) ∙ c .if2 .taken),
+    let m = tried-moved r in (
+      tried-ended (entry (step m) .pre .1) _ _ _ (step m .step-at .ensures) (m .stepped .given .1) (r .try-plans .ensures .0)
+          (sym (c .before .is-end .ensures) ∙ c .if2 .taken),
       r .try-plans .ensures .1,
     )
 
@@ -255,23 +236,17 @@ try-move-same-length-2 t c = search needs
 try-move-returns-4 : (t : ℕ) → try-move-lts.Need-returns-4 (try-move-claims t) (try-move-at t) try-move.Post
 try-move-returns-4 t c =
     let r = c .before .before .before .before in
-    let m = tried-moved r in
-    let s = entry (step m) in
-    let d = s .args .depth in
-    let h = s .pre .1 in (
-      begun-not (h .underway .can) (h .below) _ _ _ (step m .step-at .ensures) (m .stepped .given .1) (d .at) (d .left - 1)
-          (r .try-plans .ensures .0) (sym (c .before .is-end .ensures) ∙ c .if2 .left),
+    let m = tried-moved r in (
+      tried-not (entry (step m) .pre .1) _ _ _ (step m .step-at .ensures) (m .stepped .given .1) (r .try-plans .ensures .0)
+          (sym (c .before .is-end .ensures) ∙ c .if2 .left),
       r .try-plans .ensures .1,
     )
 
 try-move-returns-5 : (t : ℕ) → try-move-lts.Need-returns-5 (try-move-claims t) (try-move-at t) try-move.Post
 try-move-returns-5 t c =
     let m = c .before .before .before in
-    let s = entry (halted-step m) in
-    let d = s .args .depth in
-    let h = s .pre .1 in (
-      begun-stopped (h .underway .can) (h .below) _ _ _ (halted-step m .step-at .ensures) (m .stepped2 .given .1) (d .at) (d .left - 1)
-          (c .before .if3 .left) (c .none2 .ensures),
+    let h = entry (halted-step m) .pre .1 in (
+      tried-stopped h _ _ _ (halted-step m .step-at .ensures) (m .stepped2 .given .1) (c .before .if3 .left) (c .none2 .ensures),
       h .underway .remembers,
     )
 

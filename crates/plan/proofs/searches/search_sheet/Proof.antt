@@ -4,7 +4,7 @@ use borrow.Author.Needs.{needs}
 use Rattle.table.specs.Entries.{lent}
 use Rattle.plan.specs.inner.Searches.{Searchable}
 use Rattle.plan.proofs.laws.searches.SheetStarts.{can-search, search-is, search-stops}
-use Rattle.plan.proofs.laws.searches.SearchMoves.{trues-long, falses-long}
+use Rattle.plan.proofs.laws.searches.ArrayMoves.{trues-long, falses-long}
 use Rattle.plan.proofs.searches.search_sheet.Statement.{statement}
 use Rattle.plan.proofs.searches.search_sheet.Tie as tie
 

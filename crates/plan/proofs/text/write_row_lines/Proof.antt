@@ -28,10 +28,8 @@ loop-again : tie.Need-loop-again Inv-loop μ-loop
 loop-again c =
     let after-write-row-line = c .before .before in
     let after-row-at = after-write-row-line .before .before in
-    let after-6 = after-row-at .before .before in
-    let start = after-6 .before .before in
-    let o = after-6 in
-    let a = start .args in
+    let o = after-row-at .before .before in
+    let a = o .before .before .args in
     let w = after-write-row-line .write-row-line in
     let rows = countsIn (a .rows) (a .entries .now) (a .clauses .now) in (
       omega arith,

@@ -17,12 +17,10 @@ returns-2 : tie.Need-returns-2
 returns-2 c =
     let after-write-verdict2 = c .before .before in
     let after-write-row-lines = after-write-verdict2 .before .before .before .before in
-    let after-10 = after-write-row-lines .before .before .before .before in
-    let after-if1 = after-10 .before .before .before in
+    let b = after-write-row-lines .before .before .before .before in
+    let after-if1 = b .before .before .before in
     let after-is-refused = after-if1 .before in
-    let start = after-is-refused .before .before in
-    let b = after-10 in
-    let p = start .pre in
+    let p = after-is-refused .before .before .pre in
     whole-text _ _ (sym (after-is-refused .is-refused .ensures) ∙ after-if1 .if1 .left)
     (wrote-then (b .write-bytes .ensures) (omega (arith, p .1)) (after-write-row-lines .write-row-lines .ensures .0))
     (omega (arith, p .0, p .1)) (after-write-verdict2 .write-verdict2 .ensures)

@@ -17,8 +17,7 @@ copy-masks-requires c κs =
 copy-masks-requires-2 : tie.Need-copy-masks-requires-2
 copy-masks-requires-2 c κs =
     let after-copy-masks = c .before .before .before .before in
-    let after-8 = after-copy-masks .before .before .before .before in
-    let z = after-8 in
+    let z = after-copy-masks .before .before .before .before in
     let k : length (z .args .falses .now) ≡ 128 = search needs in
     let l : length (set (z .args .numbers .now) 0 (z .args .count))
     ≡ length (z .args .numbers .now) = length-set (z .args .numbers .now) 0 (z .args .count) in
@@ -36,8 +35,7 @@ returns : tie.Need-returns
 returns c =
     let after-copy-masks2 = c .before .before in
     let after-copy-masks = after-copy-masks2 .before .before .before .before .before in
-    let after-11 = after-copy-masks .before .before .before .before in
-    let z = after-11 in
+    let z = after-copy-masks .before .before .before .before in
     let k : length (z .args .trues .now) ≡ 128 = search needs in
     let l : length (z .args .falses .now) ≡ 128 = search needs in
     table-stores (lent (z .args .count) (z .args .trues .now) (z .args .falses .now)) _ _ _ (z .pre .0) k l

@@ -13,8 +13,7 @@ returns : tie.Need-returns
 returns c =
     let after-write-info = c .before .before in
     let after-copy-bytes = after-write-info .before .before .before .before in
-    let after-11 = after-copy-bytes .before .before .before .before .before in
-    let k = after-11 in
+    let k = after-copy-bytes .before .before .before .before .before in
     let a = k .before .before .before .args in
     let told = k .kind-reply .ensures in
     let n : length (a .t3 .plan) ≡ 8 = search needs in (

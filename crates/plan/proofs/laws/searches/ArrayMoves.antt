@@ -1,33 +1,28 @@
--- One move of the search on tables in their slots: the step that it takes, and what is left after it. Assumes nothing.
+-- One move from a table held in arrays: it can be taken, and the table or the number that its step gave. For `runs::run_from`, RunLoop,
+-- `searches::try_move` and TriedMoves. Assumes nothing.
 use mathlib.Core.Path.{_≡_, refl, sym, ap, subst, _∙_}
-use mathlib.Core.Bool.{true, false}
-use mathlib.Core.List.{List, _∷_}
-use Prim.Native.Nat.{ℕ, _+_, _<_}
+use mathlib.Core.List.{List}
+use Prim.Native.Nat.{ℕ, _<_}
 use native.Mathlib.Omega.{arith}
-use lib.ListN.{length, replicate}
+use lib.ListN.{length}
 use Rattle.sheet.specs.declared.Literals.{Literals}
-use Rattle.sheet.specs.inner.Packed.{setsIn, goalIn, movesIn, actionOf}
+use Rattle.sheet.specs.inner.Packed.{movesIn, actionOf}
+use Rattle.sheet.proofs.laws.base.Padding.{length-pad}
 use Rattle.table.specs.declared.Table.{Table}
 use Rattle.table.specs.Minimal.{Outcome, refused, table, Described}
 use Rattle.table.specs.Step.{stepTable}
 use Rattle.table.specs.Entries.{entriesOf, entries, tableOf, lent}
 use Rattle.table.specs.inner.Slots.{Room}
 use Rattle.table.specs.Calls.{orGiven}
-use Rattle.table.proofs.Demands.{step-table}
-use Rattle.sheet.proofs.laws.base.Padding.{length-pad}
-use Rattle.plan.specs.declared.SearchAnswer.{SearchAnswer}
 use Rattle.table.specs.declared.steps.Stepped.{Stepped}
 use Rattle.table.specs.declared.steps.Stepped.the-variants as moved
 use Rattle.table.specs.inner.Steps.{MoveFits, stepAnswer}
-use Rattle.plan.specs.Search.{fullAt, nothing}
-use Rattle.plan.specs.Calls.{answered}
-use Rattle.plan.specs.inner.Searches.{answeredAt, isEnd, NoShorterFrom, Searchable, plansTried, moveTried}
+use Rattle.table.proofs.Demands.{step-table}
+use Rattle.table.proofs.laws.answers.CallTables.{entries-table}
+use Rattle.plan.specs.inner.Searches.{Searchable}
 use Rattle.plan.specs.inner.Memory.{Storable}
 use Rattle.plan.specs.inner.Course.{Ready}
-use Rattle.table.proofs.laws.answers.CallTables.{entries-table}
 use Rattle.plan.proofs.laws.runs.ReadyTables.{stepped, stopped, ready-table, ready-count}
-use Rattle.plan.proofs.laws.searches.NoShorterPlans.{quiet-after, unchanged}
-use Rattle.plan.proofs.laws.searches.SearchReturns.{written, onward-ended, onward-not, at-stop, at-full}
 
 -- the slots of the table, and that they hold the entries
 module _ {packed : List ℕ} {k : ℕ} {n : ℕ} {ts fs : List ℕ} (h : Searchable packed k (lent n ts fs)) where
@@ -103,35 +98,8 @@ module _ {packed : List ℕ} {k : ℕ} {n : ℕ} {ts fs : List ℕ} (h : Searcha
         ready = r;
       }
 
-      module _ (at left : ℕ) where
-        module _ (q : NoShorterFrom packed k at (entries t) (left + 1)) where
-          pub quiet-next : NoShorterFrom packed k (at + 1) (entries u) left
-          quiet-next = quiet-after (setsIn (goalIn packed)) (actionOf (movesIn packed)) k at (entries t) m left (entries u) came q lt
-
-          pub begun-same : entriesOf j us gs ≡ entriesOf n ts fs → {a : SearchAnswer} → a ≡ answered nothing
-              → a ≡ moveTried packed k t at left m
-          unfolding answeredAt entries
-          begun-same z {a} w = w ∙ sym
-              (ap (answeredAt at) (unchanged (setsIn (goalIn packed)) (actionOf (movesIn packed)) k at (entries t) m left (entries u) came
-              q z))
-
-        module _ {a : SearchAnswer} (w : a ≡ plansTried packed k u (at + 1) left) where
-          pub begun-ended : isEnd (a .kind) ≡ true → written a at m ≡ moveTried packed k t at left m
-          begun-ended b = onward-ended (setsIn (goalIn packed)) (actionOf (movesIn packed)) k at (entries t) left m (entries u) a came w b
-
-          pub begun-not : isEnd (a .kind) ≡ false → a ≡ moveTried packed k t at left m
-          begun-not b = onward-not (setsIn (goalIn packed)) (actionOf (movesIn packed)) k at (entries t) left m (entries u) a came w b
-
     -- ---- the step was refused
-    module _ {code position : ℕ} (e : r ≡ moved.Refused code position) (at left : ℕ) where
+    module _ {code position : ℕ} (e : r ≡ moved.Refused code position) where
       pub refused-by : outcome ≡ refused code
       refused-by = stopped t outcome (stepAnswer t (moved.Refused code position) us gs) code position
           (step-is (moved.Refused code position) e) refl
-
-      pub begun-full : code ≡ 21 → {a : SearchAnswer} → a ≡ answeredAt at (fullAt (m ∷ replicate left 0) (at + 1))
-          → a ≡ moveTried packed k t at left m
-      begun-full z {a} w = at-full (setsIn (goalIn packed)) (actionOf (movesIn packed)) k at (entries t) left m a (h .least)
-          (refused-by ∙ ap refused z) w
-
-      pub begun-stopped : (code ≡ 21 → ⊥) → {a : SearchAnswer} → a ≡ answered nothing → a ≡ moveTried packed k t at left m
-      begun-stopped z {a} w = at-stop (setsIn (goalIn packed)) (actionOf (movesIn packed)) k at (entries t) left m code a refused-by z w
