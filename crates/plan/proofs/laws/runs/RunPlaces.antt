@@ -3,7 +3,7 @@
 use mathlib.Core.Path.{_≡_, refl, sym, ap, subst, _∙_}
 use mathlib.Core.Bool.{Bool, true, false, cond}
 use mathlib.Core.List.{List, [], _∷_, _++_, map}
-use mathlib.Core.Logic.{_⊎_, inl, inr, _↔_}
+use mathlib.Core.Logic.{_⊎_, _↔_}
 use mathlib.Core.Option.{Option, none, some, Option·some-injective, Option·none-ne-some}
 use Prim.Native.Nat.{ℕ, zero, suc, _+_, _-_, _*_, _≤_, _<_}
 use native.Mathlib.Omega.{arith}
@@ -51,8 +51,8 @@ use Rattle.plan.proofs.laws.runs.StartRuns.{taken-by, place-arrives, by
 use Rattle.plan.proofs.laws.runs.PlanWorlds.{all-take}
 use Rattle.plan.proofs.laws.runs.CallRuns.{run-call, rows-call}
 use Rattle.plan.proofs.laws.runs.RunRefusals.{run-fault-rows, run-number, run-rows-kept, rows-enough, run-starts}
-use Rattle.plan.proofs.laws.runs.CallVerdicts.{verdict-injective, refused-is}
-use Rattle.plan.proofs.laws.runs.StartOutcomes.{Outcomes, outcomes}
+use Rattle.plan.proofs.laws.runs.CallVerdicts.{verdict-injective, refused-is, not-refused}
+use Rattle.plan.proofs.laws.runs.StartOutcomes.{by-outcome}
 
 -- ---- the table at place i of a plan is that of its first i moves
 at-take : (i : ℕ) (plan : List Action) (t : List Literals) → tableAt 128 i (take i plan) t ≡ tableAt 128 i plan t
@@ -428,57 +428,38 @@ module _ (s : List ℕ) (x : Statement) (says : Says s x) where
     no-step : {X : Type 0} (k M : ℕ) → StepRefused s (x .plan) k M → X
     no-step k M r = absurd (Option·none-ne-some (r .last) (sym (nowhere (take (r .before) (x .plan))) ∙ r .arrives))
 
-    no-verdict : (rows : ℕ) → 65 ≤ rows → runOf (sheetOf s) rows .verdict ≡ ran.Refused N 0
-    no-verdict rows h = run-number s x says rows h N 0 .1 (refl, starts)
+    no-end : (u : Table) → arrived s (x .plan) ≡ some u → ⊥
+    no-end u e = Option·none-ne-some u (sym (nowhere (x .plan)) ∙ e)
+
+  no-verdict : (rows : ℕ) → 65 ≤ rows → (v : Verdict) (N : ℕ) → startTable 128 (x .problem) ≡ Outcome.refused N
+      → runOf (sheetOf s) rows .verdict ≡ verdictOf v → ⊥
+  no-verdict rows h v N starts e = not-refused v N 0 (sym e ∙ run-number s x says rows h N 0 .1 (refl, starts))
 
   -- ---- both together
   pub run-stopped-at : (rows : ℕ) → 65 ≤ rows → (k N : ℕ) → (runOf (sheetOf s) rows .verdict ≡ ran.Stopped k N)
       ↔ (StepRefused s (x .plan) k N × ((N ≡ 24) ⊎ (N ≡ 25)))
-  run-stopped-at rows h k N = go (outcomes (x .problem))
-    where
-      go : Outcomes (x .problem) → (runOf (sheetOf s) rows .verdict ≡ ran.Stopped k N)
-          ↔ (StepRefused s (x .plan) k N × ((N ≡ 24) ⊎ (N ≡ 25)))
-      go (inl r) = (
-        λ e. absurd (let z : _≡_ {A = ℕ} 0 1 = cc (no-verdict (r .0) (r .1) rows h, e) in omega arith),
-        λ e. no-step (r .0) (r .1) k N (e .0),
-      )
-      go (inr r) = stopped-is (r .0) (r .1) rows h k N
+  unfolding verdictOf
+  run-stopped-at rows h k N =
+      by-outcome (x .problem) (no-verdict rows h (stopped k N)) (λ M e a. no-step M e k N (a .0)) (λ t e. stopped-is t e rows h k N)
 
   pub run-full-at : (rows : ℕ) → 65 ≤ rows → (k : ℕ) → (runOf (sheetOf s) rows .verdict ≡ ran.Full k) ↔ StepRefused s (x .plan) k 21
-  run-full-at rows h k = go (outcomes (x .problem))
-    where
-      go : Outcomes (x .problem) → (runOf (sheetOf s) rows .verdict ≡ ran.Full k) ↔ StepRefused s (x .plan) k 21
-      go (inl r) = (
-        λ e. absurd (let z : _≡_ {A = ℕ} 0 1 = cc (no-verdict (r .0) (r .1) rows h, e) in omega arith),
-        λ e. no-step (r .0) (r .1) k 21 e,
-      )
-      go (inr r) = full-is (r .0) (r .1) rows h k
+  unfolding verdictOf
+  run-full-at rows h k =
+      by-outcome (x .problem) (no-verdict rows h (full k)) (λ M e a. no-step M e k 21 a) (λ t e. full-is t e rows h k)
 
   pub run-reached-at : (rows : ℕ) → 65 ≤ rows
       → (runOf (sheetOf s) rows .verdict ≡ ran.Reached)
       ↔ ((u : Table) × (arrived s (x .plan) ≡ some u) × ((w : ℕ) → WorldOf x u w → InGoal (p .n) (p .goal) w))
-  run-reached-at rows h = go (outcomes (x .problem))
-    where
-      go : Outcomes (x .problem) → (runOf (sheetOf s) rows .verdict ≡ ran.Reached)
-          ↔ ((u : Table) × (arrived s (x .plan) ≡ some u) × ((w : ℕ) → WorldOf x u w → InGoal (p .n) (p .goal) w))
-      go (inl r) = (
-        λ e. absurd (let z : _≡_ {A = ℕ} 0 1 = cc (no-verdict (r .0) (r .1) rows h, e) in omega arith),
-        λ e. absurd (Option·none-ne-some (e .0) (sym (nowhere (r .0) (r .1) (x .plan)) ∙ e .1)),
-      )
-      go (inr r) = reached-is (r .0) (r .1) rows h
+  unfolding verdictOf
+  run-reached-at rows h =
+      by-outcome (x .problem) (no-verdict rows h reached) (λ M e a. no-end M e (a .0) (a .1)) (λ t e. reached-is t e rows h)
 
   pub run-short-at : (rows : ℕ) → 65 ≤ rows
       → (runOf (sheetOf s) rows .verdict ≡ ran.Short)
       ↔ ((u : Table) × (arrived s (x .plan) ≡ some u) × ((w : ℕ) × WorldOf x u w × (InGoal (p .n) (p .goal) w → ⊥)))
-  run-short-at rows h = go (outcomes (x .problem))
-    where
-      go : Outcomes (x .problem) → (runOf (sheetOf s) rows .verdict ≡ ran.Short)
-          ↔ ((u : Table) × (arrived s (x .plan) ≡ some u) × ((w : ℕ) × WorldOf x u w × (InGoal (p .n) (p .goal) w → ⊥)))
-      go (inl r) = (
-        λ e. absurd (let z : _≡_ {A = ℕ} 0 1 = cc (no-verdict (r .0) (r .1) rows h, e) in omega arith),
-        λ e. absurd (Option·none-ne-some (e .0) (sym (nowhere (r .0) (r .1) (x .plan)) ∙ e .1)),
-      )
-      go (inr r) = short-is (r .0) (r .1) rows h
+  unfolding verdictOf
+  run-short-at rows h =
+      by-outcome (x .problem) (no-verdict rows h short) (λ M e a. no-end M e (a .0) (a .1)) (λ t e. short-is t e rows h)
 
   pub run-last : (rows : ℕ) → runRefused (runOf (sheetOf s) rows) ≡ false
       → arrived s (taken s x rows) ≡ some (runOf (sheetOf s) rows .table)

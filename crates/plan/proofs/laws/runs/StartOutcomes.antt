@@ -29,6 +29,17 @@ outcomes p = go (start-kind 128 p)
     go (inr (inl e)) = inl (21, e)
     go (inr (inr e)) = inr e
 
+-- so two things are one where neither is without a table, and they are one from any
+pub by-outcome : (p : Problem) {A B : Type 0} → ((N : ℕ) → startTable 128 p ≡ Outcome.refused N → A → ⊥)
+    → ((N : ℕ) → startTable 128 p ≡ Outcome.refused N → B → ⊥)
+    → ((t : List Literals) → startTable 128 p ≡ Outcome.table t → A ↔ B)
+    → A ↔ B
+by-outcome p {A} {B} no-a no-b one = go (outcomes p)
+  where
+    go : Outcomes p → A ↔ B
+    go (inl r) = (λ a. absurd (no-a (r .0) (r .1) a), λ b. absurd (no-b (r .0) (r .1) b))
+    go (inr r) = one (r .0) (r .1)
+
 -- ---- told apart
 pub apart : {k : ℕ} {t : List Literals} → Outcome.refused k ≡ Outcome.table t → ⊥
 apart e = let z : _≡_ {A = ℕ} 0 1 = cc in omega arith

@@ -41,7 +41,7 @@ use Rattle.plan.proofs.laws.runs.StartRuns.{verdict-is}
 use Rattle.plan.proofs.laws.runs.CallVerdicts.{not-full, verdict-injective}
 use Rattle.plan.proofs.laws.searches.SearchRefusals.{search-fault, search-within, search-8}
 use Rattle.plan.proofs.laws.searches.StartSearches as searches
-use Rattle.plan.proofs.laws.runs.StartOutcomes.{Outcomes, outcomes}
+use Rattle.plan.proofs.laws.runs.StartOutcomes.{Outcomes, outcomes, by-outcome}
 use Rattle.plan.proofs.laws.searches.CarriedPlans.{with-table, with-refused}
 
 -- ---- verdicts that the search passes over
@@ -287,57 +287,46 @@ module _ (s : List ℕ) (x : Statement) (says : Says s x) (limit : ℕ) (le : li
 
   pub search-reached : (q : List ℕ) → ((searchOf (sheetOf s) limit .kind ≡ kind.Reached) × (planFound (searchOf (sheetOf s) limit) ≡ q))
       ↔ FirstRun (x .problem) limit q ran.Reached
-  search-reached q = go (outcomes (x .problem))
-    where
-      go : Outcomes (x .problem) → ((searchOf (sheetOf s) limit .kind ≡ kind.Reached) × (planFound (searchOf (sheetOf s) limit) ≡ q))
-          ↔ FirstRun (x .problem) limit q ran.Reached
-      go (inl r) = (
-        λ h. absurd (let z : _≡_ {A = ℕ} 0 1 = cc (call-refused (r .0) (r .1), h .0) in omega arith),
-        λ f. absurd (let z : _≡_ {A = ℕ} 0 1 = cc (run-refused (r .0) (r .1) q (f .plan), f .gives) in omega arith),
-      )
-      go (inr r) = by-reached (r .0) (r .1) q
+  search-reached q = by-outcome (x .problem)
+      (λ N e h. let z : _≡_ {A = ℕ} 0 1 = cc (call-refused N e, h .0) in omega arith)
+      (λ N e f. let z : _≡_ {A = ℕ} 0 1 = cc (run-refused N e q (f .plan), f .gives) in omega arith)
+      (λ t e. by-reached t e q)
 
   pub search-full : (q : List ℕ) (k : ℕ)
       → ((searchOf (sheetOf s) limit .kind ≡ kind.Full k) × (planFound (searchOf (sheetOf s) limit) ≡ q))
       ↔ FirstRun (x .problem) limit q (ran.Full k)
-  search-full q k = go (outcomes (x .problem))
-    where
-      go : Outcomes (x .problem) → ((searchOf (sheetOf s) limit .kind ≡ kind.Full k) × (planFound (searchOf (sheetOf s) limit) ≡ q))
-          ↔ FirstRun (x .problem) limit q (ran.Full k)
-      go (inl r) = (
-        λ h. absurd (let z : _≡_ {A = ℕ} 0 1 = cc (call-refused (r .0) (r .1), h .0) in omega arith),
-        λ f. absurd (let z : _≡_ {A = ℕ} 0 1 = cc (run-refused (r .0) (r .1) q (f .plan), f .gives) in omega arith),
-      )
-      go (inr r) = by-full (r .0) (r .1) q k
+  search-full q k = by-outcome (x .problem)
+      (λ N e h. let z : _≡_ {A = ℕ} 0 1 = cc (call-refused N e, h .0) in omega arith)
+      (λ N e f. let z : _≡_ {A = ℕ} 0 1 = cc (run-refused N e q (f .plan), f .gives) in omega arith)
+      (λ t e. by-full t e q k)
 
   pub search-none : (searchOf (sheetOf s) limit .kind ≡ kind.Nothing)
       ↔ ((q : List ℕ) → PlanOf moves limit q → Misses (runWith (x .problem) q .verdict))
-  search-none = go (outcomes (x .problem))
+  search-none = by-outcome (x .problem)
+      (λ N e h. let z : _≡_ {A = ℕ} 0 1 = cc (call-refused N e, h) in omega arith)
+      (λ N e f. subst Misses (run-refused N e [] empty) (f [] empty))
+      by-nothing
+
+  -- a search that is not refused had a start table
+  had-start : ((N : ℕ) → searchOf (sheetOf s) limit .kind ≡ kind.Refused N 0 → ⊥)
+      → (t : List Literals) × (startTable 128 (x .problem) ≡ Outcome.table t)
+  had-start f = go (outcomes (x .problem))
     where
-      go : Outcomes (x .problem) → (searchOf (sheetOf s) limit .kind ≡ kind.Nothing)
-          ↔ ((q : List ℕ) → PlanOf moves limit q → Misses (runWith (x .problem) q .verdict))
-      go (inl r) = (
-        λ h. absurd (let z : _≡_ {A = ℕ} 0 1 = cc (call-refused (r .0) (r .1), h) in omega arith),
-        λ f. absurd (subst Misses (run-refused (r .0) (r .1) [] empty) (f [] empty)),
-      )
-      go (inr r) = by-nothing (r .0) (r .1)
+      go : Outcomes (x .problem) → (t : List Literals) × (startTable 128 (x .problem) ≡ Outcome.table t)
+      go (inl r) = absurd (f (r .0) (call-refused (r .0) (r .1)))
+      go (inr t) = t
 
   pub full-at-end : (k : ℕ) → searchOf (sheetOf s) limit .kind ≡ kind.Full k → k ≡ searchOf (sheetOf s) limit .length
-  full-at-end k e = go (outcomes (x .problem))
-    where
-      go : Outcomes (x .problem) → k ≡ searchOf (sheetOf s) limit .length
-      go (inl r) = absurd (let z : _≡_ {A = ℕ} 0 1 = cc (call-refused (r .0) (r .1), e) in omega arith)
-      go (inr r) = ends (r .0) (r .1) k e
+  full-at-end k e =
+      let t = had-start (λ N f. let z : _≡_ {A = ℕ} 0 1 = cc in omega arith) in
+      ends (t .0) (t .1) k e
 
   found-worlds : searchOf (sheetOf s) limit .kind ≡ kind.Reached
       → Solves (x .problem) (planFound (searchOf (sheetOf s) limit))
       × ((r : List ℕ) → PlanOf moves limit r → Earlier r (planFound (searchOf (sheetOf s) limit)) → Spoiled (x .problem) r)
-  found-worlds e = go (outcomes (x .problem))
-    where
-      go : Outcomes (x .problem) → Solves (x .problem) (planFound (searchOf (sheetOf s) limit))
-          × ((r : List ℕ) → PlanOf moves limit r → Earlier r (planFound (searchOf (sheetOf s) limit)) → Spoiled (x .problem) r)
-      go (inl r) = absurd (let z : _≡_ {A = ℕ} 0 1 = cc (call-refused (r .0) (r .1), e) in omega arith)
-      go (inr r) = found-by (r .0) (r .1) e
+  found-worlds e =
+      let t = had-start (λ N f. let z : _≡_ {A = ℕ} 0 1 = cc in omega arith) in
+      found-by (t .0) (t .1) e
 
   worlds-found : (w : ℕ) → Starts (x .problem) w → (q : List ℕ) → PlanOf moves limit q → runFull (runWith (x .problem) q) ≡ false
       → Solves (x .problem) q
@@ -355,49 +344,41 @@ module _ (s : List ℕ) (x : Statement) (says : Says s x) (limit : ℕ) (le : li
 
   pub none-worlds : (searchOf (sheetOf s) limit .kind ≡ kind.Nothing)
       ↔ ((q : List ℕ) → PlanOf moves limit q → Spoiled (x .problem) q × (runFull (runWith (x .problem) q) ≡ false))
-  none-worlds = go (outcomes (x .problem))
+  none-worlds = by-outcome (x .problem)
+      (λ N e h. let z : _≡_ {A = ℕ} 0 1 = cc (call-refused N e, h) in omega arith)
+      (λ N e f. let v = f [] empty in true≢false (sym (full-by N e (start-else s x says (v .0 .0) (v .0 .1, v .0 .2))) ∙ v .1))
+      nothing-by
     where
-      go : Outcomes (x .problem) → (searchOf (sheetOf s) limit .kind ≡ kind.Nothing)
-          ↔ ((q : List ℕ) → PlanOf moves limit q → Spoiled (x .problem) q × (runFull (runWith (x .problem) q) ≡ false))
-      go (inl r) = (
-        λ h. absurd (let z : _≡_ {A = ℕ} 0 1 = cc (call-refused (r .0) (r .1), h) in omega arith),
-        λ f. absurd (let v = f [] empty in true≢false (sym (let u = start-else s x says (v .0 .0) (v .0 .1, v .0 .2) in full-by u) ∙ v .1)),
-      )
-        where
-          full-by : (startOf (sheetOf s) .answer ≡ Accepted) ⊎ (startOf (sheetOf s) .answer ≡ Refused 21 0)
-              → runFull (runWith (x .problem) []) ≡ true
-          full-by (inl e) = absurd (let t = tables.start-accepted s x says .0 e in let z : _≡_ {A = ℕ} 0 1 = cc (t .1, r .1) in omega arith)
-          full-by (inr e) = unfold runFull fullVerdict in ap fullVerdict
-              (run-refused 21 (tables.start-number s x says 21 0 .0 e .1) [] empty)
-      go (inr r) = nothing-by (r .0) (r .1)
+      full-by : (N : ℕ) → startTable 128 (x .problem) ≡ Outcome.refused N
+          → (startOf (sheetOf s) .answer ≡ Accepted) ⊎ (startOf (sheetOf s) .answer ≡ Refused 21 0)
+          → runFull (runWith (x .problem) []) ≡ true
+      full-by N r (inl e) = absurd (let t = tables.start-accepted s x says .0 e in let z : _≡_ {A = ℕ} 0 1 = cc (t .1, r) in omega arith)
+      full-by N r (inr e) = unfold runFull fullVerdict in ap fullVerdict
+          (run-refused 21 (tables.start-number s x says 21 0 .0 e .1) [] empty)
 
   -- by worlds, both ways
   pub reached-worlds : (q : List ℕ) → ((searchOf (sheetOf s) limit .kind ≡ kind.Reached) × (planFound (searchOf (sheetOf s) limit) ≡ q))
       ↔ (((w : ℕ) × Starts (x .problem) w) × PlanOf moves limit q × (runFull (runWith (x .problem) q) ≡ false) × Solves (x .problem) q
       × ((r : List ℕ) → PlanOf moves limit r → Earlier r q → (runFull (runWith (x .problem) r) ≡ false) × Spoiled (x .problem) r))
-  reached-worlds q = (λ h. go (outcomes (x .problem)) h, λ h. worlds-found (h .0 .0) (h .0 .1) q (h .1) (h .2) (h .3) (h .4))
-    where
-      go : Outcomes (x .problem) → (searchOf (sheetOf s) limit .kind ≡ kind.Reached) × (planFound (searchOf (sheetOf s) limit) ≡ q)
-          → ((w : ℕ) × Starts (x .problem) w) × PlanOf moves limit q × (runFull (runWith (x .problem) q) ≡ false) × Solves (x .problem) q
-          × ((r : List ℕ) → PlanOf moves limit r → Earlier r q → (runFull (runWith (x .problem) r) ≡ false) × Spoiled (x .problem) r)
-      go (inl r) h = absurd (let z : _≡_ {A = ℕ} 0 1 = cc (call-refused (r .0) (r .1), h .0) in omega arith)
-      go (inr t) h =
-          let f = search-reached q .0 h in (
-            start-some s x says (t .0) (t .1),
-            f .plan,
-            unfull-run (runWith (x .problem) q) ran.Reached (f .gives) (unfold fullVerdict in refl),
-            subst (Solves (x .problem)) (h .1) (found-worlds (h .0) .0),
-            λ r i l. (missed-unfull (runWith (x .problem) r) (f .earlier r i l), spoiled-by (t .0) (t .1) r i (f .earlier r i l)),
-          )
+  reached-worlds q = (
+    λ h.
+        let t = had-start (λ N e. let z : _≡_ {A = ℕ} 0 1 = cc (e, h .0) in omega arith) in
+        let f = search-reached q .0 h in (
+          start-some s x says (t .0) (t .1),
+          f .plan,
+          unfull-run (runWith (x .problem) q) ran.Reached (f .gives) (unfold fullVerdict in refl),
+          subst (Solves (x .problem)) (h .1) (found-worlds (h .0) .0),
+          λ r i l. (missed-unfull (runWith (x .problem) r) (f .earlier r i l), spoiled-by (t .0) (t .1) r i (f .earlier r i l)),
+        ),
+    λ h. worlds-found (h .0 .0) (h .0 .1) q (h .1) (h .2) (h .3) (h .4),
+  )
 
   -- every plan before one that is full fails for some starting world
   pub full-worlds : (k : ℕ) → searchOf (sheetOf s) limit .kind ≡ kind.Full k
       → (r : List ℕ) → PlanOf moves limit r → Earlier r (planFound (searchOf (sheetOf s) limit)) → Spoiled (x .problem) r
-  full-worlds k e r h l = go (outcomes (x .problem))
-    where
-      go : Outcomes (x .problem) → Spoiled (x .problem) r
-      go (inl i) = absurd (let z : _≡_ {A = ℕ} 0 1 = cc (call-refused (i .0) (i .1), e) in omega arith)
-      go (inr t) = spoiled-by (t .0) (t .1) r h (search-full (planFound (searchOf (sheetOf s) limit)) k .0 (e, refl) .earlier r h l)
+  full-worlds k e r h l =
+      let t = had-start (λ N f. let z : _≡_ {A = ℕ} 0 1 = cc in omega arith) in
+      spoiled-by (t .0) (t .1) r h (search-full (planFound (searchOf (sheetOf s) limit)) k .0 (e, refl) .earlier r h l)
 
 -- ---- the eight bytes of a search
 abbrev Padded : SearchAnswer → Type 0

@@ -8,23 +8,12 @@ use Rattle.unit.specs.Numbers.{ifAccepted, searchKind, kindReply}
 use Rattle.unit.proofs.numbers.kind_reply.Statement.{statement}
 use Rattle.unit.proofs.numbers.kind_reply.Tie as tie
 
-returns : tie.Need-returns
-unfolding numberOf positionOf ifAccepted kindAnswer kindPlace searchKind
-returns c = ap (λ (k : Kind). kindReply k (c .before .before .args .size)) (sym (c .enum-told .given .1))
-
-returns-2 : tie.Need-returns-2
-unfolding numberOf positionOf ifAccepted kindAnswer kindPlace searchKind
-returns-2 c = ap (λ (k : Kind). kindReply k (c .before .before .before .args .size)) (sym (c .before .kind .given .1))
-
-returns-3 : tie.Need-returns-3
-unfolding numberOf positionOf ifAccepted kindAnswer kindPlace searchKind
-returns-3 c = ap (λ (k : Kind). kindReply k (c .before .before .args .size)) (sym (c .enum-told2 .given .1))
-
-returns-4 : tie.Need-returns-4
-unfolding numberOf positionOf ifAccepted kindAnswer kindPlace searchKind
-returns-4 c = ap (λ (k : Kind). kindReply k (c .before .before .before .args .size)) (sym (c .before .kind2 .given .1))
-
 pub kind-reply-spec : {M : Type 1} → statement M
+unfolding numberOf positionOf ifAccepted kindAnswer kindPlace searchKind
 kind-reply-spec =
     tie.close
-    (tie.spec (λ c. search needs) (λ c. search needs) (λ c. search needs) (λ c. search needs) returns returns-2 returns-3 returns-4)
+    (tie.spec (λ c. search needs) (λ c. search needs) (λ c. search needs) (λ c. search needs)
+    (λ c. ap (λ (k : Kind). kindReply k (c .before .before .args .size)) (sym (c .enum-told .given .1)))
+    (λ c. ap (λ (k : Kind). kindReply k (c .before .before .before .args .size)) (sym (c .before .kind .given .1)))
+    (λ c. ap (λ (k : Kind). kindReply k (c .before .before .args .size)) (sym (c .enum-told2 .given .1)))
+    (λ c. ap (λ (k : Kind). kindReply k (c .before .before .before .args .size)) (sym (c .before .kind2 .given .1))))
