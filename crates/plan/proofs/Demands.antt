@@ -34,6 +34,7 @@ use Rattle.plan.proofs.laws.searches.CarriedPlans as carried
 use Rattle.plan.proofs.laws.searches.SearchDemands as searches
 use Rattle.plan.proofs.laws.exchanges.CommutingMoves as commuting
 use Rattle.plan.proofs.laws.exchanges.TouchingMoves as touching
+use Rattle.plan.proofs.laws.exchanges.ExchangedPlans as exchanged
 use Rattle.plan.proofs.laws.exchanges.ExchangeDemands as exchanges
 use Rattle.plan.proofs.laws.examples.LampExample as example
 use Rattle.plan.proofs.laws.examples.PaperSheet as printed
@@ -187,9 +188,9 @@ search-finds s x says = record {
 exchange : (f : ℕ → Action) → ExchangeDemand f
 exchange f = record {
   touching = touching.touching;
-  swaps = touching.exchange-swaps f;
-  stays = touching.exchange-stays f;
-  beyond = touching.exchange-beyond f;
+  swaps = exchanged.exchange-swaps f;
+  stays = exchanged.exchange-stays f;
+  beyond = exchanged.exchange-beyond f;
   no-more = λ plan. refl;
   next = λ k ks plan. refl;
 }
@@ -244,7 +245,7 @@ request-w2 = record {
   before = touching.touch-before;
   touching = touching.touching;
   fewer = commuting.touch-fewer;
-  lamp = λ f k a b lamp first rest h pa pb ra rb else. touching.exchange-swaps f k a b first rest h
+  lamp = λ f k a b lamp first rest h pa pb ra rb else. exchanged.exchange-swaps f k a b first rest h
       (touching.touch-lamp (f a) (f b) lamp pa pb ra rb else);
   commute = commuting.commute;
   exchange = demand-3;

@@ -2,6 +2,7 @@
 -- ---- for this crate alone
 pub mod CommutingMoves
 pub mod TouchingMoves
+pub mod ExchangedPlans
 pub mod ExchangedWorlds
 pub mod ExactRuns
 pub mod ExactCalls

@@ -1,14 +1,12 @@
--- Touching moves by their literals and propositions, moves that share the lamp, and an exchange by its place. For `exchange` in
--- proofs/Demands (demand 3) and W2. Assumes nothing.
+-- Touching moves by their literals and propositions, and moves that share the lamp. For `exchange` in proofs/Demands (demand 3) and W2.
+-- Assumes nothing.
 use mathlib.Core.Path.{_≡_, refl, sym, ap, subst, _∙_}
 use mathlib.Core.Bool.{Bool, true, false, not, _&&_, _||_, true≢false}
-use mathlib.Core.List.{List, [], _∷_, _++_}
+use mathlib.Core.List.{List, [], _∷_}
 use mathlib.Core.Logic.{_⊎_, inl, inr, _↔_}
-use Prim.Native.Nat.{ℕ, zero, suc, _+_, _<_}
-use native.Mathlib.Omega.{arith}
+use Prim.Native.Nat.{ℕ}
 use lib.Dec.{T, eqb}
 use lib.Bits.{bitAnd}
-use lib.ListN.{length}
 use borrow.Author.Tests.{eq-eqb, eqb-true}
 use Rattle.sheet.specs.declared.Literals.{Literals}
 use Rattle.sheet.specs.declared.Effect.{Effect}
@@ -20,7 +18,7 @@ use Rattle.sheet.proofs.laws.base.Bools.{T-true, true-T, or-cases, or-left, or-
 use Rattle.sheet.proofs.laws.literals.LiteralSets.{mem-join, clash-at, clash-here, mem-none}
 use Rattle.sheet.proofs.laws.base.ListFacts.{any-map}
 use Rattle.sheet.proofs.laws.literals.Results.{has-names}
-use Rattle.plan.specs.Exchange.{resultsBy, namedBy, readBy, changed, reads, named, touch, touchAnywhere, swap, exchangeBy, exchanges}
+use Rattle.plan.specs.Exchange.{resultsBy, namedBy, readBy, changed, reads, named, touch, touchAnywhere}
 use Rattle.plan.specs.DemandWords.{Names, ResultOf, InResult, ReadIn, NamedIn, TouchesAt, PutsOut}
 
 -- ---- tests, as what they say
@@ -186,31 +184,3 @@ touch-lamp a b lamp h k u v else = go (touch a b) refl
     go : (t : Bool) → touch a b ≡ t → touch a b ≡ false
     go false e = e
     go true e = let r = touching a b .0 e in absurd (at (subst (TouchesAt a b) (else (r .0) (r .1)) (r .1)))
-
--- ---- exchanges
-module _ (f : ℕ → Action) where
-  exchange-at : (a b : ℕ) (first rest : List ℕ) → exchangeBy touch f (suc (length first)) (first ++ (a ∷ b ∷ rest)) ≡ first
-      ++ swap (touch (f a) (f b)) a b rest
-  exchange-at a b [] rest = refl
-  exchange-at a b (c ∷ []) rest = refl
-  exchange-at a b (c ∷ d ∷ first) rest = ap (λ (r : List ℕ). c ∷ r) (exchange-at a b (d ∷ first) rest)
-
-  at-place : (k a b : ℕ) (first rest : List ℕ) → k ≡ length first + 1 → exchanges f (k ∷ []) (first ++ (a ∷ b ∷ rest)) ≡ first
-      ++ swap (touch (f a) (f b)) a b rest
-  at-place k a b first rest h = let e : k ≡ suc (length first) = omega arith in ap
-      (λ (i : ℕ). exchangeBy touch f i (first ++ (a ∷ b ∷ rest))) e ∙ exchange-at a b first rest
-
-  pub exchange-swaps : (k a b : ℕ) (first rest : List ℕ) → k ≡ length first + 1 → touch (f a) (f b) ≡ false
-      → exchanges f (k ∷ []) (first ++ (a ∷ b ∷ rest)) ≡ first ++ (b ∷ a ∷ rest)
-  exchange-swaps k a b first rest h e = at-place k a b first rest h ∙ ap (λ (t : Bool). first ++ swap t a b rest) e
-
-  pub exchange-stays : (k a b : ℕ) (first rest : List ℕ) → k ≡ length first + 1 → touch (f a) (f b) ≡ true
-      → exchanges f (k ∷ []) (first ++ (a ∷ b ∷ rest)) ≡ first ++ (a ∷ b ∷ rest)
-  exchange-stays k a b first rest h e = at-place k a b first rest h ∙ ap (λ (t : Bool). first ++ swap t a b rest) e
-
-  pub exchange-beyond : (k : ℕ) (plan : List ℕ) → length plan < k + 1 → exchanges f (k ∷ []) plan ≡ plan
-  exchange-beyond zero plan h = refl
-  exchange-beyond (suc k) [] h = refl
-  exchange-beyond (suc k) (a ∷ []) h = refl
-  exchange-beyond (suc zero) (a ∷ b ∷ plan) h = absurd (omega arith)
-  exchange-beyond (suc (suc k)) (a ∷ b ∷ plan) h = ap (λ (r : List ℕ). a ∷ r) (exchange-beyond (suc k) (b ∷ plan) (omega arith))
