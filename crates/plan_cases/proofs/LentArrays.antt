@@ -1,5 +1,5 @@
--- A local array lent as a slice for a call: its cell as its elements (`home-in`) and back (`home-out`), and the call (`home-call`). Assumes
--- `Given`, and that the table of calls is monotone under a frame.
+-- A local array lent as a slice for a call: its cell as its elements (`home-in`) and back (`home-out`), and the call (`home-call`). For
+-- `run_here`. Assumes `Given`, and that the table of calls is monotone under a frame.
 use mathlib.Core.Path.{_≡_, refl, subst}
 use Prim.Native.Nat.{ℕ, zero, suc}
 use mathlib.Core.List.{[], List, _∷_}

@@ -1,2 +1,2 @@
--- The laws that belong to no one function.
+-- What the walk by hand of `run_here` uses.
 pub mod LentArrays

@@ -1,4 +1,5 @@
--- What the functions answer, by cases: a slice is too short, or the call's own answer in numbers. Assumes nothing.
+-- What the functions answer, by cases: a slice is too short, or the call's own answer in numbers. For the seven calls for C. Assumes
+-- nothing.
 use mathlib.Core.Path.{_≡_, ap, _∙_}
 use mathlib.Core.Bool.{Bool, true, false, cond, _||_}
 use mathlib.Core.List.{List, _++_}

@@ -1,4 +1,5 @@
--- Rows written as three numbers each: one after the other, and those of a run. Assumes nothing.
+-- Rows written as three numbers each: one after the other, and those of a run. For `numbers::write_row_numbers` and `krepuskilo_run`.
+-- Assumes nothing.
 use mathlib.Core.Path.{_≡_, refl, sym, ap, ap₂, subst, _∙_}
 use mathlib.Core.List.{List, [], _∷_, _++_}
 use Prim.Native.Nat.{ℕ, zero, suc, _+_, _*_, _/_, _≤_, _<_}

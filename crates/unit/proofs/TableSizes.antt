@@ -1,4 +1,5 @@
--- The tables that the calls hand back are small: their counts fit 32 bits. Assumes nothing.
+-- The tables that the calls hand back are small: their counts fit 32 bits. For `krepuskilo_start`, `krepuskilo_step` and `krepuskilo_run`.
+-- Assumes nothing.
 use mathlib.Core.Path.{_≡_, refl, sym, subst}
 use mathlib.Core.Bool.{Bool, true, false, cond}
 use mathlib.Core.List.{List, [], _∷_, map}

@@ -1,4 +1,4 @@
--- Lists and their members; arrays of masks that hold lists, and loops over them.
+-- Members that a test keeps; arrays of masks that hold lists, and loops over them.
 -- ---- may be cited from above
 pub mod HeldLists
 pub mod EntryLoops

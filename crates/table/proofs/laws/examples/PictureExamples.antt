@@ -1,4 +1,4 @@
--- The pictures among the worked examples, and all examples of a table in one theorem (TH10). Assumes nothing.
+-- The pictures among the worked examples, and all examples of a table in one theorem. For TH10. Assumes nothing.
 use mathlib.Core.Path.{_≡_, refl}
 use mathlib.Core.List.{[], _∷_}
 use mathlib.Core.Option.{some}
