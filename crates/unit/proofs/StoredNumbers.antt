@@ -1,4 +1,5 @@
--- Numbers stored one after the other: info, copies, tables. For the functions of src/numbers.rt that read and write slices. Assumes nothing.
+-- Numbers stored one after the other: info, copies, tables. For the functions of src/numbers.rt that read and write slices. Assumes
+-- nothing.
 use mathlib.Core.Path.{_≡_, refl, sym, ap, ap₂, subst, _∙_}
 use mathlib.Core.List.{List, [], _∷_, _++_, append-assoc}
 use Prim.Native.Nat.{ℕ, _+_, _^_, _≤_, _<_}
