@@ -30,7 +30,6 @@ pub(crate) use step::steps_taken;
 use lists::{Table, View};
 use plan::{Kind, Verdict};
 use sheet::{Fault, Sheet};
-use step::Totals;
 
 const SHORT: u8 = 255;
 
@@ -84,15 +83,15 @@ fn start(bytes: &[u8], table: &mut [u32], info: &mut [u64]) -> u8 {
     tell(info, given.map(|_| [0; 3]))
 }
 
-fn stepped(bytes: &[u8], table: &mut [u32], number: u64) -> Result<Totals, Fault> {
+fn stepped(bytes: &[u8], table: &mut [u32], number: u64) -> Result<(), Fault> {
     let mut sheet = Sheet::EMPTY;
     sheet.read(bytes)?;
     let m = sheet.moves().get(number as usize).ok_or(Fault(7, 0))?;
     let from = view(table).filter(|v| v.described(sheet.n)).ok_or(Fault(22, 0))?;
     let mut to = Table::EMPTY;
-    let totals = step::step(m, from, &mut to)?;
+    step::step(m, from, &mut to)?;
     write_table(table, &to);
-    Ok(totals)
+    Ok(())
 }
 
 fn step(bytes: &[u8], table: &mut [u32], number: u64, info: &mut [u64]) -> u8 {
@@ -100,7 +99,7 @@ fn step(bytes: &[u8], table: &mut [u32], number: u64, info: &mut [u64]) -> u8 {
         return SHORT;
     }
     let given = stepped(bytes, table, number);
-    tell(info, given.map(Totals::numbers))
+    tell(info, given.map(|()| [0; 3]))
 }
 
 fn pictured(bytes: &[u8], table: &[u32], buffer: &mut [u8]) -> Result<usize, Fault> {
@@ -118,23 +117,22 @@ fn picture(bytes: &[u8], table: &[u32], buffer: &mut [u8], info: &mut [u64]) -> 
     tell(info, given.map(|clauses| [clauses as u64, 0, 0]))
 }
 
-fn ran(bytes: &[u8], rows: &mut [u64], last: &mut Table, totals: &mut Totals) -> Result<Verdict, Fault> {
+fn ran(bytes: &[u8], rows: &mut [u64], last: &mut Table) -> Result<Verdict, Fault> {
     let mut sheet = Sheet::EMPTY;
     sheet.read(bytes)?;
     if rows.len() / 3 < 65 {
         return Err(Fault(23, 0));
     }
-    plan::run(&sheet, rows, last, totals)
+    plan::run(&sheet, rows, last)
 }
 
-fn run(bytes: &[u8], rows: &mut [u64], table: &mut [u32], totals: &mut [u64], info: &mut [u64]) -> u8 {
-    if table.len() < 257 || totals.len() < 3 || info.len() < 4 {
+fn run(bytes: &[u8], rows: &mut [u64], table: &mut [u32], info: &mut [u64]) -> u8 {
+    if table.len() < 257 || info.len() < 4 {
         return SHORT;
     }
-    let (mut last, mut sums) = (Table::EMPTY, Totals::default());
-    let given = ran(bytes, rows, &mut last, &mut sums);
+    let mut last = Table::EMPTY;
+    let given = ran(bytes, rows, &mut last);
     write_table(table, &last);
-    totals[..3].copy_from_slice(&sums.numbers());
     let numbers = |verdict| match verdict {
         Verdict::Reached => [0, 0, 0],
         Verdict::Short => [1, 0, 0],

@@ -21,11 +21,6 @@ fn on(table: Vec<u32>, case: Case) -> Case {
     Case { table, ..case }
 }
 
-/// A step on a table that keeps so many candidates and drops so many.
-fn dropping(kept: u64, dropped: u64, table: Vec<u32>, case: Case) -> Case {
-    Case { info: Some([0, kept + dropped, dropped, 0]), ..on(table, case) }
-}
-
 fn kernels() -> Group {
     use Call::*;
     let cases = vec![
@@ -50,9 +45,9 @@ fn worst() -> Group {
     let overflow = on(tables::table(&[(0, 0)]), case("overflow", "5^8 pieces", sheets::five_to_the_eighth(), Step(0)));
     let cases = vec![
         Case { answer: 21, ..overflow },
-        dropping(1, 16_384, tables::two(), case("dropped4", "4^7 pieces", sheets::four_to_the(7), Step(0))),
-        dropping(125, 78_125, tables::markers(1), case("dropped5", "5^7 pieces", sheets::five_to_the_seventh(), Step(0))),
-        dropping(125, 2_500_000, tables::markers(32), case("dropped32", "32*5^7 pieces", sheets::five_to_the_seventh(), Step(0))),
+        on(tables::two(), case("dropped4", "4^7 pieces", sheets::four_to_the(7), Step(0))),
+        on(tables::markers(1), case("dropped5", "5^7 pieces", sheets::five_to_the_seventh(), Step(0))),
+        on(tables::markers(32), case("dropped32", "32*5^7 pieces", sheets::five_to_the_seventh(), Step(0))),
         case("candidates", "8*128*4^7", sheets::candidates(8), Start),
         on(tables::alike(128), case("alike", "128 entries", sheets::bare(32), Picture)),
     ];
@@ -69,8 +64,7 @@ fn entries() -> Group {
 
 fn pieces() -> Group {
     let size = |k: u8| if k == 0 { "1".to_string() } else { format!("4^{k}") };
-    let split = |k: u8| case("split", &size(k), sheets::four_to_the(k), Call::Step(0));
-    let cases = (0..8).map(|k| dropping(1, 4u64.pow(k.into()), tables::two(), split(k))).collect();
+    let cases = (0..8).map(|k| on(tables::two(), case("split", &size(k), sheets::four_to_the(k), Call::Step(0)))).collect();
     Group { name: "pieces", title: "step of an entry as its pieces grow", grows: true, cases }
 }
 

@@ -33,7 +33,6 @@ pub struct Lent {
     pub table: Vec<u32>,
     pub bytes: Vec<u8>,
     pub rows: Vec<u64>,
-    pub totals: [u64; 3],
     pub memory: Vec<u32>,
 }
 
@@ -45,14 +44,12 @@ impl Lent {
             Call::SearchWith(_, slots) => (8, slots),
             _ => (2050, 0),
         };
-        let (table, bytes, memory) = (case.table.clone(), vec![170; size], vec![5; slots * 258]);
-        Lent { info: [7; 4], table, bytes, rows: vec![9; 195], totals: [8; 3], memory }
+        Lent { info: [7; 4], table: case.table.clone(), bytes: vec![170; size], rows: vec![9; 195], memory: vec![5; slots * 258] }
     }
 
     /// All that is promised. What a memory holds is not.
     fn same(&self, other: &Lent) -> bool {
-        let numbers = self.info == other.info && self.rows == other.rows && self.totals == other.totals;
-        numbers && self.table == other.table && self.bytes == other.bytes
+        self.info == other.info && self.table == other.table && self.bytes == other.bytes && self.rows == other.rows
     }
 
     /// The clauses of the largest picture that the call met.

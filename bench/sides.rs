@@ -15,7 +15,7 @@ type Judge = unsafe extern "C" fn(*const u8, usize, *mut u64, usize) -> u8;
 type Start = unsafe extern "C" fn(*const u8, usize, *mut u32, usize, *mut u64, usize) -> u8;
 type Step = unsafe extern "C" fn(*const u8, usize, *mut u32, usize, u64, *mut u64, usize) -> u8;
 type Picture = unsafe extern "C" fn(*const u8, usize, *const u32, usize, *mut u8, usize, *mut u64, usize) -> u8;
-type Run = unsafe extern "C" fn(*const u8, usize, *mut u64, usize, *mut u32, usize, *mut u64, usize, *mut u64, usize) -> u8;
+type Run = unsafe extern "C" fn(*const u8, usize, *mut u64, usize, *mut u32, usize, *mut u64, usize) -> u8;
 type Search = unsafe extern "C" fn(*const u8, usize, u64, *mut u8, usize, *mut u64, usize) -> u8;
 type SearchWith = unsafe extern "C" fn(*const u8, usize, u64, *mut u32, usize, *mut u8, usize, *mut u64, usize) -> u8;
 
@@ -57,13 +57,12 @@ impl Side {
         if let Call::Step(_) = case.call {
             lent.table.copy_from_slice(&case.table);
         }
-        let Lent { info, table, bytes, rows, totals, memory } = lent;
+        let Lent { info, table, bytes, rows, memory } = lent;
         let (s, sheet) = (black_box(case.sheet.as_ptr()), case.sheet.len());
         let (i, info) = (info.as_mut_ptr(), info.len());
         let (t, table) = (table.as_mut_ptr(), table.len());
         let (b, bytes) = (bytes.as_mut_ptr(), bytes.len());
         let (r, rows) = (rows.as_mut_ptr(), rows.len());
-        let (o, totals) = (totals.as_mut_ptr(), totals.len());
         let (m, memory) = (memory.as_mut_ptr(), memory.len());
         // Each address goes with the length of the slice that it is of, and no two slices overlap.
         unsafe {
@@ -72,7 +71,7 @@ impl Side {
                 Call::Start => (self.start)(s, sheet, t, table, i, info),
                 Call::Step(number) => (self.step)(s, sheet, t, table, number, i, info),
                 Call::Picture => (self.picture)(s, sheet, t, table, b, bytes, i, info),
-                Call::Run => (self.run)(s, sheet, r, rows, t, table, o, totals, i, info),
+                Call::Run => (self.run)(s, sheet, r, rows, t, table, i, info),
                 Call::Search(limit) => (self.search)(s, sheet, limit, b, bytes, i, info),
                 Call::SearchWith(limit, _) => (self.search_with)(s, sheet, limit, m, memory, b, bytes, i, info),
             }

@@ -1,25 +1,18 @@
 /* Krepuskilo for C: sheets, tables, rows and plans as numbers in slices that the caller lends.
  *
- * The functions are those of crates/unit, proved there to do what their contracts say: the calls of the scope document (document 01) with
- * the totals of request W4 (document 02), their values laid out as numbers. Link target/staticlib/libunit.a, which `rt staticlib unit`
- * writes (x86-64, Linux).
+ * The functions are those of crates/unit, proved there to do what their contracts say: the calls of the scope document (document 01),
+ * their values laid out as numbers. Link target/staticlib/libunit.a, which `rt staticlib unit` writes (x86-64, Linux).
  *
  * Every function answers
  *   0                     the call is accepted,
  *   1 to 8, 20 to 25      it is refused, by document 01's number (below),
- *   KREPUSKILO_SHORT      info, table, totals or plan is shorter than its size below; then nothing at all is written.
+ *   KREPUSKILO_SHORT      info, table or plan is shorter than its size below; then nothing at all is written.
  *
  * info has 4 numbers. info[0] is the position of a refusal, 0 if the call is accepted. info[1] to info[3] are as each function says; they
  * are 0 where it says nothing, and 0 in a refusal.
  *
  * A table has 257 numbers: its count, 128 masks of true propositions, 128 masks of false ones, bit p for proposition p. The entries of
  * the table are in the first `count` masks of both kinds.
- *
- * Totals tell what became of the candidates of a step, which are the pieces that its entries are split into, in three numbers:
- *   candidates            how many there were,
- *   dropped               how many of them were dropped, since all literals of an entry lay in them,
- *   removed               how many entries were removed from the new table again, since they contained a later candidate.
- * For a step that is accepted, candidates = dropped + removed + the count of the new table.
  *
  * Numbers and bytes past those named are kept as they were, in every slice but the memory of a search.
  *
@@ -51,11 +44,10 @@ extern "C" {
 /* The answer if a slice is shorter than its size here. */
 #define KREPUSKILO_SHORT 255
 
-/* Sizes in numbers (a plan's in bytes): info, a table, the rows of a run (65 of three numbers), its totals, a plan that was found. */
+/* Sizes in numbers (a plan's in bytes): info, a table, the rows of a run (65 of three numbers), a plan that was found. */
 #define KREPUSKILO_INFO 4
 #define KREPUSKILO_TABLE 257
 #define KREPUSKILO_ROWS 195
-#define KREPUSKILO_TOTALS 3
 #define KREPUSKILO_PLAN 8
 
 /* No accepted sheet is longer than this, in bytes; any sheet may be handed in. */
@@ -71,7 +63,7 @@ extern "C" {
  * tests/stack.c runs the calls on sheets that take them as deep as they go, built for x86-64 as `rt staticlib unit` does. */
 #define KREPUSKILO_STACK_JUDGE 7168
 #define KREPUSKILO_STACK_START 10240
-#define KREPUSKILO_STACK_STEP 10240
+#define KREPUSKILO_STACK_STEP 9216
 #define KREPUSKILO_STACK_PICTURE 18432
 #define KREPUSKILO_STACK_RUN 16384
 #define KREPUSKILO_STACK_SEARCH 29696
@@ -84,8 +76,7 @@ uint8_t krepuskilo_judge(const uint8_t *sheet, size_t sheet_len, uint64_t *info,
 uint8_t krepuskilo_start(const uint8_t *sheet, size_t sheet_len, uint32_t *table, size_t table_len, uint64_t *info, size_t info_len);
 
 /* The step of a table by the move of this number on the sheet, from 0: table in and out. Answers 0; 1 to 7; 7 at position 0 if the move is
- * not on the sheet; 22, 24, 25 or 21. Unused masks are not read, and are 0 afterwards.
- * info[1]: candidates. info[2]: dropped. info[3]: removed. Refused, 21 included: every number of table is as it was, these three are 0. */
+ * not on the sheet; 22, 24, 25 or 21. Unused masks are not read, and are 0 afterwards. Refused: every number of table is as it was. */
 uint8_t krepuskilo_step(const uint8_t *sheet, size_t sheet_len, uint32_t *table, size_t table_len, uint64_t move, uint64_t *info, size_t info_len);
 
 /* The picture of a table (its prime implicates), into buffer: the number of clauses in two bytes, then for each clause its masks of true
@@ -94,12 +85,11 @@ uint8_t krepuskilo_step(const uint8_t *sheet, size_t sheet_len, uint32_t *table,
 uint8_t krepuskilo_picture(const uint8_t *sheet, size_t sheet_len, const uint32_t *table, size_t table_len, uint8_t *buffer, size_t buffer_len, uint64_t *info, size_t info_len);
 
 /* The run of a sheet's plan. rows gets three numbers for each place arrived at, place i from number 3 * i on: the place, the entries of its
- * table, the clauses of its picture (257 if that is full). table gets the last table that the run had, 0 in unused masks. totals gets
- * candidates, dropped and removed, each the sum over the moves taken: all of them, or those before the place, if stopped or full.
+ * table, the clauses of its picture (257 if that is full). table gets the last table that the run had, 0 in unused masks.
  * Answers 0; 1 to 7; 23 if rows_len / 3 is below 65; 20 or 21 of the start.
  * info[1]: the verdict, 0 reached, 1 short, 2 stopped, 3 full. info[2]: the place, if stopped or full. info[3]: 24 or 25, if stopped.
- * Refused: rows are as they were, the 257 numbers of table and the three of totals are 0. */
-uint8_t krepuskilo_run(const uint8_t *sheet, size_t sheet_len, uint64_t *rows, size_t rows_len, uint32_t *table, size_t table_len, uint64_t *totals, size_t totals_len, uint64_t *info, size_t info_len);
+ * Refused: rows are as they were, the 257 numbers of table are 0. */
+uint8_t krepuskilo_run(const uint8_t *sheet, size_t sheet_len, uint64_t *rows, size_t rows_len, uint32_t *table, size_t table_len, uint64_t *info, size_t info_len);
 
 /* The first plan of at most `limit` moves that is reached or full, shorter plans first, then in ascending order of moves; the sheet's own
  * plan is ignored. plan gets eight bytes, zeros past its length. Answers 0; 1 to 7; 8; 20 or 21 of the start.

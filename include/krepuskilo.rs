@@ -16,7 +16,7 @@ extern "C" {
     ) -> u8;
     fn krepuskilo_run(
         sheet: *const u8, sheet_len: usize, rows: *mut u64, rows_len: usize, table: *mut u32, table_len: usize,
-        totals: *mut u64, totals_len: usize, info: *mut u64, info_len: usize,
+        info: *mut u64, info_len: usize,
     ) -> u8;
     fn krepuskilo_search(
         sheet: *const u8, sheet_len: usize, limit: u64, plan: *mut u8, plan_len: usize, info: *mut u64, info_len: usize,
@@ -38,7 +38,6 @@ pub fn start(sheet: &[u8], table: &mut [u32], info: &mut [u64]) -> u8 {
     unsafe { krepuskilo_start(s, sheet.len(), t, table.len(), i, info.len()) }
 }
 
-/// Numbers 1 to 3 of `info` are the totals: candidates, dropped, removed.
 pub fn step(sheet: &[u8], table: &mut [u32], index: u64, info: &mut [u64]) -> u8 {
     let (s, t, i) = (sheet.as_ptr(), table.as_mut_ptr(), info.as_mut_ptr());
     unsafe { krepuskilo_step(s, sheet.len(), t, table.len(), index, i, info.len()) }
@@ -49,10 +48,9 @@ pub fn picture(sheet: &[u8], table: &[u32], buffer: &mut [u8], info: &mut [u64])
     unsafe { krepuskilo_picture(s, sheet.len(), t, table.len(), b, buffer.len(), i, info.len()) }
 }
 
-/// `totals` gets three numbers: candidates, dropped, removed.
-pub fn run(sheet: &[u8], rows: &mut [u64], table: &mut [u32], totals: &mut [u64], info: &mut [u64]) -> u8 {
-    let (s, r, t, o, i) = (sheet.as_ptr(), rows.as_mut_ptr(), table.as_mut_ptr(), totals.as_mut_ptr(), info.as_mut_ptr());
-    unsafe { krepuskilo_run(s, sheet.len(), r, rows.len(), t, table.len(), o, totals.len(), i, info.len()) }
+pub fn run(sheet: &[u8], rows: &mut [u64], table: &mut [u32], info: &mut [u64]) -> u8 {
+    let (s, r, t, i) = (sheet.as_ptr(), rows.as_mut_ptr(), table.as_mut_ptr(), info.as_mut_ptr());
+    unsafe { krepuskilo_run(s, sheet.len(), r, rows.len(), t, table.len(), i, info.len()) }
 }
 
 pub fn search(sheet: &[u8], limit: u64, plan: &mut [u8], info: &mut [u64]) -> u8 {

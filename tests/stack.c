@@ -27,7 +27,7 @@ static uint8_t sheet[4096], picture[KREPUSKILO_PICTURE], plan[KREPUSKILO_PLAN];
 static size_t length;
 static uint32_t table[KREPUSKILO_TABLE], memory[4 * KREPUSKILO_MEMORY_SLOT];
 static size_t slots;
-static uint64_t rows[KREPUSKILO_ROWS], totals[KREPUSKILO_TOTALS], info[KREPUSKILO_INFO], number;
+static uint64_t rows[KREPUSKILO_ROWS], info[KREPUSKILO_INFO], number;
 
 static void work(void)
 {
@@ -45,7 +45,7 @@ static void work(void)
         krepuskilo_picture(sheet, length, table, KREPUSKILO_TABLE, picture, KREPUSKILO_PICTURE, info, KREPUSKILO_INFO);
         break;
     case RUN:
-        krepuskilo_run(sheet, length, rows, KREPUSKILO_ROWS, table, KREPUSKILO_TABLE, totals, KREPUSKILO_TOTALS, info, KREPUSKILO_INFO);
+        krepuskilo_run(sheet, length, rows, KREPUSKILO_ROWS, table, KREPUSKILO_TABLE, info, KREPUSKILO_INFO);
         break;
     case SEARCH:
         krepuskilo_search(sheet, length, number, plan, KREPUSKILO_PLAN, info, KREPUSKILO_INFO);

@@ -33,10 +33,9 @@ unsafe extern "C" fn krepuskilo_picture(
 #[no_mangle]
 unsafe extern "C" fn krepuskilo_run(
     sheet: *const u8, sheet_len: usize, rows: *mut u64, rows_len: usize, table: *mut u32, table_len: usize,
-    totals: *mut u64, totals_len: usize, info: *mut u64, info_len: usize,
+    info: *mut u64, info_len: usize,
 ) -> u8 {
-    let (rows, table) = (written(rows, rows_len), written(table, table_len));
-    super::run(read(sheet, sheet_len), rows, table, written(totals, totals_len), written(info, info_len))
+    super::run(read(sheet, sheet_len), written(rows, rows_len), written(table, table_len), written(info, info_len))
 }
 
 #[no_mangle]

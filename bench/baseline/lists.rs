@@ -76,13 +76,10 @@ fn some_of_four(trues: &[u32; 4], falses: &[u32; 4], l: Literals) -> bool {
     trues.iter().zip(falses).fold(false, |some, (&trues, &falses)| some | within(Literals { trues, falses }, l))
 }
 
-/// A list of at most N sets, in the first count slots; the slots after them are zero. Of the candidates that were put, so many were
-/// dropped, and so many sets were removed for others.
+/// A list of at most N sets, in the first count slots; the slots after them are zero.
 #[derive(Clone)]
 pub struct List<const N: usize> {
     count: usize,
-    pub dropped: usize,
-    pub removed: usize,
     pub trues: [u32; N],
     pub falses: [u32; N],
 }
@@ -91,7 +88,7 @@ pub struct List<const N: usize> {
 pub type Table = List<128>;
 
 impl<const N: usize> List<N> {
-    pub const EMPTY: List<N> = List { count: 0, dropped: 0, removed: 0, trues: [0; N], falses: [0; N] };
+    pub const EMPTY: List<N> = List { count: 0, trues: [0; N], falses: [0; N] };
 
     pub fn len(&self) -> usize {
         self.count
@@ -111,8 +108,6 @@ impl<const N: usize> List<N> {
         self.trues[..self.count].fill(0);
         self.falses[..self.count].fill(0);
         self.count = 0;
-        self.dropped = 0;
-        self.removed = 0;
     }
 
     /// Adds a set that is known to lie apart from the others.
@@ -171,13 +166,11 @@ impl<const N: usize> List<N> {
             }
         }
         self.count = k;
-        self.removed += n - k;
     }
 
     /// Puts a candidate.
     pub fn put(&mut self, l: Literals) -> Result<(), Full> {
         if self.last_within(l).is_some() {
-            self.dropped += 1;
             return Ok(());
         }
         self.remove(l);
@@ -188,7 +181,6 @@ impl<const N: usize> List<N> {
     pub fn put_piece(&mut self, l: Literals) -> Result<(), Full> {
         #[cfg(blocks)]
         if self.count > 0 && within(self.view().get(self.count - 1), l) {
-            self.dropped += 1;
             return Ok(());
         }
         self.put(l)

@@ -6,7 +6,7 @@ use super::memory::Memory;
 use super::picture::clause_count;
 use super::sheet::{Fault, Move, Sheet};
 use super::start::first_table;
-use super::step::{step, Totals};
+use super::step::step;
 
 /// Each clause of the goal shares a literal with each entry.
 fn in_goal(goal: &[Literals], table: View) -> bool {
@@ -24,20 +24,17 @@ fn write_row(rows: &mut [u64], place: usize, table: View) {
     rows[3 * place..3 * place + 3].copy_from_slice(&[place as u64, table.len() as u64, clause_count(table) as u64]);
 }
 
-/// The run of a sheet's plan: the rows of the places arrived at, the verdict, the last table in `last`, the sums of its steps in `totals`.
-pub fn run(sheet: &Sheet, rows: &mut [u64], last: &mut Table, totals: &mut Totals) -> Result<Verdict, Fault> {
+/// The run of a sheet's plan: the rows of the places arrived at, the verdict, and the last table in `last`.
+pub fn run(sheet: &Sheet, rows: &mut [u64], last: &mut Table) -> Result<Verdict, Fault> {
     let (mut one, mut other) = (first_table(sheet)?, Table::EMPTY);
     let (mut table, mut fresh) = (&mut one, &mut other);
     let mut stopped = None;
     for (i, &number) in sheet.plan().iter().enumerate() {
         write_row(rows, i, table.view());
         fresh.clear();
-        match step(&sheet.moves()[number as usize], table.view(), fresh) {
-            Ok(of_step) => totals.add(of_step),
-            Err(Fault(number, _)) => {
-                stopped = Some(if number == 21 { Verdict::Full(i + 1) } else { Verdict::Stopped(i + 1, number) });
-                break;
-            }
+        if let Err(Fault(number, _)) = step(&sheet.moves()[number as usize], table.view(), fresh) {
+            stopped = Some(if number == 21 { Verdict::Full(i + 1) } else { Verdict::Stopped(i + 1, number) });
+            break;
         }
         std::mem::swap(&mut table, &mut fresh);
     }
@@ -65,7 +62,7 @@ pub struct Found {
 fn begin(moves: &[Move], goal: &[Literals], table: View, place: usize, left: usize, m: usize, memory: &mut Memory) -> Option<Found> {
     let mut after = Table::EMPTY;
     match step(&moves[m], table, &mut after) {
-        Ok(_) => {
+        Ok(()) => {
             if after.view().same(table) {
                 return None;
             }

@@ -68,34 +68,8 @@ pub fn steps_taken() -> u64 {
     TAKEN.swap(0, Relaxed)
 }
 
-/// What became of the candidates of a step, or of all steps of a run.
-#[derive(Clone, Copy, Default)]
-pub struct Totals {
-    candidates: usize,
-    dropped: usize,
-    removed: usize,
-}
-
-impl Totals {
-    /// A candidate that was not dropped is an entry, or was one until it was removed.
-    fn of(table: &Table) -> Totals {
-        let (dropped, removed) = (table.dropped, table.removed);
-        Totals { candidates: dropped + removed + table.len(), dropped, removed }
-    }
-
-    pub fn add(&mut self, other: Totals) {
-        self.candidates += other.candidates;
-        self.dropped += other.dropped;
-        self.removed += other.removed;
-    }
-
-    pub fn numbers(self) -> [u64; 3] {
-        [self.candidates as u64, self.dropped as u64, self.removed as u64]
-    }
-}
-
 /// The step, into an empty table: 24, 25, then 21.
-pub fn step(m: &Move, from: View, to: &mut Table) -> Result<Totals, Fault> {
+pub fn step(m: &Move, from: View, to: &mut Table) -> Result<(), Fault> {
     #[cfg(counted)]
     TAKEN.fetch_add(1, Relaxed);
     if !from.iter().all(|e| within(m.precondition, e)) {
@@ -108,5 +82,5 @@ pub fn step(m: &Move, from: View, to: &mut Table) -> Result<Totals, Fault> {
     for e in from.iter() {
         branch(effects, 0, e, NONE, to).map_err(|_| Fault(21, 0))?;
     }
-    Ok(Totals::of(to))
+    Ok(())
 }

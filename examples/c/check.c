@@ -15,7 +15,6 @@ int main(void)
     static uint8_t sheet[4096];
     uint64_t rows[KREPUSKILO_ROWS];
     uint32_t table[KREPUSKILO_TABLE];
-    uint64_t totals[KREPUSKILO_TOTALS];
     uint64_t info[KREPUSKILO_INFO];
     size_t n = fread(sheet, 1, sizeof sheet, stdin);
     size_t i;
@@ -24,7 +23,7 @@ int main(void)
     /* A row is written exactly if its place comes to stand in it. */
     for (i = 0; i < KREPUSKILO_ROWS; i++)
         rows[i] = UINT64_MAX;
-    answer = krepuskilo_run(sheet, n, rows, KREPUSKILO_ROWS, table, KREPUSKILO_TABLE, totals, KREPUSKILO_TOTALS, info, KREPUSKILO_INFO);
+    answer = krepuskilo_run(sheet, n, rows, KREPUSKILO_ROWS, table, KREPUSKILO_TABLE, info, KREPUSKILO_INFO);
     if (answer != 0) {
         printf("refused %u at %" PRIu64 "\n", answer, info[0]);
         return 0;

@@ -12,15 +12,14 @@ pub enum Call {
     SearchWith(u64),
 }
 
-/// Everything that a call may be lent, before and after it. `bytes` is the buffer of a picture or the plan of a search, `totals` are those of
-/// a run, `memory` is that of a search.
+/// Everything that a call may be lent, before and after it. `bytes` is the buffer of a picture or the plan of a search, `memory` that of a
+/// search.
 #[derive(Clone, PartialEq, Eq, Debug)]
 pub struct Lent {
     pub info: Vec<u64>,
     pub table: Vec<u32>,
     pub bytes: Vec<u8>,
     pub rows: Vec<u64>,
-    pub totals: Vec<u64>,
     pub memory: Vec<u32>,
 }
 
@@ -30,13 +29,13 @@ mod library;
 
 #[cfg(not(unlinked))]
 fn answer(sheet: &[u8], call: Call, lent: &mut Lent) -> u8 {
-    let Lent { info, table, bytes, rows, totals, memory } = lent;
+    let Lent { info, table, bytes, rows, memory } = lent;
     match call {
         Call::Judge => library::judge(sheet, info),
         Call::Start => library::start(sheet, table, info),
         Call::Step(number) => library::step(sheet, table, number, info),
         Call::Picture => library::picture(sheet, table, bytes, info),
-        Call::Run => library::run(sheet, rows, table, totals, info),
+        Call::Run => library::run(sheet, rows, table, info),
         Call::Search(limit) => library::search(sheet, limit, bytes, info),
         Call::SearchWith(limit) => library::search_with(sheet, limit, memory, bytes, info),
     }

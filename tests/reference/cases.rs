@@ -1,22 +1,20 @@
 //! The cases of the programs crates/*_cases: what is due for each line, from the reference alone; tests/README.md says what the lines mean.
-//! What is due of few propositions is held to the worlds, one by one, every step and run to the equation of totals. A line that is no case
-//! is refused, with what is wrong with it.
+//! What is due of few propositions is held to the worlds, one by one. A line that is no case is refused, with what is wrong with it.
 
 use crate::calls::{Call, Lent};
-use crate::due::{accepted, due, table_of, verdict_of, NUMBERS, TOTALS};
+use crate::due::{accepted, due, table_of, verdict_of, NUMBERS};
 use crate::plans::{refusal_text, search, search_once, text, verdict_text, Found};
 use crate::random::{self, Random};
 use crate::roles;
 use crate::sheet::{read, Sheet};
 use crate::tables::ENTRIES;
-use crate::totals::{self, listed};
 use crate::worlds;
 
 /// The programs read so many bytes of input, so many bytes of a line, and lend at most so many to a picture.
 const INPUT: usize = 262_144;
 const LINE: usize = 8192;
 const BUFFER: u64 = 4096;
-/// What a row or a total that was not written holds.
+/// What a row that was not written holds.
 const UNWRITTEN: u64 = u64::MAX;
 
 #[derive(Clone, Copy, PartialEq, Eq)]
@@ -67,11 +65,6 @@ fn slots(numbers: &[u32]) -> u64 {
     digest((1..=ENTRIES).flat_map(|i| [numbers[i] as u64, numbers[ENTRIES + i] as u64]))
 }
 
-/// Candidates, dropped and removed, as a line.
-fn totals_text(totals: &[u64]) -> String {
-    format!("totals {}\n", listed(totals))
-}
-
 /// `accepted` or `refused N at P`, as a line.
 fn answer_text(answer: u8, lent: &Lent) -> String {
     if answer == 0 { String::from("accepted\n") } else { refusal_text(answer, lent.info[0]) }
@@ -87,8 +80,7 @@ struct Current {
 impl Current {
     /// A call on the current sheet and table: the answer that is due, and what is due in the slices.
     fn call(&self, what: Call, bytes: usize, rows: Vec<u64>) -> (u8, Lent) {
-        let (table, totals) = (self.table.to_vec(), vec![UNWRITTEN; TOTALS]);
-        let mut lent = Lent { info: vec![0; 4], table, bytes: vec![170; bytes], rows, totals, memory: Vec::new() };
+        let mut lent = Lent { info: vec![0; 4], table: self.table.to_vec(), bytes: vec![170; bytes], rows, memory: Vec::new() };
         let answer = due(&self.sheet, what, 0, &mut lent).unwrap_or(255);
         (answer, lent)
     }
@@ -153,29 +145,26 @@ impl Current {
         if let Some(sheet) = self.countable() {
             worlds::check_start(&sheet)?;
         }
-        self.told(answer, &lent, "")
+        self.told(answer, &lent)
     }
 
     fn step(&mut self, number: u64) -> Told {
         let (answer, lent) = self.call(Call::Step(number), 0, Vec::new());
-        if let Some(sheet) = accepted(&self.sheet).filter(|sheet| number < sheet.moves.len() as u64) {
+        if let Some(sheet) = self.countable().filter(|sheet| number < sheet.moves.len() as u64) {
             if let Ok(entries) = table_of(sheet.n, &self.table) {
-                totals::check_step(&sheet, &entries, number as usize)?;
-                if self.countable().is_some() {
-                    worlds::check_step(&sheet, &entries, number as usize)?;
-                }
+                worlds::check_step(&sheet, &entries, number as usize)?;
             }
         }
         if answer == 0 {
             self.count = lent.table[0] as u64;
             self.table.copy_from_slice(&lent.table);
         }
-        self.told(answer, &lent, &totals_text(&lent.info[1..]))
+        self.told(answer, &lent)
     }
 
-    /// The answer, the table that came back, the line of totals of a step, and how many worlds the table stands for.
-    fn told(&self, answer: u8, lent: &Lent, totals: &str) -> Told {
-        let mut told = format!("{}count {} slots {}\n{totals}", answer_text(answer, lent), self.count, slots(&self.table));
+    /// The answer, the table that came back, and how many worlds it stands for.
+    fn told(&self, answer: u8, lent: &Lent) -> Told {
+        let mut told = format!("{}count {} slots {}\n", answer_text(answer, lent), self.count, slots(&self.table));
         if let Some(sheet) = self.countable().filter(|_| answer == 0) {
             let entries = table_of(sheet.n, &self.table).map_err(|_| "a table that is not as described")?;
             told += &format!("worlds {}\n", worlds::of_table(sheet.n, &entries).len());
@@ -201,18 +190,14 @@ impl Current {
         Ok(text(&self.sheet))
     }
 
-    /// A run with these rows: its verdict, its table and its totals as lines, and the rows after it.
+    /// A run with these rows: its verdict and its table as lines, and the rows after it.
     fn ran(&self, rows: Vec<u64>) -> Result<(String, Vec<u64>), String> {
         let (answer, lent) = self.call(Call::Run, 0, rows);
-        if let Some(sheet) = accepted(&self.sheet) {
-            totals::check_run(&sheet)?;
-        }
         if let Some(sheet) = self.countable() {
             worlds::check_run(&sheet)?;
         }
         let verdict = if answer == 0 { verdict_text(verdict_of(&lent.info)) } else { answer_text(answer, &lent) };
-        let totals = totals_text(&lent.totals);
-        Ok((format!("{verdict}count {} slots {}\n{totals}", lent.table[0], slots(&lent.table)), lent.rows))
+        Ok((format!("{verdict}count {} slots {}\n", lent.table[0], slots(&lent.table)), lent.rows))
     }
 
     /// The run with so many rows, more than 65 as 65: how many are written, and their entries and clauses.

@@ -1,16 +1,15 @@
 //! Makes the same call of the library and of the reference, over slices with the same contents, and compares the answer and every number,
-//! slot, byte and row afterwards. Beside it, what the reference says is held to the count over worlds and to the equation of totals.
+//! slot, byte and row afterwards. Beside it, what the reference says is held to the count over worlds.
 
 use crate::calls::{call, Call, Lent};
 use crate::cases::hexadecimal;
-use crate::due::{accepted, due, numbers_of, table_of, verdict_of, NUMBERS, TOTALS};
+use crate::due::{accepted, due, numbers_of, table_of, verdict_of, NUMBERS};
 use crate::exchanges;
-use crate::plans::{refusal_text, run, run_text, text, Verdict};
+use crate::plans::{refusal_text, run, run_text, text};
 use crate::random::{bad_table, good_table, rubbish, Random};
 use crate::roles;
 use crate::sheet::{read, Set, Sheet};
 use crate::tables::{picture, start};
-use crate::totals::{self, Outside};
 use crate::worlds::{self, Checked};
 use std::collections::BTreeMap;
 
@@ -23,7 +22,7 @@ pub struct Comparer {
     /// Calls of the library among them.
     calls: u64,
     pub random: Random,
-    /// How often each answer was due: the call, its number, and the fates in a step, the verdict of a run or the end of a search.
+    /// How often each answer was due: the call, its number, and the verdict of a run or the end of a search.
     answers: BTreeMap<(&'static str, u8, &'static str), u64>,
     /// What the last search left in its memory.
     left: Vec<u32>,
@@ -41,23 +40,10 @@ fn name_of(what: Call) -> &'static str {
     }
 }
 
-/// The end of a call that was accepted. A run that is stopped or full later than at its first move has totals of the moves before.
+/// The end of a call that was accepted.
 fn end_of(what: Call, info: &[u64]) -> &'static str {
     match what {
-        Call::Step(_) => match (info[2], info[3]) {
-            (0, 0) => " all kept",
-            (_, 0) => " some dropped",
-            (0, _) => " some removed",
-            _ => " some dropped, some removed",
-        },
-        Call::Run => match verdict_of(info) {
-            Verdict::Reached => " reached",
-            Verdict::Short => " short",
-            Verdict::Stopped(1, _) => " stopped at 1",
-            Verdict::Stopped(..) => " stopped later",
-            Verdict::Full(1) => " full at 1",
-            Verdict::Full(_) => " full later",
-        },
+        Call::Run => [" reached", " short", " stopped", " full"][info[1] as usize],
         Call::Search(_) | Call::SearchWith(_) => [" reached", " full", " none"][info[1] as usize],
         _ => "",
     }
@@ -85,12 +71,11 @@ fn places<T: PartialEq + std::fmt::Display>(name: &str, before: &[T], library: &
 fn difference(sheet: &[u8], what: Call, lent: &Lent, library: (u8, &Lent), reference: (u8, &Lent)) -> String {
     let (got, due) = (library.1, reference.1);
     format!(
-        "{what:?}\nsheet: {}\nlent: info {}, table {}, bytes {}, rows {}, totals {}, memory {}\nlibrary: {} info {:?}\n\
-         reference: {} info {:?}{}{}{}{}{}",
-        hexadecimal(sheet), lent.info.len(), table_words(what, &lent.table), lent.bytes.len(), lent.rows.len(), lent.totals.len(),
-        lent.memory.len(), library.0, got.info, reference.0, due.info, places("table", &lent.table, &got.table, &due.table),
+        "{what:?}\nsheet: {}\nlent: info {}, table {}, bytes {}, rows {}, memory {}\nlibrary: {} info {:?}\nreference: {} info {:?}{}{}{}{}",
+        hexadecimal(sheet), lent.info.len(), table_words(what, &lent.table), lent.bytes.len(), lent.rows.len(), lent.memory.len(),
+        library.0, got.info, reference.0, due.info, places("table", &lent.table, &got.table, &due.table),
         places("bytes", &lent.bytes, &got.bytes, &due.bytes), places("rows", &lent.rows, &got.rows, &due.rows),
-        places("totals", &lent.totals, &got.totals, &due.totals), places("memory", &lent.memory, &got.memory, &due.memory),
+        places("memory", &lent.memory, &got.memory, &due.memory),
     )
 }
 
@@ -128,7 +113,6 @@ impl Comparer {
             table,
             bytes: (0..bytes).map(|_| r.next() as u8).collect(),
             rows: (0..rows).map(|_| r.next()).collect(),
-            totals: (0..r.pick(&[3, 3, 4, 8])).map(|_| r.next()).collect(),
             memory: Vec::new(),
         }
     }
@@ -166,16 +150,14 @@ impl Comparer {
         let mut lent = self.lent(None, 9, 200);
         lent.memory = self.memory(sheet);
         let r = &mut self.random;
-        match r.below(5) {
+        match r.below(4) {
             0 => lent.info.truncate(r.below(4)),
             1 => lent.table.truncate(r.pick(&[0, 1, 128, 129, 256])),
             2 => lent.bytes.truncate(r.below(8)),
-            3 => lent.totals.truncate(r.below(TOTALS)),
             _ => {
                 lent.info.truncate(r.below(4));
                 lent.table.truncate(r.below(257));
                 lent.rows.truncate(r.below(200));
-                lent.totals.truncate(r.below(4));
             }
         }
         self.one(sheet, what, 0, lent);
@@ -229,11 +211,8 @@ impl Comparer {
             let number = self.random.pick(&[count, count + 1, 255, 256, count << 8, 1 << 32, 1 << 63, u64::MAX]);
             self.step(bytes, number, table);
         }
-        if let Ok(entries) = table_of(sheet.n, table) {
-            self.checked(bytes, totals::check_step(sheet, &entries, number as usize));
-            if sheet.n <= 10 {
-                self.checked(bytes, worlds::check_step(sheet, &entries, number as usize));
-            }
+        if let (Ok(entries), true) = (table_of(sheet.n, table), sheet.n <= 10) {
+            self.checked(bytes, worlds::check_step(sheet, &entries, number as usize));
             if sheet.n <= 6 {
                 self.checked(bytes, worlds::check_picture(sheet, &entries));
             }
@@ -278,7 +257,6 @@ impl Comparer {
             let table = if i % 2 == 0 { good_table(&mut self.random, sheet.n) } else { bad_table(&mut self.random, sheet.n) };
             self.table(bytes, &sheet, &table);
         }
-        self.checked(bytes, totals::check_run(&sheet));
         if sheet.n <= 10 {
             self.checked(bytes, worlds::check_start(&sheet));
             self.checked(bytes, worlds::check_run(&sheet));
@@ -296,11 +274,9 @@ impl Comparer {
             self.one(bytes, what, 0, lent);
         }
         let mut first = self.lent(None, 0, 0);
-        if due(bytes, Call::Start, 0, &mut first) == Some(0) {
+        let accepted = due(bytes, Call::Start, 0, &mut first) == Some(0);
+        if accepted {
             self.one(bytes, Call::Step(0), 0, first);
-        }
-        if let Some(sheet) = accepted(bytes) {
-            self.checked(bytes, totals::check_run(&sheet));
         }
     }
 
@@ -325,7 +301,7 @@ impl Comparer {
             last = name;
         }
         let others = self.passed + self.failed - self.calls;
-        let compared = format!("compared: {} calls of the library, {others} counts over worlds, totals and texts", self.calls);
+        let compared = format!("compared: {} calls of the library, {others} counts over worlds and texts", self.calls);
         format!("{compared}\nanswers, and how often each was due:{text}")
     }
 
@@ -336,23 +312,6 @@ impl Comparer {
         if let Some(library) = self.library_text(&bytes[..bytes.len().min(4096)]) {
             self.count(library == expected, || format!("{name}, library:\n{library}expected:\n{expected}"));
         }
-    }
-
-    /// The totals of a run from outside, from the reference and from the library's run.
-    pub fn totals(&mut self, outside: &Outside) {
-        let Outside { name, sheet, due, .. } = outside;
-        let reference = totals::due(sheet);
-        self.count(reference == *due, || format!("{name}, totals: reference {reference}, expected {due}"));
-        if let Some(library) = self.library_totals(sheet) {
-            self.count(library == *due, || format!("{name}, totals: library {library}, expected {due}"));
-        }
-    }
-
-    fn library_totals(&mut self, sheet: &[u8]) -> Option<String> {
-        let mut lent = self.lent(None, 0, 195);
-        let number = call(sheet, Call::Run, &mut lent)?;
-        let refused = if number == 0 { None } else { Some((number, lent.info[0])) };
-        Some(totals::words(&lent.totals[..TOTALS], refused))
     }
 
     fn library_text(&mut self, bytes: &[u8]) -> Option<String> {

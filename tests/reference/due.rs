@@ -1,5 +1,5 @@
 //! What each call of the C interface has to answer and to write, from sheet.rs, tables.rs and plans.rs: the table as 257 numbers, the checks
-//! of a lent table and of lent lengths, the totals, and the order of the numbers.
+//! of a lent table and of lent lengths, and the order of the numbers.
 
 use crate::calls::{Call, Lent};
 use crate::plans::{run, search, Found, Verdict};
@@ -7,8 +7,6 @@ use crate::sheet::{lies_in, masks, read, state, Fault, Literal, Set, Sheet};
 use crate::tables::{picture, picture_bytes, start, step, ENTRIES};
 
 pub const NUMBERS: usize = 1 + 2 * ENTRIES;
-/// Candidates, dropped, removed.
-pub const TOTALS: usize = 3;
 
 /// A table with "unused slots [..] zero": its count, the masks of true propositions, the masks of false ones.
 pub fn numbers_of(table: &[Set]) -> [u32; NUMBERS] {
@@ -68,16 +66,16 @@ fn start_due(bytes: &[u8], lent: &mut Lent) -> Result<More, Fault> {
 }
 
 /// "7 or 8; 22; [..] 24; 25; 21"; "7 move number not on the sheet (in a single step: position 0)"; "A refused step returns the given
-/// table". Document 02, W4: "A step passes on its totals"; "A refused step [..], and a full step, reports zeros."
+/// table".
 fn step_due(bytes: &[u8], number: u64, lent: &mut Lent) -> Result<More, Fault> {
     let sheet = read(bytes)?;
     if number >= sheet.moves.len() as u64 {
         return Err(state(7));
     }
     let table = table_of(sheet.n, &lent.table)?;
-    let (next, totals) = step(&sheet, &table, number as usize)?;
+    let next = step(&sheet, &table, number as usize)?;
     lent.table[..NUMBERS].copy_from_slice(&numbers_of(&next));
-    Ok(totals.numbers())
+    Ok([0; 3])
 }
 
 /// "picture (a table, a buffer; it gives the clause count, 0 if refused)"; 22, then 21, then "23 for the picture's own length"; "later
@@ -94,10 +92,9 @@ fn picture_due(bytes: &[u8], lent: &mut Lent) -> Result<More, Fault> {
 }
 
 /// "The caller lends 65 rows or more, each of three numbers: place, entries, picture clauses (257 if that picture is full); rows of places
-/// arrived at are written, the rest kept." Document 02, W4: "A refused [..] run [..] reports zeros."
+/// arrived at are written, the rest kept."
 fn run_due(bytes: &[u8], lent: &mut Lent) -> Result<More, Fault> {
     lent.table[..NUMBERS].fill(0);
-    lent.totals[..TOTALS].fill(0);
     let sheet = read(bytes)?;
     if lent.rows.len() / 3 < 65 {
         return Err(state(23));
@@ -107,7 +104,6 @@ fn run_due(bytes: &[u8], lent: &mut Lent) -> Result<More, Fault> {
         lent.rows[3 * place..3 * place + 3].copy_from_slice(&[place as u64, *entries as u64, *clauses as u64]);
     }
     lent.table[..NUMBERS].copy_from_slice(&numbers_of(&run.table));
-    lent.totals[..TOTALS].copy_from_slice(&run.totals.numbers());
     Ok(match run.verdict {
         Verdict::Reached => [0, 0, 0],
         Verdict::Short => [1, 0, 0],
@@ -134,12 +130,11 @@ fn search_due(bytes: &[u8], limit: u64, budget: usize, lent: &mut Lent) -> Optio
     }))
 }
 
-/// "255 if a lent slice is too short (info: 4 numbers; table: 257; totals: 3; plan: 8): then nothing at all is written."
+/// "255 if a lent slice is too short (info: 4 numbers; table: 257; plan: 8): then nothing at all is written."
 fn too_short(call: Call, lent: &Lent) -> bool {
     let table = matches!(call, Call::Start | Call::Step(_) | Call::Picture | Call::Run) && lent.table.len() < NUMBERS;
-    let totals = call == Call::Run && lent.totals.len() < TOTALS;
     let plan = matches!(call, Call::Search(_) | Call::SearchWith(_)) && lent.bytes.len() < 8;
-    lent.info.len() < 4 || table || totals || plan
+    lent.info.len() < 4 || table || plan
 }
 
 /// The answer that is due; what is due in the lent slices is in `lent` afterwards, but for the memory of a search, of which nothing is due

@@ -1,5 +1,5 @@
 //! Sheets and tables at the limits of document 01: counts one below, at and above each bound, 128 and 129 entries, 256 and 257 clauses,
-//! 64 moves, 32 propositions, the longest sheet, splits into the most pieces, the most entries dropped or removed for one.
+//! 64 moves, 32 propositions, the longest sheet, splits into the most pieces.
 
 use crate::due::NUMBERS;
 use crate::random::{encode, literal, literals, with_rubbish, Random};
@@ -177,18 +177,6 @@ fn entries(r: &mut Random) -> Vec<Case> {
     cases
 }
 
-/// 128 entries; the image of one of them lies in those of all others: those before it are removed, those after it dropped.
-fn fates(r: &mut Random) -> Case {
-    let sheet = plain(9, vec![effect(vec![], vec![yes(8)])]);
-    let others: Vec<Set> = (0..127).map(|i| [seven_bits(i), vec![yes(8)]].concat()).collect();
-    let tables = [0, 1, r.range(2, 125), 126, 127].map(|at| {
-        let mut table = others.clone();
-        table.insert(at, vec![no(8)]);
-        with_rubbish(r, &table)
-    });
-    Case { bytes: encode(&sheet), tables: tables.to_vec() }
-}
-
 /// 64 or 128 entries and moves in any order of which some bring the goal about, some fill the table, some are undefined or do nothing: a
 /// search has to tell which plan comes first.
 fn races(r: &mut Random) -> Case {
@@ -331,7 +319,6 @@ pub fn limits(r: &mut Random) -> Vec<Case> {
         cases.extend([races(r), races(r), races(r), pictured(r), choosing(r), choosing(r)]);
     }
     cases.extend(entries(r));
-    cases.push(fates(r));
     cases.extend(clauses(r));
     cases
 }

@@ -1,9 +1,7 @@
 //! reference SEED SMALL LARGE [FOLDER]: compares the proved library with an independent implementation of the documents, on SMALL small and
-//! LARGE large random sheets, on sheets at the format's limits, and in FOLDER on every NAME.sheet with its NAME.expected and every line of
-//! totals.txt.
+//! LARGE large random sheets, on sheets at the format's limits, and on every NAME.sheet with its NAME.expected in FOLDER.
 //! reference due LAYER: what is due for the cases of the program crates/LAYER_cases, from the standard input; LAYER: sheet, table or plan.
 //! reference text: what `check` prints for the sheet on the standard input.
-//! reference totals: the lines of totals.txt from the standard input, with the totals that are due.
 //! reference lines LAYER SEED COUNT: lines of cases on COUNT random sheets.
 //! Nothing but the first of these calls the library. Status 1 if something differs, 2 if the input is not as it should be.
 
@@ -18,7 +16,6 @@ mod random;
 mod roles;
 mod sheet;
 mod tables;
-mod totals;
 mod worlds;
 
 use cases::Layer;
@@ -28,7 +25,7 @@ use std::io::Read;
 use std::path::Path;
 use std::process::ExitCode;
 
-const USAGE: &str = "usage: reference SEED SMALL LARGE [FOLDER] | due LAYER | text | totals | lines LAYER SEED COUNT";
+const USAGE: &str = "usage: reference SEED SMALL LARGE [FOLDER] | due LAYER | text | lines LAYER SEED COUNT";
 /// So many sheets whose moves share a lamp.
 const LAMPS: usize = 3000;
 
@@ -60,21 +57,6 @@ fn large(c: &mut Comparer) {
     }
 }
 
-fn read_text(path: &Path) -> Result<String, String> {
-    std::fs::read_to_string(path).map_err(|e| format!("{}: {e}", path.display()))
-}
-
-/// Every line of a file of totals.
-fn totals_in(c: &mut Comparer, path: &Path) -> Result<usize, String> {
-    let text = read_text(path)?;
-    let list = totals::outside(&text).map_err(|wrong| format!("{}: {wrong}", path.display()))?;
-    for outside in &list {
-        c.totals(outside);
-        c.sheet(&outside.sheet, &[], 2, 100);
-    }
-    Ok(list.len())
-}
-
 /// Every NAME.sheet of the folder with its NAME.expected.
 fn folder(c: &mut Comparer, folder: &Path) -> Result<usize, String> {
     let list = std::fs::read_dir(folder).map_err(|e| format!("{}: {e}", folder.display()))?;
@@ -84,7 +66,7 @@ fn folder(c: &mut Comparer, folder: &Path) -> Result<usize, String> {
     for path in &paths {
         let expected = path.with_extension("expected");
         let bytes = std::fs::read(path).map_err(|e| format!("{}: {e}", path.display()))?;
-        let text = read_text(&expected)?;
+        let text = std::fs::read_to_string(&expected).map_err(|e| format!("{}: {e}", expected.display()))?;
         c.text(&path.display().to_string(), &bytes, &text);
         c.sheet(&bytes, &[], 2, 100);
     }
@@ -96,8 +78,7 @@ fn compare(seed: u64, small_count: u64, large_count: u64, path: Option<&str>) ->
     let mut c = Comparer::new(seed);
     if let Some(path) = path {
         let count = folder(&mut c, Path::new(path))?;
-        let runs = totals_in(&mut c, &Path::new(path).join("totals.txt"))?;
-        println!("folder: {count} sheets, totals of {runs} runs, {} passed, {} failed", c.passed, c.failed);
+        println!("folder: {count} sheets, {} passed, {} failed", c.passed, c.failed);
     }
     // The sheets at the limits, once for each ten thousand small sheets; the slowest of them once, if there are large sheets at all.
     for _ in 0..small_count.div_ceil(10_000) {
@@ -132,10 +113,6 @@ fn input() -> Result<Vec<u8>, String> {
     Ok(bytes)
 }
 
-fn input_text() -> Result<String, String> {
-    String::from_utf8(input()?).map_err(|e| e.to_string())
-}
-
 fn layer(name: &str) -> Result<Layer, String> {
     Layer::named(name).ok_or_else(|| String::from(USAGE))
 }
@@ -147,9 +124,11 @@ fn number(word: &str) -> Result<u64, String> {
 /// What the arguments ask for; false if something differs.
 fn done(words: &[&str]) -> Result<bool, String> {
     match words {
-        ["due", name] => print!("{}", cases::answers(layer(name)?, &input_text()?)?),
+        ["due", name] => {
+            let text = String::from_utf8(input()?).map_err(|e| e.to_string())?;
+            print!("{}", cases::answers(layer(name)?, &text)?);
+        }
         ["text"] => print!("{}", plans::text(&input()?)),
-        ["totals"] => print!("{}", totals::lines(&input_text()?)?),
         ["lines", name, seed, count] => print!("{}", cases::lines(layer(name)?, &mut Random::new(number(seed)?), number(count)?)),
         [seed, small, large, path @ ..] if path.len() < 2 => {
             return compare(number(seed)?, number(small)?, number(large)?, path.first().copied());

@@ -1,7 +1,7 @@
-//! Document 01 once more: the run, the search and the text of `check`, over tables.rs. The totals of a run are document 02's W4.
+//! Document 01 once more: the run, the search and the text of `check`, over tables.rs.
 
 use crate::sheet::{read, state, Fault, Set, Sheet};
-use crate::tables::{picture, start, step, Totals};
+use crate::tables::{picture, start, step};
 use std::collections::HashSet;
 use std::hash::Hash;
 
@@ -19,8 +19,6 @@ pub struct Run {
     pub verdict: Verdict,
     /// "It returns the last table it had."
     pub table: Vec<Set>,
-    /// Document 02, W4: "the totals of all its defined steps that weren't full".
-    pub totals: Totals,
 }
 
 /// "Goal [..]; a world is in the goal if each [clause] has a literal true there": every world of an entry has it if the entry has it, since
@@ -34,20 +32,16 @@ pub fn run(sheet: &Sheet) -> Result<Run, Fault> {
     let mut table = start(sheet)?;
     let row = |table: &[Set]| (table.len(), picture(table).map_or(257, |clauses| clauses.len()));
     let mut rows = vec![row(&table)];
-    let mut totals = Totals::default();
     for (place, number) in (1..).zip(&sheet.plan) {
         match step(sheet, &table, *number as usize) {
-            Ok((next, of_step)) => {
-                table = next;
-                totals.add(of_step);
-            }
-            Err(Fault { number: 21, .. }) => return Ok(Run { rows, verdict: Verdict::Full(place), table, totals }),
-            Err(fault) => return Ok(Run { rows, verdict: Verdict::Stopped(place, fault.number), table, totals }),
+            Ok(next) => table = next,
+            Err(Fault { number: 21, .. }) => return Ok(Run { rows, verdict: Verdict::Full(place), table }),
+            Err(fault) => return Ok(Run { rows, verdict: Verdict::Stopped(place, fault.number), table }),
         }
         rows.push(row(&table));
     }
     let verdict = if in_goal(sheet, &table) { Verdict::Reached } else { Verdict::Short };
-    Ok(Run { rows, verdict, table, totals })
+    Ok(Run { rows, verdict, table })
 }
 
 #[derive(Clone, PartialEq, Eq, Debug)]
@@ -81,7 +75,7 @@ pub fn search(sheet: &Sheet, limit: u64, mut budget: usize) -> Option<Result<Fou
                 budget = budget.checked_sub(1)?;
                 let next = [plan.as_slice(), &[number as u8]].concat();
                 match step(sheet, table, number) {
-                    Ok((table, _)) => longer.push((next, table)),
+                    Ok(table) => longer.push((next, table)),
                     // A plan of this length that is reached and comes earlier is the answer; one that is full ends the trying.
                     Err(Fault { number: 21, .. }) => {
                         let earlier = longer.into_iter().find(|(_, table)| in_goal(sheet, table));
@@ -132,7 +126,7 @@ pub fn search_once(sheet: &Sheet, limit: u64) -> Result<Found, Fault> {
     }
     let first = Some(start(sheet)?);
     let next = |table: &Option<Vec<Set>>, number| match step(sheet, table.as_ref()?, number) {
-        Ok((table, _)) => Some(Some(table)),
+        Ok(table) => Some(Some(table)),
         Err(Fault { number: 21, .. }) => Some(None),
         Err(_) => None,
     };

@@ -1,30 +1,22 @@
-//! Document 01 once more: tables and pictures, over sheet.rs. Every working order is 01's own, with no short cut. The totals of a step are
-//! document 02's W4.
+//! Document 01 once more: tables and pictures, over sheet.rs. Every working order is 01's own, with no short cut.
 
 use crate::sheet::{contradicts, has_pair, joined, lies_in, masks, set_of, state, Effect, Fault, Move, Set, Sheet};
 
 /// "If the capacity is still taken after the removal, the table is full."
 struct Full;
 
-/// Document 02, W4: "Putting a candidate now tells its fate: dropped, or added with so many entries removed."
-enum Fate {
-    Dropped,
-    Added(usize),
-}
-
 /// "Putting a candidate: if some entry's literals all lie in it, it is dropped. Otherwise entries that contain it are removed, the others
 /// keep their order, and it goes last."
-fn put(table: &mut Vec<Set>, candidate: Set, capacity: usize) -> Result<Fate, Full> {
+fn put(table: &mut Vec<Set>, candidate: Set, capacity: usize) -> Result<(), Full> {
     if table.iter().any(|entry| lies_in(entry, &candidate)) {
-        return Ok(Fate::Dropped);
+        return Ok(());
     }
-    let removed = table.iter().filter(|entry| lies_in(&candidate, entry)).count();
     table.retain(|entry| !lies_in(&candidate, entry));
     if table.len() >= capacity {
         return Err(Full);
     }
     table.push(candidate);
-    Ok(Fate::Added(removed))
+    Ok(())
 }
 
 pub const ENTRIES: usize = 128;
@@ -99,48 +91,18 @@ fn split(piece: Set, effects: &[Effect], pieces: &mut Vec<Set>) {
     }
 }
 
-/// Document 02, W4: the candidates of a step, "the number of pieces by the split rule of document 01", how many of them were dropped, and
-/// how many entries were removed. For a run, the sums over its steps.
-#[derive(Clone, Copy, Default, Debug)]
-pub struct Totals {
-    pub candidates: usize,
-    pub dropped: usize,
-    pub removed: usize,
-}
-
-impl Totals {
-    fn tell(&mut self, fate: Fate) {
-        match fate {
-            Fate::Dropped => self.dropped += 1,
-            Fate::Added(removed) => self.removed += removed,
-        }
-    }
-
-    pub fn add(&mut self, step: Totals) {
-        self.candidates += step.candidates;
-        self.dropped += step.dropped;
-        self.removed += step.removed;
-    }
-
-    pub fn numbers(self) -> [u64; 3] {
-        [self.candidates, self.dropped, self.removed].map(|number| number as u64)
-    }
-}
-
 /// "Step: the precondition must lie in every entry. [..] Results of satisfied conditions replace their complements, and the piece is put in
-/// the new table. A contradiction anywhere is reported before a full table." Document 02, W4: "A step passes on its totals".
-pub fn step(sheet: &Sheet, table: &[Set], number: usize) -> Result<(Vec<Set>, Totals), Fault> {
+/// the new table. A contradiction anywhere is reported before a full table."
+pub fn step(sheet: &Sheet, table: &[Set], number: usize) -> Result<Vec<Set>, Fault> {
     let Move { precondition, effects } = &sheet.moves[number];
     if table.iter().any(|entry| !lies_in(precondition, entry)) {
         return Err(state(24));
     }
     let mut fresh = Vec::new();
-    let mut totals = Totals::default();
     let mut full = false;
     for entry in table {
         let mut pieces = Vec::new();
         split(entry.clone(), effects, &mut pieces);
-        totals.candidates += pieces.len();
         for piece in pieces {
             let satisfied = effects.iter().filter(|effect| lies_in(&effect.condition, &piece));
             let results = set_of(satisfied.flat_map(|effect| effect.result.clone()).collect());
@@ -149,14 +111,11 @@ pub fn step(sheet: &Sheet, table: &[Set], number: usize) -> Result<(Vec<Set>, To
             }
             if !full {
                 let kept: Set = piece.into_iter().filter(|x| !results.contains(&x.complement())).collect();
-                match put(&mut fresh, joined(&kept, &results), ENTRIES) {
-                    Ok(fate) => totals.tell(fate),
-                    Err(Full) => full = true,
-                }
+                full = put(&mut fresh, joined(&kept, &results), ENTRIES).is_err();
             }
         }
     }
-    if full { Err(state(21)) } else { Ok((fresh, totals)) }
+    if full { Err(state(21)) } else { Ok(fresh) }
 }
 
 /// "the first entry's literals as one-literal clauses, ascending; for each next entry a fresh table of at most 256 clauses, into which

@@ -101,7 +101,7 @@ pub fn check_start(sheet: &Sheet) -> Checked {
 pub fn check_step(sheet: &Sheet, table: &[Set], number: usize) -> Checked {
     let due = image(&sheet.moves[number], &of_table(sheet.n, table));
     match step(sheet, table, number) {
-        Ok((next, _)) => same("step", Ok(of_table(sheet.n, &next)), due),
+        Ok(next) => same("step", Ok(of_table(sheet.n, &next)), due),
         Err(fault) if fault.number == 21 => same("step full, though undefined", false, due.is_err()),
         Err(fault) => same("step", Err(fault.number), due),
     }

@@ -217,13 +217,6 @@ pub fn write_table<'a>(count: usize, trues: &'a [u32; 128], falses: &'a [u32; 12
     );
 }
 
-// Where the candidates of a step or a run went: how many there were, how many were dropped, how many entries were removed, as a line.
-pub fn write_totals(candidates: usize, dropped: usize, removed: usize) {
-    io::write_all(STDOUT_FILENO, b"totals ");
-    io::print_decimal(STDOUT_FILENO, candidates as u64);
-    write_pair(b" ", dropped as u64, b" ", removed as u64);
-}
-
 // A byte as a wider number.
 fn wide(x: u8) -> u64 {
     x as u64

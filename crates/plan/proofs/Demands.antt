@@ -1,11 +1,9 @@
--- The three demands and the requests W2 and W4, as specs/Demands states them, each proved whole. Assumes nothing.
+-- The three demands and the request W2, as specs/Demands states them, each proved whole. Assumes nothing.
 use mathlib.Core.Path.{◌≡◌, refl, ap}
 use mathlib.Core.List.{List}
-use mathlib.Core.Option.{some}
-use Prim.Native.Nat.{ℕ, ◌<◌}
+use Prim.Native.Nat.{ℕ}
 use native.Mathlib.Omega.{arith}
-use lib.ListN.{length, get_or}
-use Rattle.sheet.specs.declared.Literals.{Literals}
+use lib.ListN.{length}
 use Rattle.sheet.specs.Problem.{Action, Statement}
 use Rattle.sheet.specs.Format.{sheet_of, refused}
 use Rattle.sheet.specs.Faults.{Says}
@@ -19,22 +17,17 @@ use Rattle.table.proofs.laws.answers.CallTables as returned
 use Rattle.table.proofs.laws.steps.PaperWorlds as paper
 use Rattle.table.proofs.laws.answers.UnreadSlots as unread
 use Rattle.table.specs.declared.TableAnswer.{TableAnswer}
-use Rattle.table.specs.declared.StepAnswer.{StepAnswer}
 use Rattle.table.specs.PictureCalls.{refusal, picture_of}
-use Rattle.table.specs.declared.Totals.{Totals}
-use Rattle.table.specs.Totals.{step_totals}
-use Rattle.plan.specs.Run.{reached, short, stopped, totals_list}
-use Rattle.plan.specs.inner.TableRuns.{moves_taken, table_at}
+use Rattle.plan.specs.Run.{reached, short, stopped}
 use Rattle.plan.specs.Calls.{verdict_of, refused_run, refused_search}
 use Rattle.plan.specs.Demand3.{SamePlanSheet}
 use Rattle.plan.specs.Demands.{MaskDemand, JudgeDemand, StartDemand, StepDemand, PictureDemand, RunDemand, SearchDemand, BackDemand}
 use Rattle.plan.specs.Demands.{Demand1, PaperDemand, TableWorlds, RunWorlds, SearchFinds, Demand2, ExchangeDemand, FinalDemand}
-use Rattle.plan.specs.Demands.{TwoPlans, Demand3, RequestW2, RequestW4, FaultDemand}
+use Rattle.plan.specs.Demands.{TwoPlans, Demand3, RequestW2, FaultDemand}
 use Rattle.plan.specs.declared.RunAnswer.{RunAnswer}
 use Rattle.plan.specs.declared.SearchAnswer.{SearchAnswer}
 use Rattle.plan.proofs.laws.runs.RunRefusals as refusals
 use Rattle.plan.proofs.laws.runs.RunPlaces as places
-use Rattle.plan.proofs.laws.runs.RunTotals as totals
 use Rattle.plan.proofs.laws.runs.RunDemands as runs
 use Rattle.plan.proofs.laws.searches.SearchRefusals as unfound
 use Rattle.plan.proofs.laws.searches.CarriedPlans as carried
@@ -79,7 +72,7 @@ fault_first s k p j =
     let e = (sheets.judge_refuses s k p).0 j in
     record {
       start = ap (λ (r : TableAnswer). r.answer) (tables.start_fault s k p e);
-      step = λ t m. ap (λ (r : StepAnswer). r.answer) (tables.step_fault s t m k p e);
+      step = λ t m. ap (λ (r : TableAnswer). r.answer) (tables.step_fault s t m k p e);
       picture = λ t len. picture_fault s t len k p e;
       run = λ rows. ap (λ (r : RunAnswer). r.verdict) (refusals.run_fault s rows k p e);
       search = λ limit. ap (λ (r : SearchAnswer). r.kind) (unfound.search_fault s limit k p e);
@@ -138,7 +131,7 @@ search s x says = record { on_8 = unfound.search_above s x says; start = unfound
 back : (s : List ℕ) → BackDemand s
 back s = record {
   refused_start = tables.start_back s;
-  refused_step_lem = tables.step_back s;
+  refused_step = tables.step_back s;
   refused_picture = tables.picture_back s;
   refused_run_lem = λ rows k q e. (refusals.run_back s (length rows) k q e, refusals.run_rows_kept s rows k q e);
   rows_length = places.rows_length s;
@@ -257,17 +250,3 @@ request_w2 = record {
   commute = commuting.commute;
   exchange = demand_3;
 }
-
--- ---- the request W4
--- one for each move taken, from any table and in any capacity
-pub run_totals_lem : (cap : ℕ) (plan : List Action) (t : List Literals) → length (totals_list cap plan t) ≡ moves_taken cap plan t
-run_totals_lem = totals.totals_length
-
--- at each place those of the step from the table that the run had there
-pub run_totals_at : (cap : ℕ) (plan : List Action) (t : List Literals) (i : ℕ) (u : List Literals) (a d : Action) (e : Totals)
-    → table_at cap i plan t ≡ some u → i < moves_taken cap plan t → get_or plan i d ≡ a
-    → get_or (totals_list cap plan t) i e ≡ step_totals cap a u
-run_totals_at = totals.totals_at
-
-pub request_w4 : RequestW4
-request_w4 = record { totals = places.run_told; zeros = refusals.run_no_totals }

@@ -8,23 +8,21 @@ use Rattle.sheet.specs.Format.{Judgement, accepted, refused}
 use Rattle.table.specs.Minimal.{Outcome}
 use Rattle.table.specs.Start.{start_table}
 use Rattle.table.specs.Entries.{table_of}
-use Rattle.table.specs.Totals.{no_totals}
 use Rattle.plan.specs.declared.Row.{Row}
 use Rattle.plan.specs.declared.RunAnswer.{RunAnswer}
 use Rattle.plan.specs.declared.Verdict as case
 use Rattle.plan.specs.declared.SearchAnswer.{SearchAnswer}
-use Rattle.plan.specs.Run.{Verdict, run_from, last_table, rows_from, totals_from, actions_of}
+use Rattle.plan.specs.Run.{Verdict, run_from, last_table, rows_from, actions_of}
 use Rattle.plan.specs.Search.{Answer, found, full_at, nothing, first_of, plans_up_to}
 use Rattle.plan.specs.Cases.{RunEnd, verdict_case, SearchEnd, kind_case}
 
 -- ---- run: a fault of the sheet; 23 for fewer than 65 rows; 20 or 21 of the start; then the plan. Refused: a table with count 0 and all
--- slots zero, totals of zeros, and no row written
--- how a run that was not refused ended
+-- slots zero, and no row written how a run that was not refused ended
 unfoldable pub verdict_of : Verdict → case.Verdict
 verdict_of v = verdict_case (RunEnd.ended v)
 
 unfoldable pub refused_run : ℕ → ℕ → RunAnswer
-refused_run number position = record { verdict = verdict_case (RunEnd.refused number position); table = table_of []; totals = no_totals }
+refused_run number position = record { verdict = verdict_case (RunEnd.refused number position); table = table_of [] }
 
 -- the run of any plan of a problem
 unfoldable pub planned : Problem → List ℕ → Outcome → RunAnswer
@@ -33,7 +31,6 @@ planned p plan (Outcome.table t) =
     record {
       verdict = verdict_of (run_from most_entries p.goal 0 (actions_of p plan) t);
       table = table_of (last_table most_entries (actions_of p plan) t);
-      totals = totals_from most_entries (actions_of p plan) t;
     }
 
 unfoldable pub run_of : Judgement → ℕ → RunAnswer

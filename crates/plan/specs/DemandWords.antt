@@ -11,7 +11,6 @@ use Rattle.sheet.specs.Problem.{Action, Problem, Statement}
 use Rattle.sheet.specs.Format.{sheet_of}
 use Rattle.sheet.specs.Encoding.{encode}
 use Rattle.table.specs.declared.Table.{Table}
-use Rattle.table.specs.declared.Totals.{Totals}
 use Rattle.table.specs.Worlds.{and_then, Starting}
 use Rattle.table.specs.Calls.{start_of, step_of}
 use Rattle.table.specs.PictureCalls.{picture_of, buffer_of}
@@ -56,11 +55,6 @@ stepped s (index ∷ rest) t = and_then (when_accepted (step_of (sheet_of s) t i
 -- the table after some moves, by the calls start and step
 abbrev pub arrived : List ℕ → List ℕ → Option Table
 arrived s ms = and_then (when_accepted (start_of (sheet_of s)).answer (start_of (sheet_of s)).table) (λ t. stepped s ms t)
-
--- what the call step tells of each of some moves from the table t
-abbrev pub told_along : List ℕ → List ℕ → Table → List Totals
-told_along s [] t = []
-told_along s (index ∷ rest) t = (step_of (sheet_of s) t index).totals ∷ told_along s rest (step_of (sheet_of s) t index).table
 
 -- the plan comes to place k - 1, and the call step by its k-th move gives the number N there
 pub record StepRefused (s : List ℕ) (plan : List ℕ) (k N : ℕ) : Type 0 where

@@ -1,12 +1,12 @@
--- The three demands, sentence by sentence, and after them the requests W2 and W4 of document 02: statements only, over the calls' own
--- definitions (`judge_of`, `start_of`, `step_of`, `picture_of`, `buffer_of`, `run_of`, `rows_after`, `search_of` on what the bytes say, `sheet_of s`)
--- and over worlds (`Starting`, `step_world`, `run_world`, `InGoal`); where document 01 states a working order, also over that (the form of a
--- sheet, `grow_all`, `put_images`, `picture`).
+-- The three demands, sentence by sentence, and after them the request W2 of document 02: statements only, over the calls' own definitions
+-- (`judge_of`, `start_of`, `step_of`, `picture_of`, `buffer_of`, `run_of`, `rows_after`, `search_of` on what the bytes say, `sheet_of s`) and over
+-- worlds (`Starting`, `step_world`, `run_world`, `InGoal`); where document 01 states a working order, also over that (the form of a sheet,
+-- `grow_all`, `put_images`, `picture`).
 -- A demand is a record; its fields are the sentences, put in groups, one record to a call, so that what a group speaks of is said once: the
 -- bytes s, which say x (`Says s x`: they are accepted as the sheet of x), a table t, a move m, rows, a limit. These are any; a field says
 -- what else it takes. Proved in proofs/Demands.
 -- Words, in reading order: sheet/specs/Lists, Literals, Problem, Form, Format, Encoding, Calls, Faults; table/specs/Worlds, Minimal,
--- Entries, Start, Step, Totals, Picture, Prime, Calls, PictureCalls, CallWords; beside this page Run, Search, Cases, Calls, Meaning, Order,
+-- Entries, Start, Step, Picture, Prime, Calls, PictureCalls, CallWords; beside this page Run, Search, Cases, Calls, Meaning, Order,
 -- Exchange, Demand3, DemandWords.
 -- The program `check` prints what `report` writes (specs/Text), by the same run; of it the page has only the output that document 01 shows.
 use Rattle.std.specs.Prelude.{◌≡◌, Bool, true, false, not, ◌&&◌, ◌||◌, ◌⊎◌, ◌↔◌, ℕ, ◌+◌, ◌*◌, ◌/◌, ◌^◌, ◌≤◌, ◌<◌, T, length, take, drop, get_or, replicate}
@@ -31,21 +31,20 @@ use Rattle.table.specs.Start.{start_clauses, grow_all}
 use Rattle.table.specs.Picture.{Ascending, picture, picture_bytes}
 use Rattle.table.specs.Prime.{Exactly}
 use Rattle.table.specs.Entries.{entries, table_of}
-use Rattle.table.specs.Totals.{no_totals}
 use Rattle.table.specs.Calls.{start_of, action_at, step_of}
 use Rattle.table.specs.PictureCalls.{picture_of, buffer_of}
 use Rattle.table.specs.CallWords.{OnSheet, AsDescribed, ZeroAfter, Starts, WorldOf, Unsure, Contradictory, Untaken, StartStops, images, put_images}
 use Rattle.plan.specs.declared.Row.{Row}
 use Rattle.plan.specs.declared.Verdict.TheVariants as ran
 use Rattle.plan.specs.declared.Kind.TheVariants as kind
-use Rattle.plan.specs.Run.{actions_of, sum_totals}
+use Rattle.plan.specs.Run.{actions_of}
 use Rattle.plan.specs.Calls.{run_of, rows_after, search_of}
 use Rattle.plan.specs.Text.{ascii, output_of}
 use Rattle.plan.specs.Meaning.{Ends, Outside, Every, Some, StopsAt}
 use Rattle.plan.specs.Order.{Earlier, PlanOf}
 use Rattle.plan.specs.Exchange.{touch, touch_anywhere, exchanges}
 use Rattle.plan.specs.Demand3.{Class, class_of, run_full, run_refused, SamePlanSheet}
-use Rattle.plan.specs.DemandWords.{Solves, Spoiled, taken, Becomes, arrived, told_along, StepRefused, clauses_or, final_of, run_with, Misses, FirstRun, plan_found, InResult, ReadIn, NamedIn, TouchesAt, PutsOut, lamp_sheet}
+use Rattle.plan.specs.DemandWords.{Solves, Spoiled, taken, Becomes, arrived, StepRefused, clauses_or, final_of, run_with, Misses, FirstRun, plan_found, InResult, ReadIn, NamedIn, TouchesAt, PutsOut, lamp_sheet}
 
 -- ==== Demand 1: "A sheet, table, move or length that document 01 admits is worked through to the answer stated there. Anything else comes
 -- back with the number of its first fault, any table handed in as it was, and every lent byte and row untouched."
@@ -225,7 +224,7 @@ pub record BackDemand (s : List ℕ) : Type 0 where
   pub refused_start : (number position : ℕ) → (start_of (sheet_of s)).answer ≡ Refused number position
       → (start_of (sheet_of s)).table ≡ table_of []
   -- "A refused step returns the given table"
-  pub refused_step_lem : (t : Table) (index number position : ℕ) → (step_of (sheet_of s) t index).answer ≡ Refused number position
+  pub refused_step : (t : Table) (index number position : ℕ) → (step_of (sheet_of s) t index).answer ≡ Refused number position
       → (step_of (sheet_of s) t index).table ≡ t
   -- "it gives the clause count, 0 if refused"; "every lent byte … untouched"
   pub refused_picture : (t : Table) (buffer : List ℕ) (number position : ℕ)
@@ -246,8 +245,7 @@ pub record BackDemand (s : List ℕ) : Type 0 where
   -- "unused slots are not read on entry": tables with the same entries give the same answers
   pub unread : (t u : Table) → entries t ≡ entries u
       → ((index : ℕ) → ((step_of (sheet_of s) t index).answer ≡ (step_of (sheet_of s) u index).answer)
-      × ((step_of (sheet_of s) t index).answer ≡ Accepted → (step_of (sheet_of s) t index).table ≡ (step_of (sheet_of s) u index).table)
-      × ((step_of (sheet_of s) t index).totals ≡ (step_of (sheet_of s) u index).totals))
+      × ((step_of (sheet_of s) t index).answer ≡ Accepted → (step_of (sheet_of s) t index).table ≡ (step_of (sheet_of s) u index).table))
       × ((len : ℕ) → picture_of (sheet_of s) t len ≡ picture_of (sheet_of s) u len)
       × ((buffer : List ℕ) → buffer_of (sheet_of s) t buffer ≡ buffer_of (sheet_of s) u buffer)
 
@@ -476,15 +474,3 @@ pub record RequestW2 : Type 0 where
       → and_then (step_world n a w) (step_world n b) ≡ and_then (step_world n b w) (step_world n a)
   -- "The exchange statement is to be proved again with this wording": demand 3, whose exchanges go by `touch`
   pub exchange : Demand3
-
--- ==== Request W4 of document 02, "Where candidates go": what it says of runs. Putting a candidate and single steps are on the page of the
--- crate table.
-pub record RequestW4 : Type 0 where
-  -- "A step passes on its totals, and a run the totals of all its defined steps that weren't full": the sums of what the call step tells
-  -- of the moves that the run took, one after the other, from the table of the call start on. A move that stops it or fills the table is
-  -- not among them (`taken`)
-  pub totals : (s : List ℕ) (x : Statement) → Says s x → (rows : ℕ) → run_refused (run_of (sheet_of s) rows) ≡ false
-      → (run_of (sheet_of s) rows).totals ≡ sum_totals (told_along s (taken s x rows) (start_of (sheet_of s)).table)
-  -- "A refused … run … reports zeros"
-  pub zeros : (s : List ℕ) (rows number position : ℕ) → (run_of (sheet_of s) rows).verdict ≡ ran.Refused number position
-      → (run_of (sheet_of s) rows).totals ≡ no_totals

@@ -1,13 +1,11 @@
 -- Runs (document 01, "Run, touching moves, picture"): a plan stepped from a table. Place 0 is the start, place k the k-th move.
-use Rattle.std.specs.Prelude.{Bool, true, false, List, [], ◌∷◌, map, ℕ, suc, ◌+◌, eqb, length}
+use Rattle.std.specs.Prelude.{Bool, true, false, List, [], ◌∷◌, map, ℕ, suc, eqb, length}
 use Rattle.sheet.specs.declared.Literals.{Literals}
 use Rattle.sheet.specs.Literals.{meets}
 use Rattle.sheet.specs.Lists.{all_of}
 use Rattle.sheet.specs.Problem.{Action, Problem}
-use Rattle.table.specs.declared.Totals.{Totals}
 use Rattle.table.specs.Minimal.{Outcome, refused, table}
 use Rattle.table.specs.Step.{step_table}
-use Rattle.table.specs.Totals.{no_totals, step_totals}
 use Rattle.table.specs.Picture.{picture, size_of}
 use Rattle.table.specs.Calls.{action_at}
 use Rattle.plan.specs.declared.Row.{Row}
@@ -57,28 +55,10 @@ last_table cap (a ∷ plan) t = table_or (step_table cap a t) t (λ u. last_tabl
 unfoldable pub row_of : ℕ → List Literals → Row
 row_of place t = record { place = place; entries = length t; clauses = size_of (picture t) }
 
-abbrev pub list_or : {A : Type 0} → Outcome → (List Literals → List A) → List A
-list_or (refused number) next = []
-list_or (table u) next = next u
+abbrev pub rows_or : Outcome → (List Literals → List Row) → List Row
+rows_or (refused number) next = []
+rows_or (table u) next = next u
 
 abbrev pub rows_from : ℕ → ℕ → List Action → List Literals → List Row
 rows_from cap place [] t = row_of place t ∷ []
-rows_from cap place (a ∷ plan) t = row_of place t ∷ list_or (step_table cap a t) (λ u. rows_from cap (suc place) plan u)
-
--- ---- the totals of a run (document 02, W4): "the totals of all its defined steps that weren't full"
--- of each of them, in order
-abbrev pub totals_list : ℕ → List Action → List Literals → List Totals
-totals_list cap [] t = []
-totals_list cap (a ∷ plan) t = list_or (step_table cap a t) (λ u. step_totals cap a t ∷ totals_list cap plan u)
-
-abbrev pub add_totals : Totals → Totals → Totals
-add_totals x y =
-    record { candidates = x.candidates + y.candidates; dropped = x.dropped + y.dropped; removed = x.removed + y.removed }
-
-abbrev pub sum_totals : List Totals → Totals
-sum_totals [] = no_totals
-sum_totals (x ∷ xs) = add_totals x (sum_totals xs)
-
--- of all of them
-unfoldable pub totals_from : ℕ → List Action → List Literals → Totals
-totals_from cap plan t = sum_totals (totals_list cap plan t)
+rows_from cap place (a ∷ plan) t = row_of place t ∷ rows_or (step_table cap a t) (λ u. rows_from cap (suc place) plan u)

@@ -7,7 +7,7 @@ ghost use Rattle.plan.specs.Text.{report_of, report_in};
 use sheet::Answer;
 use sheet::limits::{ENTRIES, PLACES};
 use sheet::packed::LENGTH;
-use table::{Table, Totals};
+use table::Table;
 
 mod goals;
 mod memory;
@@ -40,12 +40,11 @@ pub enum Verdict {
     Refused(u8, usize),
 }
 
-// The verdict, the last table that the run had, and the totals of its steps: zeros if it is refused.
+// The verdict, and the last table that the run had.
 #[derive(Drop)]
 pub struct RunAnswer {
     pub verdict: Verdict,
     pub table: Table,
-    pub totals: Totals,
 }
 
 // How a search ends.
@@ -73,14 +72,12 @@ pub struct Counts {
     pub clauses: [usize; PLACES],
 }
 
-// What a run over lent arrays leaves beside them: its verdict, how many entries the last table has, how many rows there are, and the
-// totals of its steps.
+// What a run over lent arrays leaves beside them: its verdict, how many entries the last table has, and how many rows there are.
 #[derive(Drop)]
 pub struct RunRecord {
     pub verdict: Verdict,
     pub count: usize,
     pub rows: usize,
-    pub totals: Totals,
 }
 
 // A run with the numbers of its rows.

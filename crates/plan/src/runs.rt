@@ -8,10 +8,9 @@ ghost use Rattle.table.specs.Entries.{entries_of};
 ghost use Rattle.table.specs.inner.Slots.{Room, Fresh};
 ghost use Rattle.table.specs.Start.{start_table};
 ghost use Rattle.table.specs.Step.{step_table};
-ghost use Rattle.table.specs.Totals.{no_totals, step_totals};
-ghost use Rattle.table.specs.Calls.{or_given, with_totals};
+ghost use Rattle.table.specs.Calls.{or_given};
 ghost use Rattle.table.specs.Entries.{lent};
-ghost use Rattle.table.specs.inner.Steps.{told_answer, MoveFits};
+ghost use Rattle.table.specs.inner.Steps.{step_answer, MoveFits};
 ghost use Rattle.plan.specs.Run as R;
 ghost use Rattle.plan.specs.Calls.{verdict_of};
 ghost use Rattle.plan.specs.inner.Course as C;
@@ -23,10 +22,10 @@ use crate::{Counts, Course, RunAnswer, RunRecord, Verdict};
 use sheet::limits::{ENTRIES, PLACES};
 use sheet::packed::{GOAL, LENGTH, MOVES};
 use sheet::{Answer, Plan, Sheet};
+use table::Table;
 use table::picture_clauses::clause_count;
 use table::starts::{Started, first_into};
-use table::steps::{Advanced, step_told};
-use table::{Table, Totals};
+use table::steps::{Stepped, step_at};
 
 // One row more: the entries of a lent table and the clauses of its picture.
 pub(crate) fn note<'a, 'b, 'c>(
@@ -79,13 +78,13 @@ pub(crate) fn step_here<'a, 'b, 'c>(
     trues: &'b mut [u32; ENTRIES],
     falses: &'c mut [u32; ENTRIES],
     count: usize,
-) -> Advanced
+) -> Stepped
     requires { MoveFits packed.now index (lent count trues.old falses.old) }
-    ensures { told_answer (lent count trues.new falses.new) result trues.new falses.new ≡ with_totals (or_given (lent count trues.old falses.old) (step_table most_entries (action_of (moves_in packed.now) index) (entries_of count trues.old falses.old))) (step_totals most_entries (action_of (moves_in packed.now) index) (entries_of count trues.old falses.old)) }
+    ensures { step_answer (lent count trues.new falses.new) result trues.new falses.new ≡ or_given (lent count trues.old falses.old) (step_table most_entries (action_of (moves_in packed.now) index) (entries_of count trues.old falses.old)) }
 {
     let mut to_trues = [0u32; ENTRIES];
     let mut to_falses = [0u32; ENTRIES];
-    match step_told(
+    match step_at(
         packed,
         index,
         trues,
@@ -94,24 +93,12 @@ pub(crate) fn step_here<'a, 'b, 'c>(
         &mut to_trues,
         &mut to_falses,
     ) {
-        Advanced::To(filled, totals) => {
+        Stepped::To(filled) => {
             *trues = to_trues;
             *falses = to_falses;
-            Advanced::To(filled, totals)
+            Stepped::To(filled)
         }
-        Advanced::Refused(number, position) => Advanced::Refused(number, position),
-    }
-}
-
-// The sums of two totals.
-pub(crate) fn add_totals(a: Totals, b: Totals) -> Totals
-    requires { C.Summable a b }
-    ensures { result ≡ R.add_totals a b }
-{
-    Totals {
-        candidates: a.candidates + b.candidates,
-        dropped: a.dropped + b.dropped,
-        removed: a.removed + b.removed,
+        Stepped::Refused(number, position) => Stepped::Refused(number, position),
     }
 }
 
@@ -127,31 +114,24 @@ pub(crate) fn run_from<'a, 'b, 'c, 'd, 'e>(
 ) -> RunRecord
     requires runnable { W.Runnable plan packed.now (lent count trues.old falses.old) }
     requires fresh_rows { C.FreshRows entries.old clauses.old }
-    ensures { C.course_in result trues.new falses.new entries.new clauses.new ≡ C.course_from (sets_in (goal_in packed.now)) [] no_totals 0 (map (action_of (moves_in packed.now)) (plan_in plan)) (entries_of count trues.old falses.old) }
+    ensures { C.course_in result trues.new falses.new entries.new clauses.new ≡ C.course_from (sets_in (goal_in packed.now)) [] 0 (map (action_of (moves_in packed.now)) (plan_in plan)) (entries_of count trues.old falses.old) }
 {
     let length = plan.count;
     let mut filled = count;
-    let mut totals = Totals {
-        candidates: 0,
-        dropped: 0,
-        removed: 0,
-    };
     let mut i: usize = 0;
     while i < length {
         note(entries, clauses, i, trues, falses, filled);
         let place = i + 1;
         let index = plan.numbers[i] as usize;
         match step_here(packed, index, trues, falses, filled) {
-            Advanced::To(grown, more) => {
+            Stepped::To(grown) => {
                 filled = grown;
-                totals = add_totals(totals, more);
             }
-            Advanced::Refused(number, _) => {
+            Stepped::Refused(number, _) => {
                 return RunRecord {
                     verdict: halt(place, number),
                     count: filled,
                     rows: place,
-                    totals,
                 };
             }
         }
@@ -163,7 +143,6 @@ pub(crate) fn run_from<'a, 'b, 'c, 'd, 'e>(
         verdict: end(goal, trues, falses, filled),
         count: filled,
         rows: i + 1,
-        totals,
     }
 }
 
@@ -175,11 +154,6 @@ pub(crate) fn refuse_run(number: u8, position: usize) -> RunRecord
         verdict: Verdict::Refused(number, position),
         count: 0,
         rows: 0,
-        totals: Totals {
-            candidates: 0,
-            dropped: 0,
-            removed: 0,
-        },
     }
 }
 
@@ -253,7 +227,6 @@ pub fn course(bytes: &[u8], lent: usize) -> Course
         &mut clauses,
     );
     let verdict = ran.verdict;
-    let totals = ran.totals;
     Course {
         ran: RunAnswer {
             verdict,
@@ -262,7 +235,6 @@ pub fn course(bytes: &[u8], lent: usize) -> Course
                 trues,
                 falses,
             },
-            totals,
         },
         counts: Counts {
             count: ran.rows,

@@ -6,9 +6,9 @@
 //   02 LENT   the run with so many rows lent (8 bytes)
 //   03        the run with 65 row structs lent, zeros before the call
 //   04 LIMIT  the search with this limit (8 bytes)
-// Written: for 01 the text; for 02 and 03 the verdict, the count and a digest of all slots of the table that comes back, the totals of the
-// run, the number of rows (for 02: of those written; for 03: 65) and a digest of them; for 04 how the search ends, the length of the plan
-// and a digest of its eight bytes.
+// Written: for 01 the text; for 02 and 03 the verdict, the count and a digest of all slots of the table that comes back, the number of
+// rows (for 02: of those written; for 03: 65) and a digest of them; for 04 how the search ends, the length of the plan and a digest of
+// its eight bytes.
 ghost use Rattle.std.specs.Prelude.{◌≡◌, replicate};
 ghost use Rattle.sheet.specs.Format.{sheet_of};
 ghost use Rattle.plan.specs.Calls.{run_of, rows_after};
@@ -37,14 +37,12 @@ fn write_verdict(verdict: Verdict) {
     }
 }
 
-// The verdict, the table that came back, and the totals.
+// The verdict, and the table that came back.
 fn write_ran(ran: RunAnswer) {
     let verdict = ran.verdict;
     write_verdict(verdict);
     let t = ran.table;
     cases::write_table(t.count, &t.trues, &t.falses);
-    let totals = ran.totals;
-    cases::write_totals(totals.candidates, totals.dropped, totals.removed);
 }
 
 // A digest of the numbers of all rows.

@@ -10,21 +10,21 @@ pub mod packed;
 mod reader;
 
 // A set of literals: bit p of trues for "p is true", of falses for "p is false".
-#[derive(Drop)]
+#[derive(Clone, Copy, Drop)]
 pub struct Literals {
     pub trues: u32,
     pub falses: u32,
 }
 
 // Where the condition holds, the result becomes true.
-#[derive(Drop)]
+#[derive(Clone, Copy, Drop)]
 pub struct Effect {
     pub condition: Literals,
     pub result: Literals,
 }
 
 // Move numbers, counted from 0.
-#[derive(Drop)]
+#[derive(Clone, Copy, Drop)]
 pub struct Plan {
     pub count: usize,
     pub numbers: [u8; 64],
@@ -32,7 +32,7 @@ pub struct Plan {
 
 // A sheet that was read: a planning problem over the propositions below n, and a plan. Its clauses, its goal and its moves lie
 // in the packed array that the caller lends (module packed); here are the counts of clauses and moves.
-#[derive(Drop)]
+#[derive(Clone, Copy, Drop)]
 pub struct Sheet {
     pub n: usize,
     pub known: Literals,
@@ -43,14 +43,14 @@ pub struct Sheet {
 }
 
 // Accepted, or refused with document 01's number and position.
-#[derive(Drop)]
+#[derive(Clone, Copy, Drop)]
 pub enum Answer {
     Accepted,
     Refused(u8, usize),
 }
 
 // The answer, and the sheet where it is accepted.
-#[derive(Drop)]
+#[derive(Clone, Copy, Drop)]
 pub struct Decoded {
     pub answer: Answer,
     pub sheet: Sheet,

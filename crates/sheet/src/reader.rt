@@ -17,38 +17,38 @@ use crate::packed::{
 use crate::{Answer, Decoded, Effect, Literals, Plan, Sheet, masks};
 
 // Where reading stands: at the next position, or at a fault with its number and position.
-#[derive(Drop)]
+#[derive(Clone, Copy, Drop)]
 pub enum Mark {
     At(usize),
     Fault(u8, usize),
 }
 
-#[derive(Drop)]
+#[derive(Clone, Copy, Drop)]
 pub struct ByteRead {
     pub mark: Mark,
     pub value: usize,
 }
 
-#[derive(Drop)]
+#[derive(Clone, Copy, Drop)]
 pub struct LiteralsRead {
     pub mark: Mark,
     pub value: Literals,
 }
 
-#[derive(Drop)]
+#[derive(Clone, Copy, Drop)]
 pub struct EffectRead {
     pub mark: Mark,
     pub value: Effect,
 }
 
-#[derive(Drop)]
+#[derive(Clone, Copy, Drop)]
 pub struct PlanRead {
     pub mark: Mark,
     pub value: Plan,
 }
 
 // Sections 1 to 4, the clauses by their counts.
-#[derive(Drop)]
+#[derive(Clone, Copy, Drop)]
 pub struct Facts {
     pub n: usize,
     pub known: Literals,
@@ -56,7 +56,7 @@ pub struct Facts {
     pub oneofs: usize,
 }
 
-#[derive(Drop)]
+#[derive(Clone, Copy, Drop)]
 pub struct FactsRead {
     pub mark: Mark,
     pub value: Facts,

@@ -1,13 +1,12 @@
 -- The theorems about tables: putting, the start (TH2), the step (TH3), each number on its own condition (TH4), the picture (TH8), the test
--- of a table, contradictory results by pairs, and the requests that specs/Demands states (W3: the test of a candidate; W4: where
--- candidates go). TH4 and TH8 are
+-- of a table, contradictory results by pairs, and the requests that specs/Demands states (W3: the test of a candidate). TH4 and TH8 are
 -- passed on from `laws/answers` and `laws/pictures/PictureWorlds`. Assumes nothing.
-use mathlib.Core.Path.{◌≡◌, refl, sym, ap}
+use mathlib.Core.Path.{◌≡◌, refl, sym}
 use mathlib.Core.Bool.{true, false, not}
 use mathlib.Core.List.{List, [], ◌∷◌, map}
 use mathlib.Core.Logic.{◌⊎◌, ◌↔◌}
 use mathlib.Core.Option.{none, some}
-use Prim.Native.Nat.{ℕ, ◌+◌, ◌^◌, ◌≤◌, ◌<◌}
+use Prim.Native.Nat.{ℕ, ◌^◌, ◌≤◌, ◌<◌}
 use lib.Dec.{T}
 use lib.ListN.{length, get_or}
 use borrow.Author.Tests.{eq-eqb, ne_eqb}
@@ -25,19 +24,15 @@ use Rattle.table.specs.Start.{start_clauses, start_table, Stops}
 use Rattle.table.specs.Step.{pieces, image, step_table}
 use Rattle.table.specs.inner.Pairs.{contradicts}
 use Rattle.table.specs.Fates.{last_within, left, fate_of}
-use Rattle.table.specs.declared.StepAnswer.{StepAnswer}
-use Rattle.table.specs.Totals.{dropped_by, removed_by, step_totals}
-use Rattle.table.specs.Demands.{RequestW3, RequestW4}
+use Rattle.table.specs.Demands.{RequestW3}
 use Rattle.table.proofs.laws.slots.LastWithin as scan
 use Rattle.table.proofs.laws.slots.PutFates as slots
-use Rattle.table.proofs.laws.slots.FateSums as sums
-use Rattle.table.proofs.laws.steps.StepTotals as totals
 use Rattle.table.proofs.laws.slots.PutInvariants as putting
 use Rattle.table.proofs.laws.steps.StepWorlds as stepping
 use Rattle.table.proofs.laws.starts.StartWorlds as starting
 use Rattle.table.proofs.laws.slots.DescribedTables as describing
 use Rattle.table.proofs.laws.steps.OpposedPairs as pairs
-pub use Rattle.table.proofs.laws.answers.StartStepAnswers.{start_fault, start_number, start_accepted, start_back, step_fault, step_7, step_22, step_number, step_accepted, step_given, step_equation, step_refused, step_back, step_zeros}
+pub use Rattle.table.proofs.laws.answers.StartStepAnswers.{start_fault, start_number, start_accepted, start_back, step_fault, step_7, step_22, step_number, step_accepted, step_back}
 pub use Rattle.table.proofs.laws.answers.PictureAnswers.{picture_fault, picture_22, picture_21, picture_23, picture_accepted, picture_back}
 pub use Rattle.table.proofs.laws.pictures.PictureWorlds.{union_primes, picture_primes, picture_ascending, picture_worlds, prime_unique, bytes_worlds}
 
@@ -155,26 +150,4 @@ request_w3 t c = record {
   kept = λ cap i e. slots.put_dropped cap t c (found t c i e);
   full = λ cap e q. slots.put_full cap t c (unfound t c e) (eq-eqb (length (left t c)) cap q);
   added = λ cap e q. slots.put_added cap t c (unfound t c e) (ne_eqb (length (left t c)) cap q);
-}
-
--- ---- W4: where candidates go
-pub put_fate : (cap : ℕ) (t : List Literals) (c : Literals) (u : List Literals) → put cap t c ≡ some u
-    → length t + 1 ≡ (length u + dropped_by (fate_of cap t c)) + removed_by (fate_of cap t c)
-put_fate = sums.put_fate
-
-pub step_totals_lem : (cap : ℕ) (a : Action) (t u : List Literals) → step_table cap a t ≡ table u
-    → ((step_totals cap a t).candidates ≡ length (collect (pieces a.effects) t))
-    × ((step_totals cap a t).candidates ≡ ((step_totals cap a t).dropped + (step_totals cap a t).removed) + length u)
-step_totals_lem = totals.step_totals_lem
-
-pub request_w4 : RequestW4
-request_w4 = record {
-  put_dropped = λ cap t c e. slots.put_dropped cap t c (slots.dropped_within cap t c e);
-  put_added = λ cap t c removed count e. slots.added_by cap t c removed count e;
-  put_full = λ cap t c. slots.full_by cap t c;
-  put_fate = put_fate;
-  step_totals_lem = step_totals_lem;
-  told = λ s x says t m e. ap (λ (r : StepAnswer). r.totals) (step_given s x says t m e).2;
-  equation = step_equation;
-  zeros = step_zeros;
 }

@@ -7,13 +7,10 @@ use Rattle.sheet.specs.Problem.{Action, Problem}
 use Rattle.sheet.specs.Format.{Judgement, accepted, refused}
 use Rattle.table.specs.declared.Table.{Table}
 use Rattle.table.specs.declared.TableAnswer.{TableAnswer}
-use Rattle.table.specs.declared.Totals.{Totals}
-use Rattle.table.specs.declared.StepAnswer.{StepAnswer}
 use Rattle.table.specs.Minimal.{described, Outcome}
 use Rattle.table.specs.Start.{start_table}
 use Rattle.table.specs.Step.{step_table}
 use Rattle.table.specs.Entries.{entries, table_of}
-use Rattle.table.specs.Totals.{no_totals, step_totals}
 
 -- the outcome with the table; a refusal by its number, at position 0, with the table t
 unfoldable pub or_given : Table → Outcome → TableAnswer
@@ -25,26 +22,19 @@ unfoldable pub start_of : Judgement → TableAnswer
 start_of (refused number position) = record { answer = Refused number position; table = table_of [] }
 start_of (accepted x) = or_given (table_of []) (start_table most_entries x.problem)
 
--- ---- step: a fault of the sheet; 7; 22; 24; 25; 21. Refused: the given table, and totals of zeros
+-- ---- step: a fault of the sheet; 7; 22; 24; 25; 21. Refused: the given table
 -- the move of a number
 unfoldable pub action_at : Problem → ℕ → Action
 action_at p index = get_or p.actions index (record { precondition = no_literal; effects = [] })
 
--- an answer with the totals beside it (document 02, W4)
-abbrev pub with_totals : TableAnswer → Totals → StepAnswer
-with_totals r totals = record { answer = r.answer; table = r.table; totals = totals }
+abbrev pub step_known : Bool → Action → Table → TableAnswer
+step_known false a t = record { answer = Refused 22 0; table = t }
+step_known true a t = or_given t (step_table most_entries a (entries t))
 
-abbrev pub refused_step : ℕ → ℕ → Table → StepAnswer
-refused_step number position t = record { answer = Refused number position; table = t; totals = no_totals }
-
-abbrev pub step_known : Bool → Action → Table → StepAnswer
-step_known false a t = refused_step 22 0 t
-step_known true a t = with_totals (or_given t (step_table most_entries a (entries t))) (step_totals most_entries a (entries t))
-
-abbrev pub step_move : Bool → ℕ → Action → Table → StepAnswer
-step_move false n a t = refused_step 7 0 t
+abbrev pub step_move : Bool → ℕ → Action → Table → TableAnswer
+step_move false n a t = record { answer = Refused 7 0; table = t }
 step_move true n a t = step_known (described most_entries n (entries t)) a t
 
-unfoldable pub step_of : Judgement → Table → ℕ → StepAnswer
-step_of (refused number position) t index = refused_step number position t
+unfoldable pub step_of : Judgement → Table → ℕ → TableAnswer
+step_of (refused number position) t index = record { answer = Refused number position; table = t }
 step_of (accepted x) t index = step_move (ltb index (length x.problem.actions)) x.problem.n (action_at x.problem index) t

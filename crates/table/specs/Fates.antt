@@ -1,7 +1,5 @@
--- What becomes of a candidate that is put (document 02, W3, W4): the entry that it is tested against, whether it is dropped or added, and
--- the list after it.
+-- What becomes of a candidate that is put (document 02, W3): the entry that it is tested against, and whether it is dropped or added.
 use Rattle.std.specs.Prelude.{Bool, not, cond, List, [], ◌∷◌, ℕ, suc, ◌+◌, ◌-◌, eqb, length}
-use Rattle.std.proofs.Math.Option.{Option, none, some}
 use Rattle.sheet.specs.declared.Literals.{Literals}
 use Rattle.sheet.specs.Literals.{within}
 use Rattle.sheet.specs.Lists.{any_of, keep}
@@ -9,7 +7,7 @@ use Rattle.table.specs.declared.slots.Found.{Found}
 use Rattle.table.specs.declared.slots.Found.TheVariants.{At, Nothing}
 use Rattle.table.specs.declared.slots.Fate.{Fate}
 use Rattle.table.specs.declared.slots.Fate.TheVariants.{Dropped, Added, Full}
-use Rattle.table.specs.Minimal.{put}
+use Rattle.table.specs.declared.slots.Grown.TheVariants as grown
 
 -- one place further, or at place 0 if b
 unfoldable pub shifted : Bool → Found → Found
@@ -34,12 +32,3 @@ unfoldable pub fate_of : ℕ → List Literals → Literals → Fate
 fate_of cap s c =
     cond (any_of (λ e. within e c) s) Dropped
     (cond (eqb (length (left s c)) cap) Full (Added (length s - length (left s c)) (length (left s c) + 1)))
-
--- the list, or s where it is full
-unfoldable pub or_else : List Literals → Option (List Literals) → List Literals
-or_else s none = s
-or_else s (some r) = r
-
--- the list after a candidate; as it was where it is full
-unfoldable pub list_after : ℕ → List Literals → Literals → List Literals
-list_after cap s c = or_else s (put cap s c)

@@ -2,16 +2,15 @@
 --   Worlds         source document 000, section 2, and document 01, "Worlds": worlds, moves in them, starting worlds, the goal
 --   Minimal        001, Definition 1, and 01, "The table", "Putting a candidate": minimal tables as lists of entries
 --   Entries        01, "A table is a struct with its count and two arrays of 32-bit masks": the entries of that struct
---   Fates          02, W3, W4: the test of a candidate, and what becomes of it
+--   Fates          02, W3: the test of a candidate, and what becomes of it
 --   Start          01, "Start"
 --   Step           001, Definitions 2 to 4, and 01, "Step"
---   Totals         02, W4: where the candidates of a step go
 --   Picture        01, "Working order", "Bytes": the picture of a table
 --   Prime          000, section 6, and 01, "The picture is the table's set of prime implicates"
 --   Calls          01, "The calls are", "Numbers and their order": start, step
 --   PictureCalls   the same for picture
 --   CallWords      words for the demands on these calls
---   Demands        02, W3, W4: the page of the requests about tables
+--   Demands        02, W3: the page of the requests about tables
 -- Definitions that only inner contracts and proofs need are in `inner`.
 pub mod Worlds
 pub mod Minimal
@@ -19,7 +18,6 @@ pub mod Entries
 pub mod Fates
 pub mod Start
 pub mod Step
-pub mod Totals
 pub mod Picture
 pub mod Prime
 pub mod Calls

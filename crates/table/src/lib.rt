@@ -3,13 +3,13 @@ ghost use Rattle.std.specs.Prelude.{◌≡◌, length};
 ghost use Rattle.sheet.specs.Format.{sheet_of};
 ghost use Rattle.table.specs.Calls.{start_of, step_of};
 ghost use Rattle.table.specs.Entries.{lent};
-ghost use Rattle.table.specs.inner.Steps.{told_answer};
+ghost use Rattle.table.specs.inner.Steps.{step_answer};
 ghost use Rattle.table.specs.inner.Starts.{start_answer};
 ghost use Rattle.table.specs.inner.Slots.{TableRoom, Fresh};
 ghost use Rattle.table.specs.PictureCalls.{picture_of, buffer_of};
 
 use crate::starts::Started;
-use crate::steps::Advanced;
+use crate::steps::Stepped;
 use sheet::Answer;
 use sheet::limits::ENTRIES;
 use sheet::packed::LENGTH;
@@ -30,27 +30,11 @@ pub struct Table {
     pub falses: [u32; ENTRIES],
 }
 
-// What the call `start` gives.
+// What a call on tables gives.
 #[derive(Drop)]
 pub struct TableAnswer {
     pub answer: Answer,
     pub table: Table,
-}
-
-// Where the candidates of a step went: how many there were, how many were dropped, and how many entries the others removed.
-#[derive(Drop)]
-pub struct Totals {
-    pub candidates: usize,
-    pub dropped: usize,
-    pub removed: usize,
-}
-
-// What the call `step` gives; the totals are zeros if it is refused.
-#[derive(Drop)]
-pub struct StepAnswer {
-    pub answer: Answer,
-    pub table: Table,
-    pub totals: Totals,
 }
 
 // What the call `picture` gives: the number of clauses, 0 if refused.
@@ -111,33 +95,33 @@ pub fn step_lent<'a, 'b, 'c, 'd>(
     count: usize,
     to_trues: &'c mut [u32; ENTRIES],
     to_falses: &'d mut [u32; ENTRIES],
-) -> Advanced
+) -> Stepped
     requires table_room { TableRoom trues.now falses.now }
     requires fresh { Fresh to_trues.old to_falses.old }
-    ensures { told_answer (lent count trues.now falses.now) result to_trues.new to_falses.new ≡ step_of (sheet_of bytes.now) (lent count trues.now falses.now) index }
+    ensures { step_answer (lent count trues.now falses.now) result to_trues.new to_falses.new ≡ step_of (sheet_of bytes.now) (lent count trues.now falses.now) index }
 {
     let mut packed = [0u32; LENGTH];
     let decoded = sheet::decode(bytes, &mut packed);
     let answer = decoded.answer;
     match answer {
-        Answer::Refused(number, position) => Advanced::Refused(number, position),
+        Answer::Refused(number, position) => Stepped::Refused(number, position),
         Answer::Accepted => {
             let sheet = decoded.sheet;
             if sheet.moves <= index {
-                return Advanced::Refused(7, 0);
+                return Stepped::Refused(7, 0);
             }
             if !tables::described(sheet.n, trues, falses, count) {
-                return Advanced::Refused(22, 0);
+                return Stepped::Refused(22, 0);
             }
             // A reference to the whole array: its type has the length.
             let packed = &packed;
-            steps::step_told(packed, index, trues, falses, count, to_trues, to_falses)
+            steps::step_at(packed, index, trues, falses, count, to_trues, to_falses)
         }
     }
 }
 
 // The step of a table by the move of a number on a sheet.
-pub fn step(bytes: &[u8], table: Table, index: usize) -> StepAnswer
+pub fn step(bytes: &[u8], table: Table, index: usize) -> TableAnswer
     ensures { result ≡ step_of (sheet_of bytes.now) table index }
 {
     let count = table.count;
@@ -152,23 +136,17 @@ pub fn step(bytes: &[u8], table: Table, index: usize) -> StepAnswer
         &mut trues,
         &mut falses,
     ) {
-        Advanced::To(count, totals) => StepAnswer {
+        Stepped::To(count) => TableAnswer {
             answer: Answer::Accepted,
             table: Table {
                 count,
                 trues,
                 falses,
             },
-            totals,
         },
-        Advanced::Refused(number, position) => StepAnswer {
+        Stepped::Refused(number, position) => TableAnswer {
             answer: Answer::Refused(number, position),
             table,
-            totals: Totals {
-                candidates: 0,
-                dropped: 0,
-                removed: 0,
-            },
         },
     }
 }

@@ -4,8 +4,8 @@ ghost use Rattle.std.proofs.Math.Seq.{paste};
 ghost use Rattle.sheet.specs.Literals as L;
 ghost use Rattle.sheet.specs.Lists.{any_of, keep};
 ghost use Rattle.table.specs.Entries.{entries_of};
-ghost use Rattle.table.specs.inner.Slots.{Room, Holds, Held, Puts, Countable, sums_in, TellsIn};
-ghost use Rattle.table.specs.Fates.{last_within, left, fate_of, list_after};
+ghost use Rattle.table.specs.inner.Slots.{Room, Holds, Held, list_after, Puts};
+ghost use Rattle.table.specs.Fates.{last_within, left, fate_of};
 ghost use Rattle.table.specs.declared.slots.Found.TheVariants as found;
 ghost use Rattle.table.specs.inner.Slots.{four_within};
 
@@ -32,21 +32,6 @@ pub(crate) enum Fate {
 #[derive(Drop)]
 pub(crate) enum Grown {
     To(usize),
-    Full,
-}
-
-// The same with what became of these candidates: how many were dropped, and how many entries the others removed.
-#[derive(Drop)]
-pub(crate) struct Sums {
-    pub count: usize,
-    pub dropped: usize,
-    pub removed: usize,
-}
-
-// What came of some candidates: their sums, or no room for one of them.
-#[derive(Drop)]
-pub(crate) enum Laid {
-    To(Sums),
     Full,
 }
 
@@ -259,60 +244,6 @@ pub(crate) fn offer_by_newest(
         }
     }
     offer(trues, falses, count, candidate)
-}
-
-// Where candidates that are dropped, and entries that are removed, are counted.
-pub(crate) const DROPPED: usize = 0;
-
-pub(crate) const REMOVED: usize = 1;
-
-// Puts a candidate, and counts its fate: one dropped more, or so many removed more.
-pub(crate) fn offer_told(
-    trues: &mut [u32],
-    falses: &mut [u32],
-    count: usize,
-    candidate: Literals,
-    told: &mut [usize],
-) -> Grown
-    requires held { Held (length trues.old) count trues.old falses.old }
-    requires countable { Countable (sums_in count told.old) (candidate ∷ []) × (length told.old ≡ 2) }
-    ensures { TellsIn (candidate ∷ []) count told.old trues.old falses.old result told.new trues.new falses.new }
-{
-    match put(trues, falses, count, candidate) {
-        Fate::Dropped => {
-            told[DROPPED] += 1;
-            Grown::To(count)
-        }
-        Fate::Added {
-            removed,
-            count: grown,
-        } => {
-            told[REMOVED] += removed;
-            Grown::To(grown)
-        }
-        Fate::Full => Grown::Full,
-    }
-}
-
-// The same, with the newest entry tested before the others, as `offer_by_newest` does.
-pub(crate) fn offer_told_by_newest(
-    trues: &mut [u32],
-    falses: &mut [u32],
-    count: usize,
-    candidate: Literals,
-    told: &mut [usize],
-) -> Grown
-    requires held { Held (length trues.old) count trues.old falses.old }
-    requires countable { Countable (sums_in count told.old) (candidate ∷ []) × (length told.old ≡ 2) }
-    ensures { TellsIn (candidate ∷ []) count told.old trues.old falses.old result told.new trues.new falses.new }
-{
-    if 0 < count {
-        if within(entry_at(trues, falses, count - 1), candidate) {
-            told[DROPPED] += 1;
-            return Grown::To(count);
-        }
-    }
-    offer_told(trues, falses, count, candidate, told)
 }
 
 // Puts a candidate if it is consistent.

@@ -1,21 +1,20 @@
 // The step of a table over lent slices: 24, then 25 by pairs of effects, then the pieces of each entry, each image put in its turn.
-ghost use Rattle.std.specs.Prelude.{◌≡◌, [], map, ◌≤◌, ◌<◌, ◌*◌, length, drop};
+ghost use Rattle.std.specs.Prelude.{◌≡◌, map, ◌≤◌, ◌<◌, ◌*◌, length, drop};
 ghost use Rattle.sheet.specs.Literals as L;
 ghost use Rattle.sheet.specs.Lists.{any_of, all_of, collect};
 ghost use Rattle.sheet.specs.inner.Packed as R;
 ghost use Rattle.table.specs.Step as S;
 ghost use Rattle.table.specs.Entries.{entries_of, lent};
-ghost use Rattle.table.specs.inner.Slots.{Room, no_sums, Countable, sums_in, Tells, TellsIn};
+ghost use Rattle.table.specs.inner.Slots.{Room, Puts};
 ghost use Rattle.table.specs.inner.Pairs as P;
 ghost use Rattle.table.specs.inner.Steps as M;
 ghost use Rattle.table.specs.inner.Carry.{Carried, Splits, Skips, SplitFits, BranchFits, BranchesFit, part_at, carried_at};
-ghost use Rattle.table.specs.Calls.{or_given, with_totals};
-ghost use Rattle.table.specs.Totals.{step_totals};
+ghost use Rattle.table.specs.Calls.{or_given};
 ghost use Rattle.sheet.specs.Limits.{most_entries};
 
-use crate::slots::{Grown, Laid, Sums};
+use crate::slots;
+use crate::slots::Grown;
 use crate::tables::entry_at;
-use crate::{Totals, slots};
 use sheet::limits::ENTRIES;
 use sheet::packed::{EFFECTS, LENGTH, MOVE_WIDTH, MOVES, effect_at, set_from, wide};
 use sheet::{Effect, Literals, masks};
@@ -128,10 +127,9 @@ pub(crate) fn without(piece: Literals, l: usize) -> Literals
     masks::join(piece, masks::flip(masks::literal(l)))
 }
 
-// A piece, the place of the first effect that splits it, and the results of those before it.
+// The place of the first effect that splits a piece, and the results of those before it.
 #[derive(Drop)]
 pub(crate) struct Undecided {
-    pub piece: Literals,
     pub at: usize,
     pub results: Literals,
 }
@@ -146,7 +144,7 @@ pub(crate) fn skip_decided<'a>(
 ) -> Undecided
     requires size_in_bounds { 4 * size ≤ length effects.now }
     requires carried { Carried (R.effects_at size effects.now) at piece results }
-    ensures { Skips (R.effects_at size effects.now) at piece result × (result.at < size → Splits (R.effect_at effects.now result.at).condition result.piece) }
+    ensures { Skips (R.effects_at size effects.now) at piece result × (result.at < size → Splits (R.effect_at effects.now result.at).condition piece) }
 {
     let mut sum = results;
     let mut i = at;
@@ -157,7 +155,6 @@ pub(crate) fn skip_decided<'a>(
         } else {
             if !masks::clash(e.condition, piece) {
                 return Undecided {
-                    piece,
                     at: i,
                     results: sum,
                 };
@@ -166,7 +163,6 @@ pub(crate) fn skip_decided<'a>(
         i += 1;
     }
     Undecided {
-        piece,
         at: i,
         results: sum,
     }
@@ -193,21 +189,20 @@ pub(crate) fn carried(results: Literals, res: Literals, t: usize) -> Literals
     results
 }
 
-// The pieces of an undecided one by the conditions from its place on, the first of which splits it, each put in its turn: part 0, then a
-// part for each literal that is missing. Their fates are counted in `told`, which is lent: by value they would go through the stack.
-pub(crate) fn split<'a, 'b, 'c, 'd>(
+// The pieces of `piece` by the conditions from the undecided one on, which splits it, each put in its turn: part 0, then a part for each
+// literal that is missing.
+pub(crate) fn split<'a, 'b, 'c>(
     effects: &'a [u32],
     size: usize,
     undecided: Undecided,
+    piece: Literals,
     to_trues: &'b mut [u32; ENTRIES],
     to_falses: &'c mut [u32; ENTRIES],
     count: usize,
-    told: &'d mut [usize; 2],
 ) -> Grown
-    requires { SplitFits effects.now size undecided to_trues.old to_falses.old (sums_in count told.old) }
-    ensures { TellsIn (map (S.image (R.effects_at size effects.now)) (S.pieces (drop undecided.at (R.effects_at size effects.now)) undecided.piece)) count told.old to_trues.old to_falses.old result told.new to_trues.new to_falses.new }
+    requires { SplitFits effects.now size undecided piece to_trues.old to_falses.old count }
+    ensures { Puts (map (S.image (R.effects_at size effects.now)) (S.pieces (drop undecided.at (R.effects_at size effects.now)) piece)) count to_trues.old to_falses.old result to_trues.new to_falses.new }
 {
-    let piece = undecided.piece;
     let at = undecided.at;
     let results = undecided.results;
     let e = effect_at(effects, at);
@@ -220,17 +215,16 @@ pub(crate) fn split<'a, 'b, 'c, 'd>(
         let p = part(piece, condition, t);
         let s = skip_decided(effects, size, next, p, carried(results, e.result, t));
         if s.at < size {
-            let Grown::To(grown) = split(effects, size, s, to_trues, to_falses, filled, told) else {
+            let Grown::To(grown) = split(effects, size, s, p, to_trues, to_falses, filled) else {
                 return Grown::Full;
             };
             filled = grown;
         } else {
-            let Grown::To(grown) = slots::offer_told_by_newest(
+            let Grown::To(grown) = slots::offer_by_newest(
                 to_trues,
                 to_falses,
                 filled,
                 masks::replace(p, s.results),
-                told,
             ) else {
                 return Grown::Full;
             };
@@ -241,18 +235,17 @@ pub(crate) fn split<'a, 'b, 'c, 'd>(
     Grown::To(filled)
 }
 
-// The pieces of an entry, each put in its turn, their fates counted.
-pub(crate) fn branch<'a, 'b, 'c, 'd>(
+// The pieces of an entry, each put in its turn.
+pub(crate) fn branch<'a, 'b, 'c>(
     effects: &'a [u32],
     size: usize,
     entry: Literals,
     to_trues: &'b mut [u32; ENTRIES],
     to_falses: &'c mut [u32; ENTRIES],
     count: usize,
-    told: &'d mut [usize; 2],
 ) -> Grown
-    requires { BranchFits effects.now size entry to_trues.old to_falses.old (sums_in count told.old) }
-    ensures { TellsIn (map (S.image (R.effects_at size effects.now)) (S.pieces (R.effects_at size effects.now) entry)) count told.old to_trues.old to_falses.old result told.new to_trues.new to_falses.new }
+    requires { BranchFits effects.now size entry to_trues.old to_falses.old count }
+    ensures { Puts (map (S.image (R.effects_at size effects.now)) (S.pieces (R.effects_at size effects.now) entry)) count to_trues.old to_falses.old result to_trues.new to_falses.new }
 {
     let none = Literals {
         trues: 0,
@@ -260,15 +253,9 @@ pub(crate) fn branch<'a, 'b, 'c, 'd>(
     };
     let s = skip_decided(effects, size, 0, entry, none);
     if s.at < size {
-        return split(effects, size, s, to_trues, to_falses, count, told);
+        return split(effects, size, s, entry, to_trues, to_falses, count);
     }
-    slots::offer_told(
-        to_trues,
-        to_falses,
-        count,
-        masks::replace(entry, s.results),
-        told,
-    )
+    slots::offer(to_trues, to_falses, count, masks::replace(entry, s.results))
 }
 
 // The pieces of the first count entries, each put in its turn into arrays with no entry.
@@ -280,27 +267,21 @@ pub(crate) fn branch_all<'a, 'b, 'c, 'd>(
     count: usize,
     to_trues: &'c mut [u32; ENTRIES],
     to_falses: &'d mut [u32; ENTRIES],
-) -> Laid
+) -> Grown
     requires { BranchesFit effects.now size trues.now falses.now count to_trues.old to_falses.old }
-    ensures { Tells (map (S.image (R.effects_at size effects.now)) (collect (S.pieces (R.effects_at size effects.now)) (entries_of count trues.now falses.now))) no_sums to_trues.old to_falses.old result to_trues.new to_falses.new }
+    ensures { Puts (map (S.image (R.effects_at size effects.now)) (collect (S.pieces (R.effects_at size effects.now)) (entries_of count trues.now falses.now))) 0 to_trues.old to_falses.old result to_trues.new to_falses.new }
 {
-    let mut told = [0usize; 2];
     let mut filled: usize = 0;
     let mut i: usize = 0;
     while i < count {
         let entry = entry_at(trues, falses, i);
-        let Grown::To(grown) = branch(effects, size, entry, to_trues, to_falses, filled, &mut told)
-        else {
-            return Laid::Full;
+        let Grown::To(grown) = branch(effects, size, entry, to_trues, to_falses, filled) else {
+            return Grown::Full;
         };
         filled = grown;
         i += 1;
     }
-    Laid::To(Sums {
-        count: filled,
-        dropped: told[slots::DROPPED],
-        removed: told[slots::REMOVED],
-    })
+    Grown::To(filled)
 }
 
 // What a step gave: so many entries in the lent arrays, or the number of a refusal with its position.
@@ -310,57 +291,7 @@ pub enum Stepped {
     Refused(u8, usize),
 }
 
-// The same with the totals of its candidates.
-#[derive(Drop)]
-pub enum Advanced {
-    To(usize, Totals),
-    Refused(u8, usize),
-}
-
-// The totals of a step whose candidates came to these sums: each of them was dropped, or removed later on, or is an entry.
-pub(crate) fn totals_of(sums: Sums) -> Totals
-    requires { Countable sums [] }
-    ensures { result ≡ M.totals_of sums }
-{
-    Totals {
-        candidates: sums.dropped + sums.removed + sums.count,
-        dropped: sums.dropped,
-        removed: sums.removed,
-    }
-}
-
 // The step of a lent table by the move of a number, into arrays of zeros: 24, 25, then the images, 21 if they are too many.
-pub fn step_told<'a, 'b, 'c, 'd>(
-    packed: &'a [u32],
-    index: usize,
-    trues: &'b [u32],
-    falses: &'b [u32],
-    count: usize,
-    to_trues: &'c mut [u32; ENTRIES],
-    to_falses: &'d mut [u32; ENTRIES],
-) -> Advanced
-    requires { M.StepFits packed.now index trues.now falses.now count to_trues.old to_falses.old }
-    ensures { M.told_answer (lent count trues.now falses.now) result to_trues.new to_falses.new ≡ with_totals (or_given (lent count trues.now falses.now) (S.step_table most_entries (R.action_of (R.moves_in packed.now) index) (entries_of count trues.now falses.now))) (step_totals most_entries (R.action_of (R.moves_in packed.now) index) (entries_of count trues.now falses.now)) }
-{
-    let moves = &packed[MOVES..LENGTH];
-    let at = index * MOVE_WIDTH;
-    let item = &moves[at..at + MOVE_WIDTH];
-    let precondition = set_from(item, 0);
-    let size = wide(item[2]);
-    let effects = &item[EFFECTS..MOVE_WIDTH];
-    if !sure(precondition, trues, falses, count) {
-        return Advanced::Refused(24, 0);
-    }
-    if conflicting(effects, size, trues, falses, count) {
-        return Advanced::Refused(25, 0);
-    }
-    match branch_all(effects, size, trues, falses, count, to_trues, to_falses) {
-        Laid::To(sums) => Advanced::To(sums.count, totals_of(sums)),
-        Laid::Full => Advanced::Refused(21, 0),
-    }
-}
-
-// The same without the totals.
 pub fn step_at<'a, 'b, 'c, 'd>(
     packed: &'a [u32],
     index: usize,
@@ -373,8 +304,20 @@ pub fn step_at<'a, 'b, 'c, 'd>(
     requires { M.StepFits packed.now index trues.now falses.now count to_trues.old to_falses.old }
     ensures { M.step_answer (lent count trues.now falses.now) result to_trues.new to_falses.new ≡ or_given (lent count trues.now falses.now) (S.step_table most_entries (R.action_of (R.moves_in packed.now) index) (entries_of count trues.now falses.now)) }
 {
-    match step_told(packed, index, trues, falses, count, to_trues, to_falses) {
-        Advanced::To(filled, _) => Stepped::To(filled),
-        Advanced::Refused(number, position) => Stepped::Refused(number, position),
+    let moves = &packed[MOVES..LENGTH];
+    let at = index * MOVE_WIDTH;
+    let item = &moves[at..at + MOVE_WIDTH];
+    let precondition = set_from(item, 0);
+    let size = wide(item[2]);
+    let effects = &item[EFFECTS..MOVE_WIDTH];
+    if !sure(precondition, trues, falses, count) {
+        return Stepped::Refused(24, 0);
+    }
+    if conflicting(effects, size, trues, falses, count) {
+        return Stepped::Refused(25, 0);
+    }
+    match branch_all(effects, size, trues, falses, count, to_trues, to_falses) {
+        Grown::To(filled) => Stepped::To(filled),
+        Grown::Full => Stepped::Refused(21, 0),
     }
 }

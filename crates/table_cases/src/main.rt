@@ -6,14 +6,12 @@
 //   02 NUMBER       step the current table by the move of this number (8 bytes), and go on with the table that comes back
 //   03 COUNT MASKS  the current table: its count (8 bytes), then 128 pairs of masks (4 bytes each), zeros where the line ends before
 //   04 SIZE         the picture of the current table in a buffer of so many bytes (2 bytes, at most 4096), each 170 before
-// Written: the answer; for 01 and 02 the count and a digest of all slots of the table that comes back; for 02 the totals of the step; for
-// 01 and 02, where it is accepted and n is at most 10, how many worlds the table stands for; for 04 the number of clauses and a digest of
-// the buffer.
+// Written: the answer; for 01 and 02 the count and a digest of all slots of the table that comes back and, where it is accepted and n
+// is at most 10, how many worlds the table stands for; for 04 the number of clauses and a digest of the buffer.
 ghost use Rattle.std.specs.Prelude.{◌≡◌, ◌≤◌, length};
 
 use libc::STDIN_FILENO;
-use sheet::Answer;
-use table::Table;
+use table::{Table, TableAnswer};
 
 // A table with no entries.
 fn empty_table() -> Table {
@@ -53,9 +51,13 @@ fn count_worlds(t: Table, n: u8) -> u64
     found
 }
 
-// How many worlds a table stands for, written if it was accepted and the sheet has few propositions.
-fn show_worlds(sheet: &[u8], answer: Answer, t: Table) {
-    if let Answer::Accepted = answer {
+// What a call on tables gave, written; the table that came back.
+fn show_table(sheet: &[u8], r: TableAnswer) -> Table {
+    let answer = r.answer;
+    cases::write_answer(answer);
+    let t = r.table;
+    cases::write_table(t.count, &t.trues, &t.falses);
+    if let sheet::Answer::Accepted = answer {
         if 0 < sheet.len() {
             let n = sheet[0];
             if n <= 10 {
@@ -63,29 +65,6 @@ fn show_worlds(sheet: &[u8], answer: Answer, t: Table) {
             }
         }
     }
-}
-
-// What a start gave, written; the table that came back.
-fn show_start(sheet: &[u8]) -> Table {
-    let r = table::start(sheet);
-    let answer = r.answer;
-    cases::write_answer(answer);
-    let t = r.table;
-    cases::write_table(t.count, &t.trues, &t.falses);
-    show_worlds(sheet, answer, t);
-    t
-}
-
-// What a step gave, written; the table that came back.
-fn show_step(sheet: &[u8], given: Table, index: usize) -> Table {
-    let r = table::step(sheet, given, index);
-    let answer = r.answer;
-    cases::write_answer(answer);
-    let t = r.table;
-    cases::write_table(t.count, &t.trues, &t.falses);
-    let totals = r.totals;
-    cases::write_totals(totals.candidates, totals.dropped, totals.removed);
-    show_worlds(sheet, answer, t);
     t
 }
 
@@ -144,8 +123,11 @@ fn act(sheet: &[u8], t: Table, bytes: &[u8]) -> Table {
     }
     let what = bytes[0];
     match what {
-        1 => show_start(sheet),
-        2 => show_step(sheet, t, cases::number(bytes, 1, 8) as usize),
+        1 => show_table(sheet, table::start(sheet)),
+        2 => show_table(
+            sheet,
+            table::step(sheet, t, cases::number(bytes, 1, 8) as usize),
+        ),
         3 => table_of(bytes),
         _ => {
             show_picture(sheet, t, buffer_size(bytes));

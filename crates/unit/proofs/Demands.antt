@@ -1,5 +1,5 @@
 -- What the numbers of a table are: one that was written is read back; a refused step leaves every number, a refused start or run zeros.
--- A refused run leaves the numbers of every row, a refused search zeros for its plan, a refused step or run zeros for its totals.
+-- A refused run leaves the numbers of every row, a refused search zeros for its plan.
 -- Assumes nothing.
 use mathlib.Core.Path.{◌≡◌, refl, sym, ap, ◌∙◌}
 use mathlib.Core.List.{List, [], ◌∷◌, ◌++◌}
@@ -12,26 +12,28 @@ use Rattle.sheet.specs.declared.Answer.TheVariants.{Refused}
 use Rattle.sheet.specs.Lists.{pad, collect}
 use Rattle.sheet.specs.Format.{sheet_of}
 use Rattle.table.specs.declared.Table.{Table}
-use Rattle.table.specs.declared.Totals.{Totals}
-use Rattle.table.specs.Entries.{table_of, lent}
+use Rattle.table.specs.Entries.{table_of}
 use Rattle.table.specs.Calls.{start_of, step_of}
-use Rattle.table.proofs.Demands.{start_back, step_back, step_zeros}
+use Rattle.table.proofs.Demands.{start_back, step_back}
 use Rattle.plan.specs.declared.Row.{Row}
 use Rattle.plan.specs.declared.Verdict.TheVariants as ran
 use Rattle.plan.specs.declared.Kind.TheVariants as kind
 use Rattle.plan.specs.Calls.{run_of, search_of}
 use Rattle.plan.proofs.laws.runs.RunRefusals.{run_none, run_back}
 use Rattle.plan.proofs.laws.searches.SearchRefusals.{search_back}
-use Rattle.unit.specs.Numbers.{totals_out, table_in, table_out, row_numbers}
-use Rattle.unit.specs.Calls.{step_reply, run_table, run_totals, rows_with, rows_out}
+use Rattle.unit.specs.Numbers.{table_in, table_out, row_numbers}
+use Rattle.unit.specs.Calls.{run_table, rows_with, rows_out}
 
 -- ---- a table that was written is read back
 pub table_again : (t : Table) (xs : List ℕ) → length t.trues ≡ 128 → length t.falses ≡ 128 → table_in (table_out t xs) ≡ t
 unfolding table_in table_out
 table_again t xs p q =
     let rest = t.falses ++ drop table_numbers xs in
-    λ k. lent t.count (take_at t.trues rest 128 p k)
-    ((ap (take 128) (drop_at t.trues rest 128 p) ∙ take_at t.falses (drop table_numbers xs) 128 q) k)
+    λ k. record {
+      count = t.count;
+      trues = take_at t.trues rest 128 p k;
+      falses = (ap (take 128) (drop_at t.trues rest 128 p) ∙ take_at t.falses (drop table_numbers xs) 128 q) k;
+    }
 
 -- ---- numbers that were read as a table and are written again are as they were, whatever they are
 pub table_kept : (xs : List ℕ) → table_numbers ≤ length xs → table_out (table_in xs) xs ≡ xs
@@ -49,14 +51,6 @@ pub step_kept : (s xs : List ℕ) (m number position : ℕ) → table_numbers �
     → (step_of (sheet_of s) (table_in xs) m).answer ≡ Refused number position
     → table_out (step_of (sheet_of s) (table_in xs) m).table xs ≡ xs
 step_kept s xs m number position h e = ap (λ (t : Table). table_out t xs) (step_back s (table_in xs) m number position e) ∙ table_kept xs h
-
--- and has zeros for its totals
-pub step_no_totals : (s xs : List ℕ) (m number position : ℕ) → (step_of (sheet_of s) (table_in xs) m).answer ≡ Refused number position
-    → ((step_reply s xs m).kind ≡ 0) × ((step_reply s xs m).place ≡ 0) × ((step_reply s xs m).detail ≡ 0)
-unfolding step_reply
-step_no_totals s xs m number position e =
-    let z = step_zeros s (table_in xs) m number position e in
-    (ap (λ (x : Totals). x.candidates) z, ap (λ (x : Totals). x.dropped) z, ap (λ (x : Totals). x.removed) z)
 
 -- ---- no table: 257 zeros
 pub no_table : (xs : List ℕ) → table_out (table_of []) xs ≡ replicate table_numbers 0 ++ drop table_numbers xs
@@ -79,12 +73,6 @@ module _ (s rows : List ℕ) (number position : ℕ) (refused : (run_of (sheet_o
     pub run_rows_kept : rows_out s rows ≡ rows
     unfolding rows_out rows_with
     run_rows_kept = ap (λ (r : List Row). collect row_numbers r ++ drop (3 * length r) rows)
-        (run_none (sheet_of s) (length rows / 3) number position refused).2
-
-    -- and has three zeros for its totals
-    pub run_no_totals : (xs : List ℕ) → totals_out (run_totals s rows) xs ≡ 0 ∷ 0 ∷ 0 ∷ drop 3 xs
-    unfolding totals_out run_totals
-    run_no_totals xs = ap (λ (x : Totals). x.candidates ∷ x.dropped ∷ x.removed ∷ drop 3 xs)
         (run_none (sheet_of s) (length rows / 3) number position refused).1
 
 -- ---- a refused search gives eight zeros for its plan

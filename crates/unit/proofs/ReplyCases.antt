@@ -1,6 +1,6 @@
 -- What the functions answer, by cases: a slice is too short, or the call's own answer in numbers. For the seven calls for C. Assumes
 -- nothing.
-use mathlib.Core.Path.{◌≡◌, refl, ap, ◌∙◌}
+use mathlib.Core.Path.{◌≡◌, ap, ◌∙◌}
 use mathlib.Core.Bool.{Bool, true, false, cond, ◌||◌}
 use mathlib.Core.List.{List, ◌++◌}
 use Prim.Native.Nat.{ℕ, ◌/◌, ◌≤◌, ◌<◌}
@@ -11,15 +11,9 @@ use Rattle.sheet.specs.declared.Answer.{Answer}
 use Rattle.sheet.specs.Format.{sheet_of}
 use Rattle.sheet.specs.Calls.{judge_of}
 use Rattle.table.specs.declared.Table.{Table}
-use Rattle.table.specs.declared.Totals.{Totals}
 use Rattle.table.specs.declared.TableAnswer.{TableAnswer}
-use Rattle.table.specs.declared.StepAnswer.{StepAnswer}
-use Rattle.table.specs.declared.steps.Advanced.{Advanced}
-use Rattle.table.specs.declared.steps.Advanced.TheVariants as advanced
 use Rattle.table.specs.declared.PictureAnswer.{PictureAnswer}
-use Rattle.sheet.specs.Limits.{table_numbers}
-use Rattle.sheet.proofs.laws.base.Bools.{cond_true, cond_false, or_right}
-use Rattle.table.specs.inner.Steps.{answer_in, totals_in, told_answer}
+use Rattle.sheet.proofs.laws.base.Bools.{cond_true, cond_false}
 use Rattle.table.specs.Calls.{start_of, step_of}
 use Rattle.table.specs.PictureCalls.{picture_of}
 use Rattle.plan.specs.declared.SearchAnswer.{SearchAnswer}
@@ -27,8 +21,8 @@ use Rattle.plan.specs.declared.Course.{Course}
 use Rattle.plan.specs.Calls.{search_of}
 use Rattle.plan.specs.inner.Course.{course_of}
 use Rattle.unit.specs.declared.Reply.{Reply}
-use Rattle.unit.specs.Numbers.{answer_reply, totals_reply, verdict_reply, kind_reply, info_of, too_short, totals_out, run_short, table_in, table_out}
-use Rattle.unit.specs.Calls.{judge_reply, start_reply, step_reply, picture_reply, search_reply, run_reply, run_table, run_totals}
+use Rattle.unit.specs.Numbers.{answer_reply, verdict_reply, kind_reply, info_of, too_short, table_in, table_out}
+use Rattle.unit.specs.Calls.{judge_reply, start_reply, step_reply, picture_reply, search_reply, run_reply, run_table}
 
 -- ---- the second of two by a test that does not hold
 pub second : {A : Type 0} {b : Bool} (x y z : A) → b ≡ false → z ≡ y → z ≡ cond b x y
@@ -48,20 +42,6 @@ module _ (n : ℕ) (xs info : List ℕ) where
   unfolding too_short
   lacks_none h k = ap (λ (t : Bool). t || ltb (length info) 4) (le-ltb (length xs) n h) ∙ le-ltb (length info) 4 k
 
--- the slices of a run
-module _ (table totals info : List ℕ) where
-  pub run_lacks : too_short table_numbers table info ≡ true → run_short table totals info ≡ true
-  unfolding run_short
-  run_lacks h = ap (λ (t : Bool). t || ltb (length totals) 3) h
-
-  pub run_lacks_totals : length totals < 3 → run_short table totals info ≡ true
-  unfolding run_short
-  run_lacks_totals h = or_right (too_short table_numbers table info) (ltb (length totals) 3) (lt-ltb (length totals) 3 h)
-
-  pub run_lacks_none : too_short table_numbers table info ≡ false → 3 ≤ length totals → run_short table totals info ≡ false
-  unfolding run_short
-  run_lacks_none h k = ap (λ (t : Bool). t || ltb (length totals) 3) h ∙ le-ltb (length totals) 3 k
-
 -- ---- then nothing is written, and the answer is 255
 pub unwritten : {b : Bool} {xs info : List ℕ} → b ≡ true → (answer : ℕ) (ys zs : List ℕ)
     → (255 ≡ cond b 255 answer) × ((xs ≡ cond b xs ys) × (info ≡ cond b info zs))
@@ -80,23 +60,20 @@ pub judge_told : (s : List ℕ) (a : Answer) (t : Reply) → a ≡ judge_of s �
 unfolding judge_reply
 judge_told s a t e q = q ∙ ap (λ (x : Answer). answer_reply x 0) e
 
--- a start over arrays, whose answer and table are r
+-- a start or a step over arrays, whose answer and table are r, is the call u
+answer_told : (r u : TableAnswer) (a : Answer) (t : Reply) → r ≡ u → a ≡ r.answer → t ≡ answer_reply a 0 → t ≡ answer_reply u.answer 0
+answer_told r u a t e q h = h ∙ ap (λ (x : Answer). answer_reply x 0) (q ∙ ap (λ (x : TableAnswer). x.answer) e)
+
 pub start_told : (s : List ℕ) (r : TableAnswer) (a : Answer) (t : Reply) → r ≡ start_of (sheet_of s) → a ≡ r.answer → t ≡ answer_reply a 0
     → t ≡ start_reply s
 unfolding start_reply
-start_told s r a t e q h = h ∙ ap (λ (x : Answer). answer_reply x 0) (q ∙ ap (λ (x : TableAnswer). x.answer) e)
+start_told s r a t e q h = answer_told r (start_of (sheet_of s)) a t e q h
 
--- a step over arrays, which gave r
-pub step_told : (s xs : List ℕ) (m : ℕ) (r : Advanced) (us gs : List ℕ) (t : Reply)
-    → told_answer (table_in xs) r us gs ≡ step_of (sheet_of s) (table_in xs) m → t ≡ totals_reply (answer_in r) (totals_in r)
+pub step_told : (s xs : List ℕ) (m : ℕ) (r : TableAnswer) (a : Answer) (t : Reply) → r ≡ step_of (sheet_of s) (table_in xs) m → a ≡ r.answer
+    → t ≡ answer_reply a 0
     → t ≡ step_reply s xs m
 unfolding step_reply
-step_told s xs m r us gs t e h =
-    h ∙ ap (λ (x : Answer). totals_reply x (totals_in r)) (answer_is r) ∙ ap (λ (x : StepAnswer). totals_reply x.answer x.totals) e
-  where
-    answer_is : (y : Advanced) → answer_in y ≡ (told_answer (table_in xs) y us gs).answer
-    answer_is (advanced.To count totals) = refl
-    answer_is (advanced.Refused number position) = refl
+step_told s xs m r a t e q h = answer_told r (step_of (sheet_of s) (table_in xs) m) a t e q h
 
 pub picture_told : (s xs : List ℕ) (n : ℕ) (g : Table) (r : PictureAnswer) (t : Reply) → g ≡ table_in xs → r ≡ picture_of (sheet_of s) g n
     → t ≡ answer_reply r.answer r.clauses
@@ -115,26 +92,19 @@ pub run_table_lem : (s rows : List ℕ) (r : Course) → r ≡ course_of (sheet_
 unfolding run_table course_of
 run_table_lem s rows r e = ap (λ (x : Course). x.ran.table) e
 
--- the totals that it hands back
-pub run_totals_lem : (s rows : List ℕ) (r : Course) → r ≡ course_of (sheet_of s) (length rows / 3) → r.ran.totals ≡ run_totals s rows
-unfolding run_totals course_of
-run_totals_lem s rows r e = ap (λ (x : Course). x.ran.totals) e
-
--- ---- the numbers of a table and of totals, once the slices are long enough
+-- ---- the numbers of a table, once the slices are long enough
 pub tables : {b : Bool} (enough : b ≡ false) (t u : Table) (xs after : List ℕ) → t ≡ u → after ≡ table_out t xs
     → after ≡ cond b xs (table_out u xs)
 tables enough t u xs after same e = second xs (table_out u xs) after enough (e ∙ ap (λ (x : Table). table_out x xs) same)
 
-pub totals_told : {b : Bool} (enough : b ≡ false) (x y : Totals) (xs after : List ℕ) → x ≡ y → after ≡ totals_out x xs
-    → after ≡ cond b xs (totals_out y xs)
-totals_told enough x y xs after same e = second xs (totals_out y xs) after enough (e ∙ ap (λ (z : Totals). totals_out z xs) same)
-
--- what a start or a step leaves, whose table is r, told as t and written out
-pub table_told : {b : Bool} {t u : Reply} {r v : Table} → b ≡ false → t ≡ u → r ≡ v → (xs after info told : List ℕ)
-    → after ≡ table_out r xs → told ≡ info_of t info
-    → (t.answer ≡ cond b 255 u.answer) × ((after ≡ cond b xs (table_out v xs)) × (told ≡ cond b info (info_of u info)))
-table_told {r = r} {v} enough same is xs after info told e q =
-    (byte enough _ _ same, (tables enough r v xs after is e, numbers enough _ _ same info told q))
+-- what a start or a step leaves, whose answer and table are r, told as t and written out
+pub table_told : {b : Bool} {t u : Reply} {r v : TableAnswer} → b ≡ false → t ≡ u → r ≡ v → (xs after info told : List ℕ)
+    → after ≡ table_out r.table xs → told ≡ info_of t info
+    → (t.answer ≡ cond b 255 u.answer) × ((after ≡ cond b xs (table_out v.table xs)) × (told ≡ cond b info (info_of u info)))
+table_told {r = r} {v} enough same is xs after info told e q = (
+  byte enough _ _ same,
+  (tables enough r.table v.table xs after (ap (λ (x : TableAnswer). x.table) is) e, numbers enough _ _ same info told q),
+)
 
 -- ---- what a search leaves, once the slices are long enough
 module _ {b : Bool} (enough : b ≡ false) (s : List ℕ) (limit : ℕ) (r : SearchAnswer) (is : r ≡ search_of (sheet_of s) limit) where

@@ -1,4 +1,4 @@
--- Numbers stored one after the other: info, totals, copies, tables. For the functions of src/numbers.rt that read and write slices. Assumes
+-- Numbers stored one after the other: info, copies, tables. For the functions of src/numbers.rt that read and write slices. Assumes
 -- nothing.
 use mathlib.Core.Path.{◌≡◌, refl, sym, ap, ap₂, subst, ◌∙◌}
 use mathlib.Core.List.{List, [], ◌∷◌, ◌++◌, append_assoc}
@@ -11,27 +11,21 @@ use Rattle.sheet.specs.Limits.{table_numbers}
 use Rattle.sheet.specs.Format.{sheet_of}
 use Rattle.sheet.specs.Lists.{pad}
 use Rattle.table.specs.declared.Table.{Table}
-use Rattle.table.specs.declared.Totals.{Totals}
-use Rattle.table.specs.declared.steps.Advanced.{Advanced}
+use Rattle.table.specs.declared.TableAnswer.{TableAnswer}
+use Rattle.table.specs.declared.steps.Stepped.{Stepped}
 use Rattle.table.specs.Entries.{lent}
-use Rattle.table.specs.inner.Steps.{told_answer}
+use Rattle.table.specs.inner.Steps.{step_answer}
 use Rattle.table.specs.Calls.{step_of}
 use Rattle.table.specs.Entries.{table_of}
 use Rattle.sheet.proofs.laws.base.Copying.{Copied, copied_step, copied_end, front}
 use Rattle.unit.specs.declared.Reply.{Reply}
-use Rattle.unit.specs.Numbers.{info_of, totals_out, table_in, table_out}
+use Rattle.unit.specs.Numbers.{info_of, table_in, table_out}
 
 -- the four numbers of info
 pub info_stores : (t : Reply) (info : List ℕ) → 4 ≤ length info
     → set (set (set (set info 0 t.position) 1 t.kind) 2 t.place) 3 t.detail ≡ info_of t info
 unfolding info_of
 info_stores t info h = sets-eq (t.position ∷ t.kind ∷ t.place ∷ t.detail ∷ []) info 0 h
-
--- the three numbers of totals
-pub totals_stores : (x : Totals) (xs : List ℕ) → 3 ≤ length xs
-    → set (set (set xs 0 x.candidates) 1 x.dropped) 2 x.removed ≡ totals_out x xs
-unfolding totals_out
-totals_stores x xs h = sets-eq (x.candidates ∷ x.dropped ∷ x.removed ∷ []) xs 0 h
 
 -- ---- copies
 -- a copy to the front
@@ -94,21 +88,24 @@ table_back (x ∷ ys) h =
     (sym (take-append-drop 128 (drop 128 ys)) ∙ ap (λ (r : List ℕ). take 128 (drop 128 ys) ++ r) (drop-drop 128 128 ys)))
 
 -- the step of the table in some numbers
-pub numbers_step : (s xs : List ℕ) (m k : ℕ) (r : Advanced) (us gs : List ℕ) → k ≡ get_or xs 0 0
+pub numbers_step : (s xs : List ℕ) (m k : ℕ) (r : Stepped) (us gs : List ℕ) → k ≡ get_or xs 0 0
     → let t = lent k (take 128 (drop 1 xs)) (take 128 (drop 129 xs)) in
-    told_answer t r us gs ≡ step_of (sheet_of s) t m → told_answer (table_in xs) r us gs ≡ step_of (sheet_of s) (table_in xs) m
+    step_answer t r us gs ≡ step_of (sheet_of s) t m → step_answer (table_in xs) r us gs ≡ step_of (sheet_of s) (table_in xs) m
 unfolding table_in
 numbers_step s xs m k r us gs e q =
-    subst (λ (j : ℕ). told_answer (lent j (take 128 (drop 1 xs)) (take 128 (drop 129 xs))) r us gs
+    subst (λ (j : ℕ). step_answer (lent j (take 128 (drop 1 xs)) (take 128 (drop 129 xs))) r us gs
     ≡ step_of (sheet_of s) (lent j (take 128 (drop 1 xs)) (take 128 (drop 129 xs))) m) e q
 
--- ---- what a start or a step gave, and f of it, which has the table: it is known to be x
-module _ {A : Type 0} (f : A → Table) {r x : A} (e : r ≡ x) where
-  pub table_by : (xs after : List ℕ) → after ≡ table_out (f x) xs → after ≡ table_out (f r) xs
-  table_by xs after q = q ∙ ap (λ (y : A). table_out (f y) xs) (sym e)
+-- ---- what a start or a step gave, f of it: it is known to be x
+module _ {A : Type 0} (f : A → TableAnswer) {r x : A} (e : r ≡ x) where
+  pub answer_by : (f x).answer ≡ (f r).answer
+  answer_by = ap (λ (y : A). (f y).answer) (sym e)
 
-  pub count_by : (f r).count < 2 ^ 32 → (f x).count < 2 ^ 32
-  count_by h = subst (λ (y : A). (f y).count < 2 ^ 32) e h
+  pub table_by : (xs after : List ℕ) → after ≡ table_out (f x).table xs → after ≡ table_out (f r).table xs
+  table_by xs after q = q ∙ ap (λ (y : A). table_out (f y).table xs) (sym e)
+
+  pub count_by : (f r).table.count < 2 ^ 32 → (f x).table.count < 2 ^ 32
+  count_by h = subst (λ (y : A). (f y).table.count < 2 ^ 32) e h
 
 -- no entry, in arrays of zeros
 pub zeros_table : lent 0 (replicate 128 0) (replicate 128 0) ≡ table_of []

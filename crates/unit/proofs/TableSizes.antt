@@ -16,9 +16,8 @@ use Rattle.sheet.specs.Problem.{Action, Problem, Statement}
 use Rattle.sheet.specs.Encoding.{ProperProblem}
 use Rattle.sheet.specs.Format.{Judgement, accepted, refused as faulty, sheet_of}
 use Rattle.table.specs.declared.Table.{Table}
-use Rattle.table.specs.declared.StepAnswer.{StepAnswer}
-use Rattle.table.specs.declared.steps.Advanced.{Advanced}
-use Rattle.table.specs.inner.Steps.{told_answer}
+use Rattle.table.specs.declared.steps.Stepped.{Stepped}
+use Rattle.table.specs.inner.Steps.{step_answer}
 use Rattle.table.specs.declared.TableAnswer.{TableAnswer}
 use Rattle.table.specs.Worlds.{results}
 use Rattle.table.specs.Minimal.{Outcome, refused, table, put_all, described}
@@ -102,11 +101,11 @@ fits_step (faulty k p) t m h = h
 fits_step (accepted x) t m h = fits_move (ltb m (length x.problem.actions)) x.problem.n (action_at x.problem m) t h
 
 -- the table that a step gave, in arrays
-pub step_fits : (s xs : List ℕ) (m : ℕ) (r : Advanced) (us gs : List ℕ) → get_or xs 0 0 < 2 ^ 32
-    → told_answer (table_in xs) r us gs ≡ step_of (sheet_of s) (table_in xs) m
-    → (told_answer (table_in xs) r us gs).table.count < 2 ^ 32
+pub step_fits : (s xs : List ℕ) (m : ℕ) (r : Stepped) (us gs : List ℕ) → get_or xs 0 0 < 2 ^ 32
+    → step_answer (table_in xs) r us gs ≡ step_of (sheet_of s) (table_in xs) m
+    → (step_answer (table_in xs) r us gs).table.count < 2 ^ 32
 unfolding table_in
-step_fits s xs m r us gs h q = subst (λ (x : StepAnswer). x.table.count < 2 ^ 32) (sym q) (fits_step (sheet_of s) (table_in xs) m h)
+step_fits s xs m r us gs h q = subst (λ (x : TableAnswer). x.table.count < 2 ^ 32) (sym q) (fits_step (sheet_of s) (table_in xs) m h)
 
 fits_planned : (p : Problem) (plan : List ℕ) (o : Outcome) → Small o → (planned p plan o).table.count < 2 ^ 32
 unfolding planned refused_run table_of

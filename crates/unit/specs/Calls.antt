@@ -4,13 +4,12 @@ use Rattle.sheet.specs.Lists.{collect}
 use Rattle.sheet.specs.Format.{sheet_of}
 use Rattle.sheet.specs.Calls.{judge_of}
 use Rattle.table.specs.declared.Table.{Table}
-use Rattle.table.specs.declared.Totals.{Totals}
 use Rattle.table.specs.Calls.{start_of, step_of}
 use Rattle.table.specs.PictureCalls.{picture_of}
 use Rattle.plan.specs.declared.Row.{Row}
 use Rattle.plan.specs.Calls.{run_of, rows_of, search_of}
 use Rattle.unit.specs.declared.Reply.{Reply}
-use Rattle.unit.specs.Numbers.{answer_reply, totals_reply, verdict_reply, kind_reply, table_in, row_numbers}
+use Rattle.unit.specs.Numbers.{answer_reply, verdict_reply, kind_reply, table_in, row_numbers}
 
 -- the sheet s judged
 unfoldable pub judge_reply : List ℕ → Reply
@@ -20,9 +19,9 @@ judge_reply s = answer_reply (judge_of s) 0
 unfoldable pub start_reply : List ℕ → Reply
 start_reply s = answer_reply (start_of (sheet_of s)).answer 0
 
--- the step of a table by the move of a number, with its totals
+-- the step of a table by the move of a number
 unfoldable pub step_reply : List ℕ → List ℕ → ℕ → Reply
-step_reply s table number = totals_reply (step_of (sheet_of s) (table_in table) number).answer (step_of (sheet_of s) (table_in table) number).totals
+step_reply s table number = answer_reply (step_of (sheet_of s) (table_in table) number).answer 0
 
 -- the picture of a table with a buffer of so many bytes: the number of clauses
 unfoldable pub picture_reply : List ℕ → List ℕ → ℕ → Reply
@@ -40,10 +39,6 @@ run_reply s rows = verdict_reply (run_of (sheet_of s) (length rows / 3)).verdict
 -- the last table it had
 unfoldable pub run_table : List ℕ → List ℕ → Table
 run_table s rows = (run_of (sheet_of s) (length rows / 3)).table
-
--- the totals of its steps
-unfoldable pub run_totals : List ℕ → List ℕ → Totals
-run_totals s rows = (run_of (sheet_of s) (length rows / 3)).totals
 
 -- its rows
 unfoldable pub rows_with : List ℕ → List ℕ → List Row

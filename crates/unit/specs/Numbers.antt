@@ -1,11 +1,10 @@
--- Answers, totals, tables and rows as numbers.
+-- Answers, tables and rows as numbers.
 use Rattle.std.specs.Prelude.{Bool, ◌||◌, List, [], ◌∷◌, ◌++◌, ℕ, ltb, length, get_or, take, drop}
 use Rattle.sheet.specs.Limits.{most_entries, table_numbers}
 use Rattle.sheet.specs.declared.Answer.{Answer}
 use Rattle.sheet.specs.declared.Answer.TheVariants as answer
 use Rattle.sheet.specs.Calls.{number_of, position_of}
 use Rattle.table.specs.declared.Table.{Table}
-use Rattle.table.specs.declared.Totals.{Totals}
 use Rattle.table.specs.Entries.{lent}
 use Rattle.plan.specs.declared.Row.{Row}
 use Rattle.plan.specs.declared.Verdict.{Verdict}
@@ -24,10 +23,6 @@ if_accepted (answer.Refused number position) extra = 0
 -- an answer by its number and position; `extra` is the second number of info if it is accepted
 abbrev pub answer_reply : Answer → ℕ → Reply
 answer_reply a extra = record { answer = number_of a; position = position_of a; kind = if_accepted a extra; place = 0; detail = 0 }
-
--- the answer of a step, and its totals (document 02, W4): candidates, dropped, removed
-abbrev pub totals_reply : Answer → Totals → Reply
-totals_reply a x = record { answer = number_of a; position = position_of a; kind = x.candidates; place = x.dropped; detail = x.removed }
 
 -- the kind of a verdict: reached 0, short 1, stopped 2, full 3; 0 for a refusal
 unfoldable pub verdict_kind : Verdict → ℕ
@@ -73,15 +68,6 @@ info_of t info = t.position ∷ t.kind ∷ t.place ∷ t.detail ∷ drop 4 info
 -- a slice of fewer numbers than `size`, or an info of fewer than 4
 unfoldable pub too_short : ℕ → List ℕ → List ℕ → Bool
 too_short size xs info = ltb (length xs) size || ltb (length info) 4
-
--- ---- totals
--- as numbers, and the numbers after these three as they were
-unfoldable pub totals_out : Totals → List ℕ → List ℕ
-totals_out x xs = x.candidates ∷ x.dropped ∷ x.removed ∷ drop 3 xs
-
--- slices of a run: a table or an info that is too short, or totals of fewer than 3 numbers
-unfoldable pub run_short : List ℕ → List ℕ → List ℕ → Bool
-run_short table totals info = too_short table_numbers table info || ltb (length totals) 3
 
 -- ---- tables
 -- the table in the first 257 numbers: the count, the masks of true propositions, those of false ones

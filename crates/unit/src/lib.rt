@@ -4,7 +4,7 @@ ghost use Rattle.sheet.specs.Format.{sheet_of};
 ghost use Rattle.table.specs.Calls.{start_of, step_of};
 ghost use Rattle.table.specs.PictureCalls.{buffer_of};
 ghost use Rattle.plan.specs.Calls.{search_of};
-ghost use Rattle.unit.specs.Numbers.{too_short, run_short, info_of, totals_out, table_in, table_out};
+ghost use Rattle.unit.specs.Numbers.{too_short, info_of, table_in, table_out};
 ghost use Rattle.unit.specs.Calls as U;
 ghost use Rattle.sheet.specs.Limits.{table_numbers};
 
@@ -84,7 +84,7 @@ pub extern "C" fn krepuskilo_picture(
     reply.answer
 }
 
-// The step of a table by the move of a number on the sheet; info has the totals of its candidates.
+// The step of a table by the move of a number on the sheet.
 #[unsafe(no_mangle)]
 pub extern "C" fn krepuskilo_step(
     sheet: &[u8],
@@ -105,8 +105,8 @@ pub extern "C" fn krepuskilo_step(
     let mut trues = [0u32; ENTRIES];
     let mut falses = [0u32; ENTRIES];
     let stepped = numbers::step_numbers(sheet, table, index as usize, &mut trues, &mut falses);
-    numbers::write_step(table, stepped, &trues, &falses);
-    let reply = numbers::step_reply(stepped);
+    let answer = numbers::write_step(table, stepped, &trues, &falses);
+    let reply = numbers::answer_reply(answer, 0);
     numbers::write_info(info, reply);
     reply.answer
 }
@@ -158,25 +158,20 @@ pub extern "C" fn krepuskilo_search_with(
     numbers::write_search(plan, info, searched)
 }
 
-// The run of a sheet's plan, its rows as three numbers each, and the totals of its steps as three more.
+// The run of a sheet's plan, its rows as three numbers each.
 #[unsafe(no_mangle)]
 pub extern "C" fn krepuskilo_run(
     sheet: &[u8],
     rows: &mut [u64],
     table: &mut [u32],
-    totals: &mut [u64],
     info: &mut [u64],
 ) -> u8
-    ensures value { result ≡ cond (run_short table.old totals.old info.old) 255 (U.run_reply sheet.now rows.old).answer }
-    ensures rows_after { rows.new ≡ cond (run_short table.old totals.old info.old) rows.old (U.rows_out sheet.now rows.old) }
-    ensures table_after { table.new ≡ cond (run_short table.old totals.old info.old) table.old (table_out (U.run_table sheet.now rows.old) table.old) }
-    ensures totals_after { totals.new ≡ cond (run_short table.old totals.old info.old) totals.old (totals_out (U.run_totals sheet.now rows.old) totals.old) }
-    ensures info_after { info.new ≡ cond (run_short table.old totals.old info.old) info.old (info_of (U.run_reply sheet.now rows.old) info.old) }
+    ensures value { result ≡ cond (too_short table_numbers table.old info.old) 255 (U.run_reply sheet.now rows.old).answer }
+    ensures rows_after { rows.new ≡ cond (too_short table_numbers table.old info.old) rows.old (U.rows_out sheet.now rows.old) }
+    ensures table_after { table.new ≡ cond (too_short table_numbers table.old info.old) table.old (table_out (U.run_table sheet.now rows.old) table.old) }
+    ensures info_after { info.new ≡ cond (too_short table_numbers table.old info.old) info.old (info_of (U.run_reply sheet.now rows.old) info.old) }
 {
     if table.len() < numbers::TABLE_NUMBERS {
-        return 255;
-    }
-    if totals.len() < 3 {
         return 255;
     }
     if info.len() < 4 {
@@ -198,8 +193,6 @@ pub extern "C" fn krepuskilo_run(
     let reply = numbers::verdict_reply(verdict);
     numbers::write_row_numbers(rows, ran.rows, &entries, &clauses);
     numbers::write_entries(table, ran.count, &trues, &falses);
-    let told = ran.totals;
-    numbers::write_totals(totals, told);
     numbers::write_info(info, reply);
     reply.answer
 }

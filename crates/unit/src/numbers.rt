@@ -1,15 +1,15 @@
-// Values laid out as numbers: answers, totals, tables, rows and plans.
+// Values laid out as numbers: answers, tables, rows and plans.
 ghost use Rattle.std.specs.Prelude.{◌≡◌, ◌++◌, ◌+◌, ◌*◌, ◌^◌, ◌≤◌, ◌<◌, length, drop};
 ghost use Rattle.sheet.specs.Lists.{collect};
 ghost use Rattle.sheet.specs.Format.{sheet_of};
 ghost use Rattle.table.specs.Calls.{step_of};
 ghost use Rattle.table.specs.Entries.{lent};
-ghost use Rattle.table.specs.inner.Steps.{answer_in, totals_in, told_answer};
+ghost use Rattle.table.specs.inner.Steps.{step_answer};
 ghost use Rattle.table.specs.inner.Starts.{start_answer};
 ghost use Rattle.table.specs.inner.Slots.{Fresh};
 ghost use Rattle.plan.specs.inner.Course.{counts_in};
 ghost use Rattle.plan.specs.inner.Rows.{rows_in};
-ghost use Rattle.unit.specs.Numbers.{answer_reply, totals_reply, verdict_reply, kind_reply, info_of, totals_out, table_in, table_out, row_numbers};
+ghost use Rattle.unit.specs.Numbers.{answer_reply, verdict_reply, kind_reply, info_of, table_in, table_out, row_numbers};
 ghost use Rattle.sheet.specs.Limits.{most_places, table_numbers};
 
 use crate::Reply;
@@ -20,8 +20,8 @@ use sheet::limits::{ENTRIES, PLACES};
 use sheet::packed::wide;
 use table::slots::copy_masks;
 use table::starts::Started;
-use table::steps::Advanced;
-use table::{Table, Totals, step_lent};
+use table::steps::Stepped;
+use table::{Table, step_lent};
 
 // The numbers of a table, and where its masks begin.
 pub(crate) const TABLE_NUMBERS: usize = 257;
@@ -43,28 +43,6 @@ pub(crate) fn answer_reply(answer: Answer, extra: u64) -> Reply
             detail: 0,
         },
         Answer::Refused(number, position) => Reply {
-            answer: number,
-            position: position as u64,
-            kind: 0,
-            place: 0,
-            detail: 0,
-        },
-    }
-}
-
-// What a step gave in numbers: its answer, and its totals, zeros if it is refused.
-pub(crate) fn step_reply(stepped: Advanced) -> Reply
-    ensures { result ≡ totals_reply (answer_in stepped) (totals_in stepped) }
-{
-    match stepped {
-        Advanced::To(_, totals) => Reply {
-            answer: 0,
-            position: 0,
-            kind: totals.candidates as u64,
-            place: totals.dropped as u64,
-            detail: totals.removed as u64,
-        },
-        Advanced::Refused(number, position) => Reply {
             answer: number,
             position: position as u64,
             kind: 0,
@@ -145,16 +123,6 @@ pub(crate) fn write_info(info: &mut [u64], reply: Reply)
     info[1] = reply.kind;
     info[2] = reply.place;
     info[3] = reply.detail;
-}
-
-// Totals as three numbers. The others are kept.
-pub(crate) fn write_totals(numbers: &mut [u64], totals: Totals)
-    requires { 3 ≤ length numbers.old }
-    ensures { numbers.new ≡ totals_out totals numbers.old }
-{
-    numbers[0] = totals.candidates as u64;
-    numbers[1] = totals.dropped as u64;
-    numbers[2] = totals.removed as u64;
 }
 
 // Bytes copied to the front of others. The others are kept.
@@ -250,10 +218,10 @@ pub(crate) fn step_numbers<'a, 'b, 'c, 'd>(
     index: usize,
     to_trues: &'c mut [u32; ENTRIES],
     to_falses: &'d mut [u32; ENTRIES],
-) -> Advanced
+) -> Stepped
     requires table_numbers_in_bounds { table_numbers ≤ length numbers.now }
     requires fresh { Fresh to_trues.old to_falses.old }
-    ensures { told_answer (table_in numbers.now) result to_trues.new to_falses.new ≡ step_of (sheet_of sheet.now) (table_in numbers.now) index }
+    ensures { step_answer (table_in numbers.now) result to_trues.new to_falses.new ≡ step_of (sheet_of sheet.now) (table_in numbers.now) index }
 {
     step_lent(
         sheet,
@@ -266,18 +234,23 @@ pub(crate) fn step_numbers<'a, 'b, 'c, 'd>(
     )
 }
 
-// What a step gave, written over the 257 numbers of its table; a refusal leaves them.
+// What a step gave, written over the 257 numbers of its table; a refusal leaves them. The result is its answer.
 pub(crate) fn write_step<'a, 'b>(
     numbers: &'a mut [u32],
-    stepped: Advanced,
+    stepped: Stepped,
     trues: &'b [u32; ENTRIES],
     falses: &'b [u32; ENTRIES],
-)
-    requires { (table_numbers ≤ length numbers.old) × ((told_answer (table_in numbers.old) stepped trues.now falses.now).table.count < 2 ^ 32) }
-    ensures { numbers.new ≡ table_out (told_answer (table_in numbers.old) stepped trues.now falses.now).table numbers.old }
+) -> Answer
+    requires { (table_numbers ≤ length numbers.old) × ((step_answer (table_in numbers.old) stepped trues.now falses.now).table.count < 2 ^ 32) }
+    ensures value { result ≡ (step_answer (table_in numbers.old) stepped trues.now falses.now).answer }
+    ensures numbers_after { numbers.new ≡ table_out (step_answer (table_in numbers.old) stepped trues.now falses.now).table numbers.old }
 {
-    if let Advanced::To(count, _) = stepped {
-        write_entries(numbers, count, trues, falses);
+    match stepped {
+        Stepped::To(count) => {
+            write_entries(numbers, count, trues, falses);
+            Answer::Accepted
+        }
+        Stepped::Refused(number, position) => Answer::Refused(number, position),
     }
 }
 

@@ -13,7 +13,6 @@ pub mod StartRuns
 pub mod CallVerdicts
 pub mod CallRuns
 pub mod ReadyTables
-pub mod RunTotals
 pub mod RunLoop
 pub mod CourseOfBytes
 pub mod RunPlaces

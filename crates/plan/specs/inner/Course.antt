@@ -1,12 +1,11 @@
 -- A run with its rows as plain numbers: what the call `run` writes into the rows, and the program `check` into its text.
-use Rattle.std.specs.Prelude.{◌≡◌, List, [], ◌++◌, map, ℕ, ◌+◌, ◌^◌, ◌<◌, length, set, replicate}
+use Rattle.std.specs.Prelude.{◌≡◌, List, [], ◌++◌, map, ℕ, ◌+◌, length, set, replicate}
 use Rattle.sheet.specs.Limits.{most_entries, most_places}
 use Rattle.sheet.specs.declared.Literals.{Literals}
 use Rattle.sheet.specs.Lists.{pad}
 use Rattle.sheet.specs.Format.{Judgement}
 use Rattle.sheet.specs.Problem.{Action, Problem}
 use Rattle.table.specs.declared.Table.{Table}
-use Rattle.table.specs.declared.Totals.{Totals}
 use Rattle.table.specs.Minimal.{Described, Outcome}
 use Rattle.table.specs.Picture.{picture, size_of}
 use Rattle.table.specs.Entries.{entries, table_of, lent}
@@ -14,7 +13,7 @@ use Rattle.plan.specs.declared.Row.{Row}
 use Rattle.plan.specs.declared.Counts.{Counts}
 use Rattle.plan.specs.declared.Course.{Course}
 use Rattle.plan.specs.declared.RunRecord.{RunRecord}
-use Rattle.plan.specs.Run.{run_from, last_table, rows_from, add_totals, totals_from}
+use Rattle.plan.specs.Run.{run_from, last_table, rows_from}
 use Rattle.plan.specs.Calls.{verdict_of, refused_run, planned, planned_rows, run_of, rows_of}
 
 -- the numbers of some rows, in slots with zeros after them
@@ -41,10 +40,7 @@ pub record FreshRows (es cs : List ℕ) : Type 0 where
 
 -- a run, with the masks of its last table and the numbers of its rows
 abbrev pub course_in : RunRecord → List ℕ → List ℕ → List ℕ → List ℕ → Course
-course_in w ts fs es cs = record {
-  ran = record { verdict = w.verdict; table = lent w.count ts fs; totals = w.totals };
-  counts = counts_in w.rows es cs;
-}
+course_in w ts fs es cs = record { ran = record { verdict = w.verdict; table = lent w.count ts fs }; counts = counts_in w.rows es cs }
 
 -- ---- its parts
 -- one row more, of the table t
@@ -56,25 +52,15 @@ noted c t =
       clauses = set c.clauses c.count (size_of (picture t));
     }
 
--- two totals whose sums fit a machine word
-pub record Summable (x y : Totals) : Type 0 where
-  pub candidates : x.candidates + y.candidates < 2 ^ 64
-  pub dropped : x.dropped + y.dropped < 2 ^ 64
-  pub removed : x.removed + y.removed < 2 ^ 64
-
 -- a refusal: no table, and no row
 unfoldable pub refused_course : ℕ → ℕ → Course
 refused_course number position = record { ran = refused_run number position; counts = counts_of [] }
 
--- the rest of a plan from the table t, `place` moves already taken, after some rows and with so many totals
-unfoldable pub course_from : List Literals → List Row → Totals → ℕ → List Action → List Literals → Course
-course_from goal rows totals place plan t =
+-- the rest of a plan from the table t, `place` moves already taken, after some rows
+unfoldable pub course_from : List Literals → List Row → ℕ → List Action → List Literals → Course
+course_from goal rows place plan t =
     record {
-      ran = record {
-        verdict = verdict_of (run_from most_entries goal place plan t);
-        table = table_of (last_table most_entries plan t);
-        totals = add_totals totals (totals_from most_entries plan t);
-      };
+      ran = record { verdict = verdict_of (run_from most_entries goal place plan t); table = table_of (last_table most_entries plan t) };
       counts = counts_of (rows ++ rows_from most_entries place plan t);
     }
 

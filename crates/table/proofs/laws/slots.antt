@@ -7,6 +7,5 @@ pub mod LastWithin
 pub mod PutFates
 pub mod ConsistentCandidates
 pub mod PutLoops
-pub mod FateSums
 pub mod AbsorbedCandidates
 pub mod DescribedTables

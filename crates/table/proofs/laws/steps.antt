@@ -2,13 +2,11 @@
 -- ---- may be cited from above
 pub mod StepWorlds
 pub mod PaperWorlds
-pub mod StepTotals
 -- ---- for this crate alone
 pub mod PieceWorlds
 pub mod OpposedPairs
 pub mod PairScan
 pub mod PieceWalk
-pub mod PieceCounts
 pub mod CarriedResults
 pub mod StepArrays
 pub mod StepCall

@@ -22,9 +22,9 @@ returns_2 c =
     undescribed _ _ _ after-decode.decode.ensures.0 _ _ after-enum-told.enum_told.given.1 after-if1.if1.false
     (sym c.before.described.ensures ∙ not-true _ c.if2.true)
 
-step_told_requires : tie.Need-step-told-requires
+step_at_requires : tie.Need-step-at-requires
 unfolding entries
-step_told_requires c κs =
+step_at_requires c κs =
     let after-if2 = c.before.before.before.before in
     let after-if1 = after-if2.before.before in
     let after-enum-told = after-if1.before.before.before in
@@ -45,12 +45,12 @@ returns_4 c =
     let after-if1 = after-described.before in
     let after-enum-told = after-if1.before.before.before in
     let after-decode = after-enum-told.before.before in
-    c.step_told.ensures
+    c.step-at.ensures
     ∙ known_step _ _ _ after-decode.decode.ensures.0 _ _ after-enum-told.enum_told.given.1 after-if1.if1.false
     (sym after-described.described.ensures ∙ not-false _ after-if2.if2.false)
 
 pub step_lent_spec : {M : Type 1} → statement M
 step_lent_spec =
     tie.close
-    (tie.spec (λ c κs. search rules) (λ c. search rules) (λ c. search rules) returns (λ c κs. search rules) returns_2 step_told_requires
+    (tie.spec (λ c κs. search rules) (λ c. search rules) (λ c. search rules) returns (λ c κs. search rules) returns_2 step_at_requires
     returns_3 returns_4)

@@ -1,16 +1,15 @@
 -- What is carried down where a piece is split by the conditions of effects in order.
-use Rattle.std.specs.Prelude.{◌≡◌, true, false, List, map, ℕ, zero, suc, ◌*◌, ◌≤◌, ◌<◌, length, take, drop}
+use Rattle.std.specs.Prelude.{◌≡◌, true, false, List, ℕ, zero, suc, ◌-◌, ◌*◌, ◌≤◌, ◌<◌, length, take, drop}
 use Rattle.sheet.specs.declared.Literals.{Literals}
 use Rattle.sheet.specs.declared.Effect.{Effect}
 use Rattle.sheet.specs.Literals.{within, clash, consistent, join, flip, literal}
-use Rattle.sheet.specs.Lists.{All, collect}
+use Rattle.sheet.specs.Lists.{All}
 use Rattle.sheet.specs.inner.Packed.{effect_at, effects_at}
 use Rattle.table.specs.declared.steps.Undecided.{Undecided}
-use Rattle.table.specs.declared.slots.Sums.{Sums}
 use Rattle.table.specs.Worlds.{results}
-use Rattle.table.specs.Step.{pieces, image}
+use Rattle.table.specs.Step.{pieces}
 use Rattle.table.specs.Entries.{entries_of}
-use Rattle.table.specs.inner.Slots.{Room, Held, no_sums, Countable}
+use Rattle.table.specs.inner.Slots.{Room, Held}
 
 -- each condition is consistent
 abbrev pub Steady : List Effect → Type 0
@@ -27,30 +26,27 @@ pub record Splits (c piece : Literals) : Type 0 where
   pub lacking : within c piece ≡ false
   pub apart : clash c piece ≡ false
 
--- from `at` on to the place of r no condition splits the piece, and r has it, with the results up to there
+-- from `at` on to the place of r no condition splits the piece, and r has the results up to there
 pub record Skips (es : List Effect) (at : ℕ) (piece : Literals) (r : Undecided) : Type 0 where
   pub upto : at ≤ r.at
-  pub same : r.piece ≡ piece
-  pub carried : Carried es r.at r.piece r.results
-  pub whole : pieces (drop r.at es) r.piece ≡ pieces (drop at es) piece
+  pub carried : Carried es r.at piece r.results
+  pub whole : pieces (drop r.at es) piece ≡ pieces (drop at es) piece
 
 -- ---- what branching asks: of the effects in a row of masks, of what is branched, and of the arrays that the images are put in
--- a piece that the condition at its place splits, after the entries that s counts
-pub record SplitFits (effects : List ℕ) (size : ℕ) (u : Undecided) (ts fs : List ℕ) (s : Sums) : Type 0 where
+-- a piece that the undecided condition splits, after count entries
+pub record SplitFits (effects : List ℕ) (size : ℕ) (u : Undecided) (piece : Literals) (ts fs : List ℕ) (count : ℕ) : Type 0 where
   pub effects_room : 4 * size ≤ length effects
   pub below : u.at < size
-  pub splits : Splits (effect_at effects u.at).condition u.piece
-  pub carried : Carried (effects_at size effects) u.at u.piece u.results
-  pub held : Held (length ts) s.count ts fs
-  pub countable : Countable s (map (image (effects_at size effects)) (pieces (drop u.at (effects_at size effects)) u.piece))
+  pub splits : Splits (effect_at effects u.at).condition piece
+  pub carried : Carried (effects_at size effects) u.at piece u.results
+  pub held : Held (length ts) count ts fs
 
--- an entry, after the entries that s counts
-pub record BranchFits (effects : List ℕ) (size : ℕ) (entry : Literals) (ts fs : List ℕ) (s : Sums) : Type 0 where
+-- an entry, after count entries
+pub record BranchFits (effects : List ℕ) (size : ℕ) (entry : Literals) (ts fs : List ℕ) (count : ℕ) : Type 0 where
   pub effects_room : 4 * size ≤ length effects
   pub steady : Steady (effects_at size effects)
   pub entry_steady : consistent entry ≡ true
-  pub held : Held (length ts) s.count ts fs
-  pub countable : Countable s (map (image (effects_at size effects)) (pieces (effects_at size effects) entry))
+  pub held : Held (length ts) count ts fs
 
 -- the first count entries of a table, into arrays with no entry
 pub record BranchesFit (effects : List ℕ) (size : ℕ) (ts fs : List ℕ) (count : ℕ) (us gs : List ℕ) : Type 0 where
@@ -59,7 +55,6 @@ pub record BranchesFit (effects : List ℕ) (size : ℕ) (ts fs : List ℕ) (cou
   pub room : Room count ts fs
   pub entries_steady : All (λ d. consistent d ≡ true) (entries_of count ts fs)
   pub held : Held (length us) 0 us gs
-  pub countable : Countable no_sums (map (image (effects_at size effects)) (collect (pieces (effects_at size effects)) (entries_of count ts fs)))
 
 -- ---- the parts of a piece that a condition splits
 -- part 0 is d with all of c, part l + 1 is d with the complement of the literal l

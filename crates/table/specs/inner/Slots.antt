@@ -1,19 +1,17 @@
 -- Lists of literal sets in two arrays of masks, over any capacity: what contracts ask of the arrays, and what putting candidates leaves
 -- there.
-use Rattle.std.specs.Prelude.{◌≡◌, Bool, ◌||◌, List, ℕ, ◌+◌, ◌^◌, ◌≤◌, ◌<◌, length, replicate, get_or}
+use Rattle.std.specs.Prelude.{◌≡◌, Bool, ◌||◌, List, ℕ, ◌+◌, ◌-◌, ◌≤◌, length, replicate, get_or}
 use Rattle.std.proofs.Math.Option.{Option, none, some}
 use Rattle.sheet.specs.Limits.{most_entries}
 use Rattle.sheet.specs.declared.Literals.{Literals}
 use Rattle.sheet.specs.Literals.{within}
 use Rattle.sheet.specs.Lists.{pad}
+use Rattle.table.specs.declared.slots.Fate.TheVariants.{Full}
 use Rattle.table.specs.declared.slots.Grown.{Grown}
-use Rattle.table.specs.declared.slots.Sums.{Sums}
-use Rattle.table.specs.declared.slots.Laid.{Laid}
-use Rattle.table.specs.declared.slots.Laid.TheVariants as laid
 use Rattle.table.specs.declared.slots.Grown.TheVariants as grown
-use Rattle.table.specs.Minimal.{put_all}
+use Rattle.table.specs.Minimal.{put, put_all}
 use Rattle.table.specs.Entries.{trues_of, falses_of, entries_of}
-use Rattle.table.specs.Totals.{dropped_by, removed_by, fates, sum_by}
+use Rattle.table.specs.declared.steps.Stepped.TheVariants as stepped
 
 -- ---- what contracts ask of two arrays
 -- so many slots or more
@@ -43,6 +41,15 @@ pub record Holds (cap : ℕ) (es : List Literals) (count : ℕ) (ts fs : List �
 abbrev pub Held : ℕ → ℕ → List ℕ → List ℕ → Type 0
 Held cap count ts fs = Holds cap (entries_of count ts fs) count ts fs
 
+-- the list, or s where it is full
+unfoldable pub or_else : List Literals → Option (List Literals) → List Literals
+or_else s none = s
+or_else s (some r) = r
+
+-- the list after a candidate; as it was where it is full
+unfoldable pub list_after : ℕ → List Literals → Literals → List Literals
+list_after cap s c = or_else s (put cap s c)
+
 -- ---- candidates put one after the other
 -- what was to be put gave o: with so many entries in the slots it gave them; full it gave none
 abbrev pub Grew : ℕ → Option (List Literals) → Grown → List ℕ → List ℕ → Type 0
@@ -52,43 +59,6 @@ Grew cap o grown.Full ts fs = o ≡ none
 -- the candidates cs were put after so many entries of ts, fs; r, us and gs are what came of it
 pub record Puts (cs : List Literals) (count : ℕ) (ts fs : List ℕ) (r : Grown) (us gs : List ℕ) : Type 0 where
   pub grew : Grew (length ts) (put_all (length ts) cs (entries_of count ts fs)) r us gs
-
--- ---- the same with the fates of the candidates
--- no candidate yet
-abbrev pub no_sums : Sums
-no_sums = record { count = 0; dropped = 0; removed = 0 }
-
--- the sums fit a machine word, after the candidates cs too
-pub record Countable (s : Sums) (cs : List Literals) : Type 0 where
-  pub fits : s.dropped + s.removed + s.count + length cs < 2 ^ 64
-
--- so many entries, and the fates counted in two numbers: candidates dropped, entries removed
-abbrev pub sums_in : ℕ → List ℕ → Sums
-sums_in count told = record { count = count; dropped = get_or told 0 0; removed = get_or told 1 0 }
-
-abbrev pub laid_of : Grown → List ℕ → Laid
-laid_of (grown.To count) told = laid.To (sums_in count told)
-laid_of grown.Full told = laid.Full
-
--- how many entries there are, without the other sums
-abbrev pub grown_of : Laid → Grown
-grown_of (laid.To s) = grown.To s.count
-grown_of laid.Full = grown.Full
-
--- r has the sums s with the fates of the candidates cs, put after the entries es
-abbrev pub Summed : ℕ → List Literals → List Literals → Sums → Laid → Type 0
-Summed cap cs es s (laid.To x) = (x.dropped ≡ s.dropped + sum_by dropped_by (fates cap cs es))
-    × (x.removed ≡ s.removed + sum_by removed_by (fates cap cs es))
-Summed cap cs es s laid.Full = Unit {0}
-
--- the candidates cs were put after the entries that s counts; r, us and gs are what came of it, and r tells the fates too
-pub record Tells (cs : List Literals) (s : Sums) (ts fs : List ℕ) (r : Laid) (us gs : List ℕ) : Type 0 where
-  pub puts : Puts cs s.count ts fs (grown_of r) us gs
-  pub summed : Summed (length ts) cs (entries_of s.count ts fs) s r
-
--- the same with the fates counted in two lent numbers, `told` before and `after` then
-pub record TellsIn (cs : List Literals) (count : ℕ) (told ts fs : List ℕ) (r : Grown) (after us gs : List ℕ) : Type 0 where
-  pub tells : Tells cs (sums_in count told) ts fs (laid_of r after) us gs
 
 -- ---- single slots
 -- the set in slot i of two arrays

@@ -1,8 +1,7 @@
 -- What a step over arrays asks of its move, its table and the arrays that it fills, and the answer that they then are.
-use Rattle.std.specs.Prelude.{◌≡◌, List, ℕ, ◌+◌, ◌<◌, ◌≤◌, length}
+use Rattle.std.specs.Prelude.{◌≡◌, List, ℕ, ◌<◌, ◌≤◌, length}
 use Rattle.sheet.specs.inner.Widths.{most_propositions, most_moves, packed_length}
 use Rattle.sheet.specs.Limits.{most_entries}
-use Rattle.sheet.specs.declared.Answer.{Answer}
 use Rattle.sheet.specs.declared.Answer.TheVariants.{Accepted, Refused}
 use Rattle.sheet.specs.Literals.{Proper}
 use Rattle.sheet.specs.Lists.{All}
@@ -13,13 +12,6 @@ use Rattle.table.specs.declared.Table.{Table}
 use Rattle.table.specs.declared.TableAnswer.{TableAnswer}
 use Rattle.table.specs.declared.steps.Stepped.{Stepped}
 use Rattle.table.specs.declared.steps.Stepped.TheVariants as stepped
-use Rattle.table.specs.declared.steps.Advanced.{Advanced}
-use Rattle.table.specs.declared.steps.Advanced.TheVariants as advanced
-use Rattle.table.specs.declared.StepAnswer.{StepAnswer}
-use Rattle.table.specs.declared.Totals.{Totals}
-use Rattle.table.specs.declared.slots.Sums.{Sums}
-use Rattle.table.specs.Totals.{no_totals}
-use Rattle.table.specs.Calls.{with_totals}
 use Rattle.table.specs.Entries.{entries, lent}
 use Rattle.table.specs.inner.Slots.{Room, Fresh}
 
@@ -27,27 +19,6 @@ use Rattle.table.specs.inner.Slots.{Room, Fresh}
 abbrev pub step_answer : Table → Stepped → List ℕ → List ℕ → TableAnswer
 step_answer t (stepped.To count) us gs = record { answer = Accepted; table = lent count us gs }
 step_answer t (stepped.Refused number position) us gs = record { answer = Refused number position; table = t }
-
--- ---- the same with the totals
--- without the totals again
-abbrev pub untold : Advanced → Stepped
-untold (advanced.To count totals) = stepped.To count
-untold (advanced.Refused number position) = stepped.Refused number position
-
-abbrev pub answer_in : Advanced → Answer
-answer_in (advanced.To count totals) = Accepted
-answer_in (advanced.Refused number position) = Refused number position
-
-abbrev pub totals_in : Advanced → Totals
-totals_in (advanced.To count totals) = totals
-totals_in (advanced.Refused number position) = no_totals
-
-abbrev pub told_answer : Table → Advanced → List ℕ → List ℕ → StepAnswer
-told_answer t r us gs = with_totals (step_answer t (untold r) us gs) (totals_in r)
-
--- the totals of some sums: each candidate was dropped, or removed later on, or is an entry
-abbrev pub totals_of : Sums → Totals
-totals_of s = record { candidates = s.dropped + s.removed + s.count; dropped = s.dropped; removed = s.removed }
 
 -- an action and a table over the same n propositions
 pub record Fits (a : Action) (t : Table) : Type 0 where

@@ -1,6 +1,4 @@
 -- `krepuskilo_start` meets its contract: the answer of `start` in numbers and its table, or 255. Assumes nothing.
-use mathlib.Core.Path.{ap}
-use Rattle.table.specs.declared.TableAnswer.{TableAnswer}
 use borrow.Author.Rules.{rules}
 use Rattle.sheet.specs.Limits.{table_numbers}
 use Rattle.unit.proofs.ReplyCases.{lacks_first, lacks_info, lacks_none, start_told, unwritten, table_told}
@@ -27,8 +25,8 @@ returns_3 c =
     let e = lacks_none table_numbers a.table.now a.info.now after-if1.if1.false after-if2.if2.false in
     let d = after-start-lent.start-lent.ensures in
     let w = after-write-start.write-start.ensures in
-    table_told e (start_told a.sheet.now _ _ _ d w.0 after-answer-reply.answer-reply.ensures)
-    (ap (λ (x : TableAnswer). x.table) d) _ _ _ _ w.1 after-write-info.write-info.ensures
+    table_told e (start_told a.sheet.now _ _ _ d w.0 after-answer-reply.answer-reply.ensures) d _ _ _ _ w.1
+    after-write-info.write-info.ensures
 
 pub krepuskilo_start_spec : {M : Type 1} → statement M
 krepuskilo_start_spec =

@@ -1,7 +1,5 @@
--- `krepuskilo_step` meets its contract: the answer of `step` in numbers, its table and its totals, or 255. Assumes nothing.
-use mathlib.Core.Path.{ap}
+-- `krepuskilo_step` meets its contract: the answer of `step` in numbers and its table, or 255. Assumes nothing.
 use Rattle.sheet.specs.Limits.{table_numbers}
-use Rattle.table.specs.declared.StepAnswer.{StepAnswer}
 use Rattle.unit.proofs.ReplyCases.{lacks_first, lacks_info, lacks_none, step_told, unwritten, table_told}
 use Rattle.unit.proofs.TableSizes.{step_fits}
 use borrow.Author.Rules.{rules}
@@ -19,18 +17,18 @@ write_step_requires c κs =
 returns_3 : tie.Need-returns-3
 returns_3 c =
     let after-write-info = c.before.before in
-    let after-step-reply = after-write-info.before.before in
-    let after-write-step = after-step-reply.before.before.before in
+    let after-answer-reply = after-write-info.before.before in
+    let after-write-step = after-answer-reply.before.before.before in
     let after-step-numbers = after-write-step.before.before.before.before in
     let after-if2 = after-step-numbers.before.before.before.before in
     let after-if1 = after-if2.before in
     let start = after-if1.before.before.before.before in
     let a = start.args in
     let e = lacks_none table_numbers a.table.now a.info.now after-if1.if1.false after-if2.if2.false in
-    let d = after-step-numbers.step_numbers in
-    table_told e
-    (step_told a.sheet.now a.table.now a.index d.result _ _ _ d.ensures after-step-reply.step-reply.ensures)
-    (ap (λ (x : StepAnswer). x.table) d.ensures) _ _ _ _ after-write-step.write_step.ensures after-write-info.write-info.ensures
+    let d = after-step-numbers.step_numbers.ensures in
+    let w = after-write-step.write_step.ensures in
+    table_told e (step_told a.sheet.now a.table.now a.index _ _ _ d w.0 after-answer-reply.answer-reply.ensures) d
+    _ _ _ _ w.1 after-write-info.write-info.ensures
 
 pub krepuskilo_step_spec : {M : Type 1} → statement M
 krepuskilo_step_spec =

@@ -1,6 +1,6 @@
 -- What demand 3 asks for is met by two plans that differ: two moves that both put the lamp out, in either order. For `demand_3` in
 -- proofs/Demands. Assumes nothing.
-use mathlib.Core.Path.{◌≡◌, refl, sym, ap, ◌∙◌}
+use mathlib.Core.Path.{◌≡◌, refl, sym, ap, ap₂, ◌∙◌}
 use mathlib.Core.Bool.{true, false}
 use mathlib.Core.List.{List, [], ◌∷◌}
 use mathlib.Core.Option.{Option, some}
@@ -18,9 +18,7 @@ use Rattle.sheet.specs.Faults.{Says}
 use Rattle.table.specs.Worlds.{and_then}
 use Rattle.table.specs.Minimal.{put, table}
 use Rattle.table.specs.Start.{start_clauses, grow, start_table}
-use Rattle.table.specs.Fates.{fate_of, or_else, list_after}
 use Rattle.table.specs.Step.{missing, split, image, step_table}
-use Rattle.table.specs.Totals.{step_totals}
 use Rattle.table.specs.Picture.{units, unions, fold, primes, precedes, insert, sort_onto, sort, picture, picture_bytes}
 use Rattle.table.specs.Entries.{pairs, entries_of, entries, table_of}
 use Rattle.table.specs.Calls.{action_at}
@@ -28,7 +26,7 @@ use Rattle.table.specs.CallWords.{Starts}
 use Rattle.table.proofs.laws.examples.BenchExamples.{set, when, always}
 use Rattle.plan.specs.declared.RunAnswer.{RunAnswer}
 use Rattle.plan.specs.declared.Verdict.TheVariants as ran
-use Rattle.plan.specs.Run.{actions_of, in_goal, reached, run_from, last_table, totals_from}
+use Rattle.plan.specs.Run.{actions_of, in_goal, Verdict, reached, run_from, last_table}
 use Rattle.plan.specs.Calls.{verdict_of, run_of}
 use Rattle.plan.specs.Exchange.{changed, reads, named, touch, touch_anywhere, exchanges}
 use Rattle.plan.specs.Demand3.{refused_verdict, run_refused}
@@ -75,36 +73,27 @@ starts = refl
 
 came_01 : (run_from 128 two.goal 0 (actions_of two (0 ∷ 1 ∷ [])) (set 4 0 ∷ []) ≡ reached)
     × (last_table 128 (actions_of two (0 ∷ 1 ∷ [])) (set 4 0 ∷ []) ≡ set 3 4 ∷ [])
-    × (totals_from 128 (actions_of two (0 ∷ 1 ∷ [])) (set 4 0 ∷ []) ≡ record { candidates = 2; dropped = 0; removed = 0 })
 unfolding actions_of action_at step_table split missing image put within join clash consistent flip literal single sign replace no_literal
-    members members_from contains mem has in_goal meets totals_from step_totals fate_of list_after or_else
-came_01 = (refl, refl, refl)
+    members members_from contains mem has in_goal meets
+came_01 = (refl, refl)
 
 came_10 : (run_from 128 two.goal 0 (actions_of two (1 ∷ 0 ∷ [])) (set 4 0 ∷ []) ≡ reached)
     × (last_table 128 (actions_of two (1 ∷ 0 ∷ [])) (set 4 0 ∷ []) ≡ set 3 4 ∷ [])
-    × (totals_from 128 (actions_of two (1 ∷ 0 ∷ [])) (set 4 0 ∷ []) ≡ record { candidates = 2; dropped = 0; removed = 0 })
 unfolding actions_of action_at step_table split missing image put within join clash consistent flip literal single sign replace no_literal
-    members members_from contains mem has in_goal meets totals_from step_totals fate_of list_after or_else
-came_10 = (refl, refl, refl)
+    members members_from contains mem has in_goal meets
+came_10 = (refl, refl)
 
--- the answer in either order
-abbrev ended : RunAnswer
-ended =
-    record {
-      verdict = verdict_of reached;
-      table = table_of (set 3 4 ∷ []);
-      totals = record { candidates = 2; dropped = 0; removed = 0 };
-    }
-
-given_01 : run_of (sheet_of (lamp_sheet 0 1)) 65 ≡ ended
+given_01 : run_of (sheet_of (lamp_sheet 0 1)) 65 ≡ record { verdict = verdict_of reached; table = table_of (set 3 4 ∷ []) }
 given_01 =
     run_call (lamp_sheet 0 1) (with_plan 0 1) says_01 65 (omega arith) (set 4 0 ∷ []) starts
-    ∙ (λ j. record { verdict = verdict_of (came_01.0 j); table = table_of (came_01.1 j); totals = came_01.2 j })
+    ∙ ap₂ {C = RunAnswer} (λ (v : Verdict) (u : List Literals). record { verdict = verdict_of v; table = table_of u }) came_01.0
+    came_01.1
 
-given_10 : run_of (sheet_of (lamp_sheet 1 0)) 65 ≡ ended
+given_10 : run_of (sheet_of (lamp_sheet 1 0)) 65 ≡ record { verdict = verdict_of reached; table = table_of (set 3 4 ∷ []) }
 given_10 =
     run_call (lamp_sheet 1 0) (with_plan 1 0) says_10 65 (omega arith) (set 4 0 ∷ []) starts
-    ∙ (λ j. record { verdict = verdict_of (came_10.0 j); table = table_of (came_10.1 j); totals = came_10.2 j })
+    ∙ ap₂ {C = RunAnswer} (λ (v : Verdict) (u : List Literals). record { verdict = verdict_of v; table = table_of u }) came_10.0
+    came_10.1
 
 -- the picture of the last table: the lamp out, f, g
 abbrev drawn : List Literals
@@ -116,17 +105,18 @@ unfolding entries table_of entries_of pairs pad has mem within consistent join s
 shown = refl
 
 -- both are reached
-reached_by : (r : RunAnswer) → r ≡ ended → r.verdict ≡ ran.Reached
+reached_by : (r : RunAnswer) → r ≡ record { verdict = verdict_of reached; table = table_of (set 3 4 ∷ []) } → r.verdict ≡ ran.Reached
 unfolding verdict_of
 reached_by r e = ap (λ (q : RunAnswer). q.verdict) e
 
 -- the final picture of a run with this table
-final : (r : RunAnswer) → r ≡ ended
+final : (r : RunAnswer) → r ≡ record { verdict = verdict_of reached; table = table_of (set 3 4 ∷ []) }
     → final_picture r ≡ some (picture_bytes drawn)
 unfolding final_picture final_clauses run_refused refused_verdict verdict_of
 final r e = ap final_picture e ∙ ap (λ (o : Option (List Literals)). and_then o (λ c. some (picture_bytes c))) shown
 
-final_of_lem : (a b : ℕ) → Says (lamp_sheet a b) (with_plan a b) → run_of (sheet_of (lamp_sheet a b)) 65 ≡ ended
+final_of_lem : (a b : ℕ) → Says (lamp_sheet a b) (with_plan a b) → run_of (sheet_of (lamp_sheet a b)) 65 ≡ record
+    { verdict = verdict_of reached; table = table_of (set 3 4 ∷ []) }
     → final_of (lamp_sheet a b) 65 ≡ some (picture_bytes drawn)
 final_of_lem a b says e = final_is (lamp_sheet a b) (with_plan a b) says 65 ∙ final (run_of (sheet_of (lamp_sheet a b)) 65) e
 

@@ -1,5 +1,5 @@
 -- The sheet of document 01 meets what demand 3 asks for. For `demand_3` in proofs/Demands, and for TextExamples. Assumes nothing.
-use mathlib.Core.Path.{◌≡◌, refl, sym, ap, ◌∙◌}
+use mathlib.Core.Path.{◌≡◌, refl, sym, ap, ap₂, ◌∙◌}
 use mathlib.Core.List.{List, [], ◌∷◌}
 use mathlib.Core.Logic.{inl}
 use mathlib.Core.Option.{Option, some}
@@ -13,9 +13,7 @@ use Rattle.sheet.specs.Printed.{printed}
 use Rattle.sheet.specs.Format.{sheet_of}
 use Rattle.table.specs.Worlds.{and_then}
 use Rattle.table.specs.Minimal.{put}
-use Rattle.table.specs.Fates.{fate_of, or_else, list_after}
 use Rattle.table.specs.Step.{missing, split, image, step_table}
-use Rattle.table.specs.Totals.{step_totals}
 use Rattle.table.specs.Picture.{units, unions, fold, primes, precedes, insert, sort_onto, sort, picture, picture_bytes}
 use Rattle.table.specs.Entries.{pairs, entries_of, entries, table_of}
 use Rattle.table.specs.Calls.{action_at}
@@ -23,7 +21,7 @@ use Rattle.table.proofs.Demands.{start_table_lem}
 use Rattle.table.proofs.laws.examples.BenchExamples.{set, paper, bench, paper_proper}
 use Rattle.plan.specs.declared.RunAnswer.{RunAnswer}
 use Rattle.plan.specs.declared.Verdict.TheVariants as ran
-use Rattle.plan.specs.Run.{actions_of, in_goal, reached, run_from, last_table, totals_from}
+use Rattle.plan.specs.Run.{actions_of, in_goal, Verdict, reached, run_from, last_table}
 use Rattle.plan.specs.Calls.{verdict_of, run_of}
 use Rattle.plan.specs.Exchange.{changed, reads, touch, exchanges}
 use Rattle.plan.specs.Demand3.{refused_verdict, run_refused}
@@ -38,21 +36,14 @@ first = set 1 6 ∷ set 2 5 ∷ set 4 3 ∷ []
 -- the answer of the call
 came : (run_from 128 paper.problem.goal 0 (actions_of paper.problem paper.plan) first ≡ reached)
     × (last_table 128 (actions_of paper.problem paper.plan) first ≡ set 1 6 ∷ [])
-    × (totals_from 128 (actions_of paper.problem paper.plan) first ≡ record { candidates = 5; dropped = 2; removed = 0 })
 unfolding actions_of action_at step_table split missing image put within join clash consistent flip literal single sign replace no_literal
-    members members_from contains mem has in_goal meets totals_from step_totals fate_of list_after or_else
-came = (refl, refl, refl)
+    members members_from contains mem has in_goal meets
+came = (refl, refl)
 
--- of three pieces and then of two one each is dropped
-pub given : run_of (sheet_of printed) 65
-    ≡ record {
-      verdict = verdict_of reached;
-      table = table_of (set 1 6 ∷ []);
-      totals = record { candidates = 5; dropped = 2; removed = 0 };
-    }
+pub given : run_of (sheet_of printed) 65 ≡ record { verdict = verdict_of reached; table = table_of (set 1 6 ∷ []) }
 given =
     run_call printed paper bench.says 65 (omega arith) first bench.M1
-    ∙ (λ j. record { verdict = verdict_of (came.0 j); table = table_of (came.1 j); totals = came.2 j })
+    ∙ ap₂ {C = RunAnswer} (λ (v : Verdict) (u : List Literals). record { verdict = verdict_of v; table = table_of u }) came.0 came.1
 
 shown : picture (entries (table_of (set 1 6 ∷ []))) ≡ some (set 0 2 ∷ set 0 4 ∷ set 1 0 ∷ [])
 unfolding entries table_of entries_of pairs pad has mem within consistent join single sign literal contains members_from members put units

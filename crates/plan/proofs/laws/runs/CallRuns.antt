@@ -16,7 +16,7 @@ use Rattle.table.specs.Picture.{picture}
 use Rattle.table.specs.Entries.{entries, table_of}
 use Rattle.table.proofs.laws.answers.CallTables.{entries_table}
 use Rattle.plan.specs.declared.RunAnswer.{RunAnswer}
-use Rattle.plan.specs.Run.{actions_of, run_from, last_table, rows_from, totals_from}
+use Rattle.plan.specs.Run.{actions_of, run_from, last_table, rows_from}
 use Rattle.plan.specs.Calls.{verdict_of, refused_run, planned, run_of, planned_rows, rows_of}
 use Rattle.plan.specs.Demand3.{refused_verdict, run_refused}
 use Rattle.plan.specs.inner.RunEnds.{final_clauses}
@@ -39,7 +39,6 @@ module _ (s : List ℕ) (x : Statement) (says : sheet_of s ≡ accepted x) (rows
         ≡ record {
           verdict = verdict_of (run_from 128 p.goal 0 (actions_of p x.plan) t);
           table = table_of (last_table 128 (actions_of p x.plan) t);
-          totals = totals_from 128 (actions_of p x.plan) t;
         }
     unfolding planned
     run_call = run_planned ∙ ap (planned x.problem x.plan) starts

@@ -1,6 +1,6 @@
 -- TH5 by the calls start, step and picture: what a run stops at, the table it returns, its rows. For `run` in proofs/Demands. Assumes
 -- nothing.
-use mathlib.Core.Path.{◌≡◌, refl, sym, ap, ap₂, subst, ◌∙◌}
+use mathlib.Core.Path.{◌≡◌, refl, sym, ap, subst, ◌∙◌}
 use mathlib.Core.Bool.{Bool, true, false, cond}
 use mathlib.Core.List.{List, [], ◌∷◌, ◌++◌, map}
 use mathlib.Core.Logic.{◌⊎◌, ◌↔◌}
@@ -21,9 +21,7 @@ use Rattle.sheet.specs.Encoding.{ProperProblem}
 use Rattle.sheet.proofs.laws.base.ListFacts.{map_take, map_drop, all_drop}
 use Rattle.sheet.proofs.Demands.{statement_proper}
 use Rattle.table.specs.declared.Table.{Table}
-use Rattle.table.specs.declared.Totals.{Totals}
 use Rattle.table.specs.declared.TableAnswer.{TableAnswer}
-use Rattle.table.specs.declared.StepAnswer.{StepAnswer}
 use Rattle.table.specs.declared.PictureAnswer.{PictureAnswer}
 use Rattle.table.specs.Worlds.{and_then, InGoal}
 use Rattle.table.specs.Minimal.{In, Described, described, Outcome}
@@ -31,8 +29,7 @@ use Rattle.table.specs.Start.{start_table}
 use Rattle.table.specs.Step.{step_table}
 use Rattle.table.specs.Picture.{picture, size_of}
 use Rattle.table.specs.Entries.{entries, table_of}
-use Rattle.table.specs.Totals.{step_totals}
-use Rattle.table.specs.Calls.{or_given, with_totals, start_of, action_at, step_of}
+use Rattle.table.specs.Calls.{or_given, start_of, action_at, step_of}
 use Rattle.table.specs.PictureCalls.{refusal, too_long, picture_of}
 use Rattle.table.specs.PictureCalls as pictured
 use Rattle.table.specs.CallWords.{OnSheet, WorldOf}
@@ -43,11 +40,11 @@ use Rattle.plan.specs.declared.Row.{Row}
 use Rattle.plan.specs.declared.RunAnswer.{RunAnswer}
 use Rattle.plan.specs.declared.Verdict as case
 use Rattle.plan.specs.declared.Verdict.TheVariants as ran
-use Rattle.plan.specs.Run.{actions_of, Verdict, reached, short, stopped, full, run_from, last_table, row_of, rows_from, list_or, totals_list, sum_totals, totals_from}
-use Rattle.plan.specs.inner.TableRuns.{moves_taken, count_or, then_table, table_at, Refuses}
+use Rattle.plan.specs.Run.{actions_of, Verdict, reached, short, stopped, full, run_from, last_table, row_of, rows_from}
+use Rattle.plan.specs.inner.TableRuns.{moves_taken, then_table, table_at, Refuses}
 use Rattle.plan.specs.Calls.{verdict_of, run_of, rows_of, rows_after}
 use Rattle.plan.specs.Demand3.{taken_by, run_refused}
-use Rattle.plan.specs.DemandWords.{taken, when_accepted, stepped, arrived, told_along, StepRefused, clauses_or}
+use Rattle.plan.specs.DemandWords.{taken, when_accepted, stepped, arrived, StepRefused, clauses_or}
 use Rattle.plan.proofs.laws.runs.RunTables.{last_at}
 use Rattle.plan.proofs.laws.runs.RunTables as running
 use Rattle.plan.proofs.laws.runs.StartRuns.{taken_by_lem, place_arrives, by_stopped, by_full, by_reached, by_short}
@@ -106,8 +103,7 @@ module _ (s : List ℕ) (x : Statement) (says : Says s x) where
 
   -- the call step on a table as described
   step_call : (u : List Literals) → Described 128 p.n u → (m : ℕ) → OnSheet x m
-      → step_of (sheet_of s) (table_of u) m
-      ≡ with_totals (or_given (table_of u) (step_table 128 (action_at p m) u)) (step_totals 128 (action_at p m) u)
+      → step_of (sheet_of s) (table_of u) m ≡ or_given (table_of u) (step_table 128 (action_at p m) u)
   unfolding step_of
   step_call u d m on = rw (
     says,
@@ -115,15 +111,14 @@ module _ (s : List ℕ) (x : Statement) (says : Says s x) where
     entries_table u d.most,
     (tables.described_iff 128 x.problem.n u).1 d,
   )
-      (ap (λ (es : List Literals). with_totals (or_given (table_of u) (step_table 128 (action_at p m) es)) (step_totals 128 (action_at p m) es))
-      (entries_table u d.most))
+      (ap (λ (es : List Literals). or_given (table_of u) (step_table 128 (action_at p m) es)) (entries_table u d.most))
 
   -- the table after some moves
   stepped_at : (ms : List ℕ) → All (λ m. m < length x.problem.actions) ms → (u : List Literals) → Described 128 p.n u
       → stepped s ms (table_of u) ≡ tabled (table_at 128 (length ms) (actions_of p ms) u)
   unfolding tabled actions_of
   stepped_at [] h u d = refl
-  stepped_at (m ∷ ms) h u d = ap (λ (r : StepAnswer). and_then (when_accepted r.answer r.table) (λ v. stepped s ms v))
+  stepped_at (m ∷ ms) h u d = ap (λ (r : TableAnswer). and_then (when_accepted r.answer r.table) (λ v. stepped s ms v))
       (step_call u d m h.0) ∙ go (step_table 128 (action_at p m) u) refl (stepped_at ms h.1)
     where
       go : (o : Outcome) → step_table 128 (action_at p m) u ≡ o
@@ -134,28 +129,6 @@ module _ (s : List ℕ) (x : Statement) (says : Says s x) where
       go (Outcome.refused k) e ih = unfold or_given in refl
       go (Outcome.table v) e ih = unfold or_given in ih v
           (tables.step_table_lem p.n hp.n_most (action_at p m) (at_proper p hp m h.0) u d 128 v e).0
-
-  -- what the call step tells of the moves that a run takes
-  told_along_lem : (ms : List ℕ) → All (λ m. m < length x.problem.actions) ms → (u : List Literals) → Described 128 p.n u
-      → told_along s (take (moves_taken 128 (actions_of p ms) u) ms) (table_of u) ≡ totals_list 128 (actions_of p ms) u
-  unfolding actions_of
-  told_along_lem [] h u d = refl
-  told_along_lem (m ∷ ms) h u d = go (step_table 128 (action_at p m) u) refl (told_along_lem ms h.1)
-    where
-      go : (o : Outcome) → step_table 128 (action_at p m) u ≡ o
-          → ((v : List Literals) → Described 128 p.n v
-          → told_along s (take (moves_taken 128 (map (action_at p) ms) v) ms) (table_of v) ≡ totals_list 128 (map (action_at p) ms) v)
-          → told_along s (take (count_or o (λ v. moves_taken 128 (map (action_at p) ms) v)) (m ∷ ms)) (table_of u)
-          ≡ list_or o (λ v. step_totals 128 (action_at p m) u ∷ totals_list 128 (map (action_at p) ms) v)
-      go (Outcome.refused k) e ih = refl
-      go (Outcome.table v) e ih =
-          let call = step_call u d m h.0 in
-          let next : (step_of (sheet_of s) (table_of u) m).table ≡ table_of v = unfold or_given in
-          ap (λ (r : StepAnswer). r.table) call ∙ ap (λ (o : Outcome). (or_given (table_of u) o).table) e in
-          ap₂ (λ (y : Totals) (w : Table). y ∷ told_along s (take (moves_taken 128 (map (action_at p) ms) v) ms) w)
-          (ap (λ (r : StepAnswer). r.totals) call) next
-          ∙ ap (λ (ys : List Totals). step_totals 128 (action_at p m) u ∷ ys)
-          (ih v (tables.step_table_lem p.n hp.n_most (action_at p m) (at_proper p hp m h.0) u d 128 v e).0)
 
   -- ---- from the start table
   module _ (t : List Literals) (starts : start_table 128 x.problem ≡ Outcome.table t) where
@@ -216,9 +189,9 @@ module _ (s : List ℕ) (x : Statement) (says : Says s x) where
 
             refuses : (step_of (sheet_of s) (table_of r.last) m).answer ≡ Refused N 0
             refuses = unfold or_given in
-                ap (λ (z : StepAnswer). z.answer) (step_call r.last (place_described j r.last r.arrives) m on)
-                ∙ ap (λ (o : Outcome). (or_given (table_of r.last) o).answer)
-                (ap (λ (a : Action). step_table 128 a r.last) move ∙ r.gives)
+                ap (λ (z : TableAnswer). z.answer)
+                (step_call r.last (place_described j r.last r.arrives) m on
+                ∙ ap (or_given (table_of r.last)) (ap (λ (a : Action). step_table 128 a r.last) move ∙ r.gives))
 
     call_refuses : (k N : ℕ) → StepRefused s x.plan k N → (j : ℕ) × (k ≡ suc j) × Refuses 128 plan t j N
     call_refuses k N r = (
@@ -244,7 +217,7 @@ module _ (s : List ℕ) (x : Statement) (says : Says s x) where
           later = map (action_at p) r.later;
           next = unfold actions_of in sym (map_drop (action_at p) r.before x.plan) ∙ ap (map (action_at p)) r.next;
           gives = number_of (table_of u) (step_table 128 (action_at p r.move) u) N
-              (ap (λ (z : StepAnswer). z.answer) (sym (step_call u (place_described r.before u e) r.move on))
+              (ap (λ (z : TableAnswer). z.answer) (sym (step_call u (place_described r.before u e) r.move on))
               ∙ ap (λ (l : Table). (step_of (sheet_of s) l r.move).answer) is ∙ r.gives);
         }
           where
@@ -366,15 +339,6 @@ module _ (s : List ℕ) (x : Statement) (says : Says s x) where
           (last_at 128 plan t)
           ∙ ap some (sym (ap (λ (r : RunAnswer). r.table) (run_call s x says rows enough t starts)))
 
-      -- ---- the totals
-      totals_are : (run_of (sheet_of s) rows).totals ≡ sum_totals (told_along s (taken s x rows) (start_of (sheet_of s)).table)
-      unfolding totals_from
-      totals_are =
-          ap (λ (r : RunAnswer). r.totals) (run_call s x says rows enough t starts)
-          ∙ ap sum_totals (sym (told_along_lem x.plan hq t first))
-          ∙ ap₂ (λ (ms : List ℕ) (u : Table). sum_totals (told_along s ms u)) (sym taken_first)
-          (sym (ap (λ (r : TableAnswer). r.table) start_call))
-
       -- ---- the rows
       rows_are : rows_of (sheet_of s) rows ≡ rows_from 128 0 plan t
       rows_are = rows_call s x says rows enough t starts
@@ -472,12 +436,6 @@ module _ (s : List ℕ) (x : Statement) (says : Says s x) where
   no_verdict rows h v N starts e = not_refused v N 0 (sym e ∙ (run_number s x says rows h N 0).1 (refl, starts))
 
   -- ---- both together
-  pub run_told : (rows : ℕ) → run_refused (run_of (sheet_of s) rows) ≡ false
-      → (run_of (sheet_of s) rows).totals ≡ sum_totals (told_along s (taken s x rows) (start_of (sheet_of s)).table)
-  run_told rows f =
-      let k = run_starts s x says rows f in
-      totals_are k.0 k.1 rows (rows_enough s x says rows f)
-
   pub run_stopped_at : (rows : ℕ) → 65 ≤ rows → (k N : ℕ) → ((run_of (sheet_of s) rows).verdict ≡ ran.Stopped k N)
       ↔ (StepRefused s x.plan k N × ((N ≡ 24) ⊎ (N ≡ 25)))
   unfolding verdict_of

@@ -16,7 +16,6 @@ use Rattle.sheet.specs.Faults.{Says}
 use Rattle.sheet.specs.declared.Answer.TheVariants.{Refused}
 use Rattle.table.specs.Minimal.{Outcome}
 use Rattle.table.specs.Start.{start_table}
-use Rattle.table.specs.Totals.{no_totals}
 use Rattle.table.specs.Entries.{table_of}
 use Rattle.table.specs.Calls.{start_of}
 use Rattle.table.specs.CallWords.{AsDescribed, ZeroAfter}
@@ -45,9 +44,9 @@ module _ (p : Problem) (plan : List ℕ) where
   planned_given (Outcome.table t) = (λ h. (t, refl), λ h. not_refused _)
 
   planned_back : (o : Outcome) (k q : ℕ) → (planned p plan o).verdict ≡ ran.Refused k q → ((planned p plan o).table ≡ table_of [])
-      × ((planned p plan o).totals ≡ no_totals) × (planned_rows p plan o ≡ [])
+      × (planned_rows p plan o ≡ [])
   unfolding planned refused_run planned_rows
-  planned_back (Outcome.refused j) k q e = (refl, refl, refl)
+  planned_back (Outcome.refused j) k q e = (refl, refl)
   planned_back (Outcome.table t) k q e = absurd (not_refused _ k q e)
 
 -- no row is written: every row is kept
@@ -55,18 +54,17 @@ kept : (j : Judgement) (given : List Row) → rows_of j (length given) ≡ [] �
 unfolding rows_after
 kept j given e = rw e
 
--- a refused run has an empty table and totals of zeros, and writes no row
+-- a refused run has an empty table and writes no row
 pub run_none : (j : Judgement) (rows k q : ℕ) → (run_of j rows).verdict ≡ ran.Refused k q → ((run_of j rows).table ≡ table_of [])
-    × ((run_of j rows).totals ≡ no_totals) × (rows_of j rows ≡ [])
+    × (rows_of j rows ≡ [])
 unfolding run_of rows_of refused_run
-run_none (refused i p) rows k q e = (refl, refl, refl)
+run_none (refused i p) rows k q e = (refl, refl)
 run_none (accepted x) rows k q e = go (ltb rows 65) (start_table 128 x.problem) e
   where
     go : (b : Bool) (o : Outcome) → (cond b (refused_run 23 0) (planned x.problem x.plan o)).verdict ≡ ran.Refused k q
         → ((cond b (refused_run 23 0) (planned x.problem x.plan o)).table ≡ table_of [])
-        × ((cond b (refused_run 23 0) (planned x.problem x.plan o)).totals ≡ no_totals)
         × (cond b [] (planned_rows x.problem x.plan o) ≡ [])
-    go true o e = (refl, refl, refl)
+    go true o e = (refl, refl)
     go false o e = planned_back x.problem x.plan o k q e
 
 -- ---- the numbers in their order
@@ -109,15 +107,10 @@ module _ (s : List ℕ) (x : Statement) (says : sheet_of s ≡ accepted x) where
 pub run_back : (s : List ℕ) (rows k q : ℕ) → (run_of (sheet_of s) rows).verdict ≡ ran.Refused k q → (run_of (sheet_of s) rows).table ≡ table_of []
 run_back s rows k q e = (run_none (sheet_of s) rows k q e).0
 
--- and totals of zeros
-pub run_no_totals : (s : List ℕ) (rows k q : ℕ) → (run_of (sheet_of s) rows).verdict ≡ ran.Refused k q
-    → (run_of (sheet_of s) rows).totals ≡ no_totals
-run_no_totals s rows k q e = (run_none (sheet_of s) rows k q e).1
-
 -- and keeps every row as it was given
 pub run_rows_kept : (s : List ℕ) (given : List Row) (k q : ℕ) → (run_of (sheet_of s) (length given)).verdict ≡ ran.Refused k q
     → rows_after (sheet_of s) given ≡ given
-run_rows_kept s given k q e = kept (sheet_of s) given (run_none (sheet_of s) (length given) k q e).2
+run_rows_kept s given k q e = kept (sheet_of s) given (run_none (sheet_of s) (length given) k q e).1
 
 -- ---- a run that is not refused
 module _ (s : List ℕ) (x : Statement) (says : Says s x) where

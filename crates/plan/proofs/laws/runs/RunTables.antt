@@ -15,7 +15,7 @@ use Rattle.sheet.specs.Problem.{Action}
 use Rattle.table.specs.Minimal.{Outcome, refused, table}
 use Rattle.table.specs.Step.{step_table}
 use Rattle.plan.specs.declared.Row.{Row}
-use Rattle.plan.specs.Run.{in_goal, ended_in, halted_by, onward, run_from, table_or, last_table, row_of, list_or, rows_from}
+use Rattle.plan.specs.Run.{in_goal, ended_in, halted_by, onward, run_from, table_or, last_table, row_of, rows_or, rows_from}
 use Rattle.plan.specs.inner.TableRuns.{count_or, moves_taken, then_table, table_at, Refuses}
 
 module _ (cap : ℕ) where
@@ -166,7 +166,7 @@ module _ (cap : ℕ) where
   rows_length place (a ∷ plan) t = go (step_table cap a t) (rows_length (suc place) plan)
     where
       go : (o : Outcome) → ((v : List Literals) → length (rows_from cap (suc place) plan v) ≡ suc (moves_taken cap plan v))
-          → suc (length (list_or o (λ v. rows_from cap (suc place) plan v))) ≡ suc (count_or o (λ v. moves_taken cap plan v))
+          → suc (length (rows_or o (λ v. rows_from cap (suc place) plan v))) ≡ suc (count_or o (λ v. moves_taken cap plan v))
       go (refused N) ih = refl
       go (table v) ih = ap suc (ih v)
 
@@ -184,5 +184,5 @@ module _ (cap : ℕ) where
   row_at_lem place (a ∷ plan) t (suc i) u d h =
       let x = at_later a plan t u i h in
       let q : suc place + i ≡ place + suc i = omega arith in
-      ap (λ (o : Outcome). get_or (list_or o (λ v. rows_from cap (suc place) plan v)) i d) x.1 ∙ row_at_lem (suc place) plan x.0 i u d x.2
+      ap (λ (o : Outcome). get_or (rows_or o (λ v. rows_from cap (suc place) plan v)) i d) x.1 ∙ row_at_lem (suc place) plan x.0 i u d x.2
       ∙ ap (λ (j : ℕ). row_of j u) q

@@ -22,21 +22,17 @@ use Rattle.table.specs.declared.Table.{Table}
 use Rattle.table.specs.declared.TableAnswer.{TableAnswer}
 use Rattle.table.specs.Start.{start_table}
 use Rattle.table.specs.Entries.{entries, table_of, lent}
-use Rattle.table.specs.declared.Totals.{Totals}
-use Rattle.table.specs.Totals.{no_totals}
 use Rattle.table.specs.Calls.{or_given, action_at}
-use Rattle.plan.proofs.laws.runs.RunTotals.{none_add}
 use Rattle.table.specs.declared.starts.Started.{Started}
 use Rattle.table.specs.declared.starts.Started.TheVariants as started
 use Rattle.table.specs.inner.Starts.{start_answer}
 use Rattle.table.specs.Minimal.{table}
 use Rattle.table.proofs.laws.steps.StepWorlds.{at_proper}
-use Rattle.plan.specs.declared.Course.{Course}
-use Rattle.plan.specs.Run.{actions_of, run_from, last_table, rows_from, totals_from}
+use Rattle.plan.specs.Run.{actions_of, run_from}
 use Rattle.plan.specs.Search.{plans_up_to}
 use Rattle.plan.specs.Order.{PlanOf}
-use Rattle.plan.specs.Calls.{verdict_of, refused_search, answered, searched_from, searched, planned, planned_rows}
-use Rattle.plan.specs.inner.Course.{counts_of, course_from, Ready, refused_course, planned_course}
+use Rattle.plan.specs.Calls.{refused_search, answered, searched_from, searched, planned, planned_rows}
+use Rattle.plan.specs.inner.Course.{course_from, Ready, refused_course, planned_course}
 use Rattle.plan.specs.inner.Searches.{ran_from, Searchable, Runnable, searched_by}
 use Rattle.plan.proofs.laws.searches.PlanOrder.{out_plans}
 use Rattle.plan.proofs.laws.searches.FirstByMove.{same_first}
@@ -105,9 +101,9 @@ module _ (p : Problem) (g : ProperProblem p) (packed : List ℕ) (long : length 
         (λ q h. ap₂ (λ (x : List Literals) (q : List Action). run_from 128 x 0 q (entries t)) is (plan_laid q h.0))
         (plans_up_to count limit) (out_plans count limit)))
 
-    coursed : (q : List ℕ) → All (λ i. i < count) q → course_from (sets_in (goal_in packed)) [] no_totals 0 (map (action_of (moves_in packed)) q)
-        (entries t) ≡ course_from p.goal [] no_totals 0 (actions_of p q) (entries t)
-    coursed q h = ap₂ (λ (x : List Literals) (q : List Action). course_from x [] no_totals 0 q (entries t)) is (plan_laid q h)
+    coursed : (q : List ℕ) → All (λ i. i < count) q → course_from (sets_in (goal_in packed)) [] 0 (map (action_of (moves_in packed)) q)
+        (entries t) ≡ course_from p.goal [] 0 (actions_of p q) (entries t)
+    coursed q h = ap₂ (λ (x : List Literals) (q : List Action). course_from x [] 0 q (entries t)) is (plan_laid q h)
 
 -- ---- search and run of a problem from its start, as it was answered
 module _ (p : Problem) (s : TableAnswer) (is : s ≡ or_given (table_of []) (start_table 128 p)) where
@@ -117,19 +113,10 @@ module _ (p : Problem) (s : TableAnswer) (is : s ≡ or_given (table_of []) (sta
     unfolding searched
     sought_from limit = sym (ap (searched p limit) (started p g s is a))
 
-    start_run : (plan : List ℕ) → course_from p.goal [] no_totals 0 (actions_of p plan) (entries s.table) ≡ planned_course p plan
+    start_run : (plan : List ℕ) → course_from p.goal [] 0 (actions_of p plan) (entries s.table) ≡ planned_course p plan
         (start_table 128 p)
     unfolding course_from planned_course planned planned_rows
-    start_run plan =
-        ap {B = Course} (λ (y : Totals). record {
-          ran = record {
-            verdict = verdict_of (run_from 128 p.goal 0 (actions_of p plan) (entries s.table));
-            table = table_of (last_table 128 (actions_of p plan) (entries s.table));
-            totals = y;
-          };
-          counts = counts_of (rows_from 128 0 (actions_of p plan) (entries s.table));
-        }) (none_add (totals_from 128 (actions_of p plan) (entries s.table)))
-        ∙ sym (ap (planned_course p plan) (started p g s is a))
+    start_run plan = sym (ap (planned_course p plan) (started p g s is a))
 
   -- the start was refused
   module _ (k i : ℕ) (a : s.answer ≡ Refused k i) where
@@ -191,8 +178,8 @@ module _ (x : Sheet) (packed : List ℕ) (h : Filled x packed) where
       pub can_run : Runnable x.plan packed (lent k ts fs)
       can_run = runnable p proper packed h.long are goal_is (lent k ts fs) ready x.plan h.plan_most numbers
 
-      pub run_is : course_from (sets_in (goal_in packed)) [] no_totals 0 (map (action_of (moves_in packed)) (plan_in x.plan))
-          (entries (lent k ts fs)) ≡ planned_course p (plan_in x.plan) (start_table 128 p)
+      pub run_is : course_from (sets_in (goal_in packed)) [] 0 (map (action_of (moves_in packed)) (plan_in x.plan)) (entries (lent k ts fs))
+          ≡ planned_course p (plan_in x.plan) (start_table 128 p)
       run_is =
           coursed p proper packed h.long are goal_is (lent k ts fs) (plan_in x.plan) numbers
           ∙ start_run p first first_is proper refl (plan_in x.plan)

@@ -9,22 +9,20 @@ use lib.ListN.{length, get_or}
 use Rattle.sheet.proofs.laws.base.Prefixes.{length_mapped}
 use Rattle.sheet.specs.inner.Packed.{goal_in, sets_in}
 use Rattle.table.specs.Entries.{entries as tableEntries, lent}
-use Rattle.table.specs.Totals.{no_totals}
 use Rattle.plan.specs.inner.Course.{counts_in, course_from}
 use Rattle.plan.proofs.laws.searches.ArrayMoves.{slots_room, move_fits}
-use Rattle.plan.proofs.laws.runs.RunLoop.{left, Going, going_start, going_room, going_end, number_below, going_sums, going_on, going_halt}
+use Rattle.plan.proofs.laws.runs.RunLoop.{left, Going, going_start, going_room, going_end, number_below, going_on, going_halt}
 use Rattle.plan.proofs.laws.runs.RunLoop.{no_rows, going_note}
 use Rattle.plan.proofs.runs.run_from.Statement.{statement}
 use Rattle.plan.proofs.runs.run_from.Tie as tie
 
 abbrev invariant_loop : tie.invariant_loop
-invariant_loop packed trues₀ falses₀ count entries₀ clauses₀ plan length filled₀ totals₀ i₀ trues falses entries clauses filled totals i =
-    Going plan packed (course_from (sets_in (goal_in packed)) [] no_totals 0 (left plan packed 0) (tableEntries (lent count trues₀ falses₀))) i
-    (lent filled trues falses) totals (counts_in i entries clauses)
+invariant_loop packed trues₀ falses₀ count entries₀ clauses₀ plan length filled₀ i₀ trues falses entries clauses filled i =
+    Going plan packed (course_from (sets_in (goal_in packed)) [] 0 (left plan packed 0) (tableEntries (lent count trues₀ falses₀))) i
+    (lent filled trues falses) (counts_in i entries clauses)
 
 abbrev decreases_loop : tie.decreases_loop
-decreases_loop packed trues₀ falses₀ count entries₀ clauses₀ plan length filled₀ totals₀ i₀ trues falses entries clauses filled totals
-    i = length - i
+decreases_loop packed trues₀ falses₀ count entries₀ clauses₀ plan length filled₀ i₀ trues falses entries clauses filled i = length - i
 
 loop_holds : tie.Need-loop-init invariant_loop decreases_loop
 loop_holds c =
@@ -69,26 +67,19 @@ returns c =
     let refused = c.before.before in
     let stepped = refused.before.before in
     let n = noted stepped in
-    going_halt (turn n).before.loop.inv (turn n).loop-test.taken _ _ _ stepped.step-here.ensures refused.number.given.1
-    c.halt.ensures n.note.ensures
-
-add_totals_requires : tie.Need-add-totals-requires invariant_loop decreases_loop
-unfolding tableEntries
-add_totals_requires c κs =
-    let stepped = c.before.before.before in
-    let n = noted stepped in
-    going_sums (turn n).before.loop.inv (turn n).loop-test.taken _ _ _ stepped.step-here.ensures c.before.grown.given.1
+    going_halt (turn n).before.loop.inv (turn n).loop-test.taken _ _ _ stepped.step-here.ensures n.note.ensures
+    refused.number.given.1 c.halt.ensures
 
 add_i : tie.Need-overflow-add-i invariant_loop decreases_loop
-add_i c = omega (arith, going_room (turn (noted c.before.before.before.before)).before.loop.inv)
+add_i c = omega (arith, going_room (turn (noted c.before.before.before)).before.loop.inv)
 
 loop_again : tie.Need-loop-preserved invariant_loop decreases_loop
 unfolding tableEntries
 loop_again c =
-    let stepped = c.before.before.before.before in
+    let stepped = c.before.before.before in
     let n = noted stepped in
-    going_on (turn n).before.loop.inv (turn n).loop-test.taken _ _ _ stepped.step-here.ensures c.before.before.grown.given.1
-    c.add-totals.ensures n.note.ensures
+    going_on (turn n).before.loop.inv (turn n).loop-test.taken _ _ _ stepped.step-here.ensures n.note.ensures
+    c.before.grown.given.1
 
 note_requires_2 : tie.Need-note-requires-2 invariant_loop decreases_loop
 note_requires_2 c κs = going_note c.before.before.before.before.before.before.before.loop.invariant
@@ -101,8 +92,8 @@ end_requires c κs =
     let h = (done c.before.before.before.before.before).before.loop.inv.can.fits in
     (h.goal_fits, slots_room h)
 
-add_t42 : tie.Need-overflow-add-t42 invariant_loop decreases_loop
-add_t42 c = omega (arith, going_room (done c.before.before.before.before.before.before).before.loop.inv)
+add_t40 : tie.Need-overflow-add-t40 invariant_loop decreases_loop
+add_t40 c = omega (arith, going_room (done c.before.before.before.before.before.before).before.loop.inv)
 
 returns_2 : tie.Need-returns-2 invariant_loop decreases_loop
 unfolding tableEntries
@@ -114,5 +105,5 @@ pub run_from_spec : {M : Type 1} → statement M
 run_from_spec =
     tie.close
     (tie.spec invariant_loop decreases_loop loop_holds note_requires add_place element_copy_out_index cast_index step_here_requires
-    (λ c. search rules) add_totals_requires (λ c. search rules) (λ c κs. search rules) returns add_i (λ c. search rules) loop_again
-    note_requires_2 (λ c. search rules) (λ c. search rules) part_goal_end end_requires add_t42 returns_2)
+    (λ c. search rules) (λ c. search rules) (λ c κs. search rules) returns add_i (λ c. search rules) loop_again note_requires_2
+    (λ c. search rules) (λ c. search rules) part_goal_end end_requires add_t40 returns_2)

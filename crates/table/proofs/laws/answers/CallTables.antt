@@ -7,6 +7,7 @@ use mathlib.Core.Option.{some}
 use Prim.Native.Nat.{ℕ, ◌^◌, ◌≤◌, ◌<◌}
 use native.Mathlib.Omega.{arith}
 use lib.ListN.{length}
+use borrow.Author.Tests.{lt-ltb}
 use Rattle.sheet.specs.declared.Literals.{Literals}
 use Rattle.sheet.specs.declared.Answer.TheVariants.{Accepted}
 use Rattle.sheet.specs.Problem.{Action, Problem, Statement}
@@ -19,7 +20,6 @@ use Rattle.sheet.proofs.laws.literals.ProperSets.{some_world}
 use Rattle.sheet.proofs.Demands.{statement_proper}
 use Rattle.table.specs.declared.Table.{Table}
 use Rattle.table.specs.declared.TableAnswer.{TableAnswer}
-use Rattle.table.specs.declared.StepAnswer.{StepAnswer}
 use Rattle.table.specs.Worlds.{step_world, Starting}
 use Rattle.table.specs.Minimal.{In, Described, Least, Outcome}
 use Rattle.table.specs.Start.{start_table}
@@ -91,9 +91,18 @@ module _ (s : List ℕ) (x : Statement) (says : Says s x) where
 
     pub stepped_to : (step_of (sheet_of s) t m).answer ≡ Accepted → (u : List Literals) × (step_table 128 a (entries t) ≡ Outcome.table u)
         × ((step_of (sheet_of s) t m).table ≡ table_of u)
+    unfolding step_of or_given
     stepped_to e =
-        let g = tables.step_given s x says t m e in
-        (g.0, g.1, ap (λ (r : StepAnswer). r.table) g.2)
+        let k = (tables.step_accepted s x says t m).0 e in (
+          k.2.0,
+          k.2.1,
+          rw (
+            says,
+            lt-ltb m (length x.problem.actions) k.0,
+            (tables.described_iff 128 x.problem.n (entries t)).1 k.1,
+            k.2.1,
+          ),
+        )
 
     module _ (e : (step_of (sheet_of s) t m).answer ≡ Accepted) where
       abbrev on_sheet : m < length x.problem.actions

@@ -4,7 +4,7 @@ use mathlib.Core.Path.{◌≡◌, refl, sym, ap, ◌∙◌}
 use mathlib.Core.Bool.{Bool, true, false, true≢false}
 use mathlib.Core.List.{List, []}
 use mathlib.Core.Logic.{◌↔◌, ◌⊎◌, inl, inr}
-use Prim.Native.Nat.{ℕ, ◌+◌, ◌≤◌, ◌<◌}
+use Prim.Native.Nat.{ℕ, ◌≤◌, ◌<◌}
 use native.Mathlib.Omega.{arith}
 use lib.Dec.{ltb}
 use lib.ListN.{length}
@@ -17,16 +17,14 @@ use Rattle.sheet.specs.Encoding.{ProperProblem}
 use Rattle.sheet.specs.Format.{Judgement, accepted, refused, sheet_of}
 use Rattle.sheet.proofs.Demands.{statement_proper}
 use Rattle.table.specs.declared.Table.{Table}
-use Rattle.table.specs.declared.StepAnswer.{StepAnswer}
+use Rattle.table.specs.declared.TableAnswer.{TableAnswer}
 use Rattle.table.specs.Minimal.{Described, described, Outcome}
 use Rattle.table.specs.Start.{start_table}
 use Rattle.table.specs.Step.{step_table}
 use Rattle.table.specs.Entries.{entries, table_of}
-use Rattle.table.specs.Totals.{no_totals, step_totals}
-use Rattle.table.specs.Calls.{or_given, start_of, action_at, with_totals, refused_step, step_known, step_move, step_of}
+use Rattle.table.specs.Calls.{or_given, start_of, action_at, step_known, step_move, step_of}
 use Rattle.table.proofs.laws.steps.StepWorlds.{at_proper}
 use Rattle.table.proofs.laws.steps.StepWorlds as stepping
-use Rattle.table.proofs.laws.steps.StepTotals.{tabled, totals_by, images_put, balanced}
 use Rattle.table.proofs.laws.slots.DescribedTables.{described_iff}
 
 -- ---- answers told apart
@@ -90,7 +88,7 @@ start_back s k q = go (sheet_of s)
 
 -- ---- step
 pub step_fault : (s : List ℕ) (t : Table) (m k p : ℕ) → sheet_of s ≡ refused k p
-    → step_of (sheet_of s) t m ≡ refused_step k p t
+    → step_of (sheet_of s) t m ≡ record { answer = Refused k p; table = t }
 unfolding step_of
 step_fault s t m k p e = rw e
 
@@ -112,18 +110,17 @@ module _ (s : List ℕ) (x : Statement) (says : sheet_of s ≡ accepted x) (t : 
       go true e false f = other (ltb-true m (length x.problem.actions) e) f
       go true e true f = known (ltb-true m (length x.problem.actions) e) f
 
-  by_off : length x.problem.actions ≤ m → step_of (sheet_of s) t m ≡ refused_step 7 0 t
+  by_off : length x.problem.actions ≤ m → step_of (sheet_of s) t m ≡ record { answer = Refused 7 0; table = t }
   unfolding step_of
   by_off h = rw (says, le-ltb m (length x.problem.actions) h)
 
   by_other : m < length x.problem.actions → described 128 x.problem.n (entries t) ≡ false
-      → step_of (sheet_of s) t m ≡ refused_step 22 0 t
+      → step_of (sheet_of s) t m ≡ record { answer = Refused 22 0; table = t }
   unfolding step_of
   by_other h d = rw (says, lt-ltb m (length x.problem.actions) h, d)
 
   by_known : m < length x.problem.actions → described 128 x.problem.n (entries t) ≡ true
-      → step_of (sheet_of s) t m ≡ with_totals (or_given t (step_table 128 (action_at x.problem m) (entries t)))
-      (step_totals 128 (action_at x.problem m) (entries t))
+      → step_of (sheet_of s) t m ≡ or_given t (step_table 128 (action_at x.problem m) (entries t))
   unfolding step_of
   by_known h d = rw (says, lt-ltb m (length x.problem.actions) h, d)
 
@@ -153,20 +150,20 @@ module _ (s : List ℕ) (x : Statement) (says : sheet_of s ≡ accepted x) (t : 
   not_7 (inr (inr e)) = (λ f. omega arith, λ f. omega arith)
 
   told_off : {a : Answer} → (step_of (sheet_of s) t m).answer ≡ a → length x.problem.actions ≤ m → Refused 7 0 ≡ a
-  told_off e h = ap (λ (r : StepAnswer). r.answer) (sym (by_off h)) ∙ e
+  told_off e h = ap (λ (r : TableAnswer). r.answer) (sym (by_off h)) ∙ e
 
   told_other : {a : Answer} → (step_of (sheet_of s) t m).answer ≡ a → m < length x.problem.actions
       → described 128 x.problem.n (entries t) ≡ false → Refused 22 0 ≡ a
-  told_other e h d = ap (λ (r : StepAnswer). r.answer) (sym (by_other h d)) ∙ e
+  told_other e h d = ap (λ (r : TableAnswer). r.answer) (sym (by_other h d)) ∙ e
 
   told_known : {a : Answer} → (step_of (sheet_of s) t m).answer ≡ a → m < length x.problem.actions
       → described 128 x.problem.n (entries t) ≡ true
       → (or_given t (step_table 128 (action_at x.problem m) (entries t))).answer ≡ a
-  told_known e h d = ap (λ (r : StepAnswer). r.answer) (sym (by_known h d)) ∙ e
+  told_known e h d = ap (λ (r : TableAnswer). r.answer) (sym (by_known h d)) ∙ e
 
   -- 7: a move number that is not on the sheet
   pub step_7 : ((step_of (sheet_of s) t m).answer ≡ Refused 7 0) ↔ (length x.problem.actions ≤ m)
-  step_7 = (λ e. go e which, λ h. ap (λ (r : StepAnswer). r.answer) (by_off h))
+  step_7 = (λ e. go e which, λ h. ap (λ (r : TableAnswer). r.answer) (by_off h))
     where
       go : (step_of (sheet_of s) t m).answer ≡ Refused 7 0 → Case → length x.problem.actions ≤ m
       go e (off h) = h
@@ -187,7 +184,7 @@ module _ (s : List ℕ) (x : Statement) (says : sheet_of s ≡ accepted x) (t : 
       back : (m < length x.problem.actions) × (Described 128 x.problem.n (entries t) → ⊥) → Case
           → (step_of (sheet_of s) t m).answer ≡ Refused 22 0
       back h (off y) = absurd (omega (arith, h.0))
-      back h (other y d) = ap (λ (r : StepAnswer). r.answer) (by_other y d)
+      back h (other y d) = ap (λ (r : TableAnswer). r.answer) (by_other y d)
       back h (known y d) = absurd (h.1 (is_described d))
 
   -- 24, 25 and 21: by the step itself (TH3)
@@ -209,7 +206,7 @@ module _ (s : List ℕ) (x : Statement) (says : sheet_of s ≡ accepted x) (t : 
           → Case → (step_of (sheet_of s) t m).answer ≡ Refused k 0
       back h (off y) = absurd (omega (arith, h.0))
       back h (other y d) = absurd (true≢false (sym ((described_iff 128 x.problem.n (entries t)).1 h.1) ∙ d))
-      back h (known y d) = ap (λ (r : StepAnswer). r.answer) (by_known y d) ∙ (given_refused t _ k 0).1 (refl, h.2)
+      back h (known y d) = ap (λ (r : TableAnswer). r.answer) (by_known y d) ∙ (given_refused t _ k 0).1 (refl, h.2)
 
   -- accepted exactly if none of these holds
   pub step_accepted : ((step_of (sheet_of s) t m).answer ≡ Accepted)
@@ -229,63 +226,21 @@ module _ (s : List ℕ) (x : Statement) (says : sheet_of s ≡ accepted x) (t : 
           → (step_of (sheet_of s) t m).answer ≡ Accepted
       back h (off y) = absurd (omega (arith, h.0))
       back h (other y d) = absurd (true≢false (sym ((described_iff 128 x.problem.n (entries t)).1 h.1) ∙ d))
-      back h (known y d) = ap (λ (r : StepAnswer). r.answer) (by_known y d) ∙ (given_accepted t _).1 h.2
+      back h (known y d) = ap (λ (r : TableAnswer). r.answer) (by_known y d) ∙ (given_accepted t _).1 h.2
 
-  -- what an accepted step gives
-  pub step_given : (step_of (sheet_of s) t m).answer ≡ Accepted
-      → (u : List Literals) × (step_table 128 (action_at x.problem m) (entries t) ≡ Outcome.table u)
-      × (step_of (sheet_of s) t m
-      ≡ record { answer = Accepted; table = table_of u; totals = tabled 128 (action_at x.problem m) (entries t) })
-  unfolding or_given
-  step_given e =
-      let k = step_accepted.0 e in
-      let o = k.2.1 in (
-        k.2.0,
-        o,
-        by_known k.0 ((described_iff 128 x.problem.n (entries t)).1 k.1)
-            ∙ (λ j. with_totals (or_given t (o j)) (totals_by 128 (action_at x.problem m) (entries t) (Outcome.table k.2.0) o j)),
-      )
-
--- its totals (document 02, W4)
-pub step_equation : (s : List ℕ) (t : Table) (m : ℕ) → (step_of (sheet_of s) t m).answer ≡ Accepted
-    → let r = step_of (sheet_of s) t m in r.totals.candidates ≡ (r.totals.dropped + r.totals.removed) + r.table.count
-step_equation s t m e = at (sheet_of s) refl
-  where
-    at : (j : Judgement) → sheet_of s ≡ j
-        → let r = step_of (sheet_of s) t m in r.totals.candidates ≡ (r.totals.dropped + r.totals.removed) + r.table.count
-    at (refused k p) f = absurd (not_both (sym e ∙ ap (λ (r : StepAnswer). r.answer) (step_fault s t m k p f)))
-    at (accepted x) f =
-        let g = step_given s x f t m e in
-        let a = action_at x.problem m in
-        rw g.2 (unfold table_of in balanced 128 a (entries t) g.0 (images_put 128 a (entries t) g.0 g.1))
-
--- a refused step gives back the given table in every slot, and totals of zeros
-pub step_refused : (s : List ℕ) (t : Table) (m k q : ℕ) → (step_of (sheet_of s) t m).answer ≡ Refused k q
-    → step_of (sheet_of s) t m ≡ refused_step k q t
+-- a refused step gives back the given table in every slot
+pub step_back : (s : List ℕ) (t : Table) (m k q : ℕ) → (step_of (sheet_of s) t m).answer ≡ Refused k q → (step_of (sheet_of s) t m).table ≡ t
 unfolding step_of
-step_refused s t m k q = go (sheet_of s)
+step_back s t m k q = go (sheet_of s)
   where
-    known : (b : Bool) (a : Action) → (step_known b a t).answer ≡ Refused k q → step_known b a t ≡ refused_step k q t
-    known false a e = ap (λ (y : Answer). record { answer = y; table = t; totals = no_totals }) e
-    known true a e =
-        let o = (given_refused t (step_table 128 a (entries t)) k q).0 e in
-        λ j. record {
-          answer = e j;
-          table = given_back t (step_table 128 a (entries t)) e j;
-          totals = totals_by 128 a (entries t) (Outcome.refused k) o.1 j;
-        }
+    known : (b : Bool) (a : Action) → (step_known b a t).answer ≡ Refused k q → (step_known b a t).table ≡ t
+    known false a e = refl
+    known true a e = given_back t (step_table 128 a (entries t)) e
 
-    moved : (b : Bool) (n : ℕ) (a : Action) → (step_move b n a t).answer ≡ Refused k q → step_move b n a t ≡ refused_step k q t
-    moved false n a e = ap (λ (y : Answer). record { answer = y; table = t; totals = no_totals }) e
+    moved : (b : Bool) (n : ℕ) (a : Action) → (step_move b n a t).answer ≡ Refused k q → (step_move b n a t).table ≡ t
+    moved false n a e = refl
     moved true n a e = known (described 128 n (entries t)) a e
 
-    go : (j : Judgement) → (step_of j t m).answer ≡ Refused k q → step_of j t m ≡ refused_step k q t
-    go (refused i p) e = ap (λ (y : Answer). record { answer = y; table = t; totals = no_totals }) e
+    go : (j : Judgement) → (step_of j t m).answer ≡ Refused k q → (step_of j t m).table ≡ t
+    go (refused i p) e = refl
     go (accepted x) e = moved (ltb m (length x.problem.actions)) x.problem.n (action_at x.problem m) e
-
-pub step_back : (s : List ℕ) (t : Table) (m k q : ℕ) → (step_of (sheet_of s) t m).answer ≡ Refused k q → (step_of (sheet_of s) t m).table ≡ t
-step_back s t m k q e = ap (λ (r : StepAnswer). r.table) (step_refused s t m k q e)
-
-pub step_zeros : (s : List ℕ) (t : Table) (m k q : ℕ) → (step_of (sheet_of s) t m).answer ≡ Refused k q
-    → (step_of (sheet_of s) t m).totals ≡ no_totals
-step_zeros s t m k q e = ap (λ (r : StepAnswer). r.totals) (step_refused s t m k q e)

@@ -11,39 +11,36 @@ use Rattle.sheet.specs.declared.Answer.TheVariants.{Accepted, Refused}
 use Rattle.sheet.specs.Problem.{Action}
 use Rattle.sheet.specs.Format.{Judgement, accepted, refused}
 use Rattle.table.specs.declared.Table.{Table}
-use Rattle.table.specs.declared.Totals.{Totals}
-use Rattle.table.specs.declared.StepAnswer.{StepAnswer}
+use Rattle.table.specs.declared.TableAnswer.{TableAnswer}
 use Rattle.table.specs.Minimal.{described, Outcome}
 use Rattle.table.specs.Step.{step_table}
 use Rattle.table.specs.Entries.{entries}
-use Rattle.table.specs.Totals.{step_totals}
-use Rattle.table.specs.Calls.{or_given, with_totals, action_at, step_known, step_move, step_of}
+use Rattle.table.specs.Calls.{or_given, action_at, step_known, step_move, step_of}
 use Rattle.table.specs.PictureCalls.{picture_of, buffer_of}
 
--- answers alike: tables that were handed back may differ
-abbrev Same : StepAnswer → StepAnswer → Type 0
-Same r q = (r.answer ≡ q.answer) × (r.answer ≡ Accepted → r.table ≡ q.table) × (r.totals ≡ q.totals)
+abbrev Same : TableAnswer → TableAnswer → Type 0
+Same r q = (r.answer ≡ q.answer) × (r.answer ≡ Accepted → r.table ≡ q.table)
 
 no : {X : Type 0} {k p : ℕ} → ◌≡◌ {A = Answer} (Refused k p) Accepted → X
 no e = absurd (let z : ◌≡◌ {A = ℕ} 0 1 = cc in omega arith)
 
 module _ (t u : Table) (e : entries t ≡ entries u) where
-  same_outcome : (o : Outcome) (x : Totals) → Same (with_totals (or_given t o) x) (with_totals (or_given u o) x)
+  same_outcome : (o : Outcome) → Same (or_given t o) (or_given u o)
   unfolding or_given
-  same_outcome (Outcome.refused k) x = (refl, λ f. no f, refl)
-  same_outcome (Outcome.table v) x = (refl, λ f. refl, refl)
+  same_outcome (Outcome.refused k) = (refl, λ f. no f)
+  same_outcome (Outcome.table v) = (refl, λ f. refl)
 
   same_known : (b : Bool) (a : Action) → Same (step_known b a t) (step_known b a u)
-  same_known false a = (refl, λ f. no f, refl)
-  same_known true a = rw e (same_outcome (step_table 128 a (entries u)) (step_totals 128 a (entries u)))
+  same_known false a = (refl, λ f. no f)
+  same_known true a = rw e (same_outcome (step_table 128 a (entries u)))
 
   same_move : (b : Bool) (n : ℕ) (a : Action) → Same (step_move b n a t) (step_move b n a u)
-  same_move false n a = (refl, λ f. no f, refl)
+  same_move false n a = (refl, λ f. no f)
   same_move true n a = rw e (same_known (described 128 n (entries u)) a)
 
   pub step_unread : (j : Judgement) (m : ℕ) → Same (step_of j t m) (step_of j u m)
   unfolding step_of
-  step_unread (refused k p) m = (refl, λ f. no f, refl)
+  step_unread (refused k p) m = (refl, λ f. no f)
   step_unread (accepted x) m = same_move (ltb m (length x.problem.actions)) x.problem.n (action_at x.problem m)
 
   pub picture_unread : (j : Judgement) (len : ℕ) → picture_of j t len ≡ picture_of j u len

@@ -1,10 +1,9 @@
 -- The three fates of a candidate that is put: dropped, added, no room; on lists, and on the slices that hold them. For `slots::put`,
--- `slots::offer`, `slots::offer_by_newest`, `slots/FateSums` and W3 (proofs/Demands). Assumes nothing.
+-- `slots::offer`, `slots::offer_by_newest` and W3 (proofs/Demands). Assumes nothing.
 use Prim.Native.Nat.{ℕ, ◌+◌, ◌-◌, ◌≤◌, ◌<◌}
 use mathlib.Core.Path.{◌≡◌, refl, sym, ap, ap₂, ◌∙◌, subst}
 use mathlib.Core.Bool.{Bool, true, false, not, cond}
 use mathlib.Core.List.{List, [], ◌∷◌, ◌++◌}
-use mathlib.Core.Logic.{◌↔◌}
 use mathlib.Core.Option.{Option, none, some}
 use native.Mathlib.Omega.{arith}
 use lib.ListN.{length, set, length-append}
@@ -13,20 +12,25 @@ use borrow.Author.Tests.{eq-eqb, ne_eqb}
 use Rattle.sheet.specs.declared.Literals.{Literals}
 use Rattle.sheet.specs.Literals.{within}
 use Rattle.sheet.specs.Lists.{any_of}
+use Rattle.sheet.proofs.laws.base.Bools.{true_T}
 use Rattle.table.specs.declared.slots.Fate.{Fate}
 use Rattle.table.specs.declared.slots.Fate.TheVariants.{Dropped, Added, Full}
 use Rattle.table.specs.declared.slots.Grown.{Grown}
 use Rattle.table.specs.declared.slots.Grown.TheVariants as grown
 use Rattle.table.specs.Worlds.{and_then}
 use Rattle.table.specs.Minimal.{put_last, put_new, put, put_all}
-use Rattle.table.specs.Fates.{left, fate_of, or_else, list_after}
-use Rattle.table.specs.inner.Slots.{Holds, Held, Grew, Puts, slot}
+use Rattle.table.specs.Fates.{left, fate_of}
+use Rattle.table.specs.inner.Slots.{or_else, list_after, Holds, Held, Grew, Puts}
 use Rattle.table.specs.Entries.{entries_of}
 use Rattle.table.proofs.laws.arrays.HeldLists.{length_entries_of, holds_push, holds_entries, held as held_of}
 use Rattle.table.proofs.laws.arrays.KeptMembers.{keep_length, keep_all}
-use Rattle.table.proofs.laws.slots.LastWithin.{shown, hit, found_some}
 
 -- ---- lists
+
+abbrev is_dropped : Fate → Bool
+is_dropped Dropped = true
+is_dropped (Added r k) = false
+is_dropped Full = false
 
 module _ (cap : ℕ) (es : List Literals) (l : Literals) where
   abbrev pub some_within : Bool
@@ -64,52 +68,14 @@ module _ (cap : ℕ) (es : List Literals) (l : Literals) where
   unfolding fate_of
   fate_added s q = ap (λ (b : Bool). cond b Dropped (cond no_room Full added)) s ∙ ap (λ (b : Bool). cond b Full added) q
 
-  -- the three cases, with the fate and the list of each
-  pub data Case : Type 0 where
-    drops : some_within ≡ true → fate_of cap es l ≡ Dropped → put cap es l ≡ some es → Case
-    fills : fate_of cap es l ≡ Full → put cap es l ≡ none → Case
-    adds : fate_of cap es l ≡ added → put cap es l ≡ some (left es l ++ l ∷ []) → Case
-
-  pub which : Case
-  which = at some_within no_room refl refl
-    where
-      at : (a b : Bool) → some_within ≡ a → no_room ≡ b → Case
-      at true b p q = drops p (fate_dropped p) (put_dropped p)
-      at false true p q = fills (fate_full p q) (put_full p q)
-      at false false p q = adds (fate_added p q) (put_added p q)
-
-  no_case : {X : Type 0} → ◌≡◌ {A = ℕ} 0 1 → X
-  no_case e = absurd (omega arith)
-
   -- dropped only where some entry lies in the candidate
   pub dropped_within : fate_of cap es l ≡ Dropped → some_within ≡ true
-  dropped_within e = by which
+  dropped_within e = at some_within no_room refl refl
     where
-      by : Case → some_within ≡ true
-      by (drops p f q) = p
-      by (fills f q) = no_case cc
-      by (adds f q) = no_case cc
-
-  pub added_by : (removed count : ℕ) → fate_of cap es l ≡ Added removed count
-      → (put cap es l ≡ some (left es l ++ l ∷ [])) × (length es ≡ length (left es l) + removed) × (length (left es l ++ l ∷ []) ≡ count)
-  added_by removed count e = by which
-    where
-      by : Case → (put cap es l ≡ some (left es l ++ l ∷ [])) × (length es ≡ length (left es l) + removed)
-          × (length (left es l ++ l ∷ []) ≡ count)
-      by (drops p f q) = no_case cc
-      by (fills f q) = no_case cc
-      by (adds f q) =
-          let r : removed ≡ length es - length (left es l) = cc in
-          let c : count ≡ length (left es l) + 1 = cc in
-          (q, omega (arith, keep_length (λ e. not (within l e)) es), omega (arith, length-append (left es l) (l ∷ [])))
-
-  pub full_by : (fate_of cap es l ≡ Full) ↔ (put cap es l ≡ none)
-  full_by = by which
-    where
-      by : Case → (fate_of cap es l ≡ Full) ↔ (put cap es l ≡ none)
-      by (drops p f q) = (λ e. no_case cc, λ e. no_case cc)
-      by (fills f q) = (λ e. q, λ e. f)
-      by (adds f q) = (λ e. no_case cc, λ e. no_case cc)
+      at : (a b : Bool) → some_within ≡ a → no_room ≡ b → some_within ≡ true
+      at true b p q = p
+      at false true p q = absurd (true_T false (ap is_dropped (sym (fate_full p q) ∙ e)))
+      at false false p q = absurd (true_T false (ap is_dropped (sym (fate_added p q) ∙ e)))
 
   pub after_is : (r : List Literals) (o : Option (List Literals)) → put cap es l ≡ o → or_else es o ≡ r → list_after cap es l ≡ r
   unfolding list_after
@@ -132,12 +98,6 @@ module _ (cap n : ℕ) (ts fs : List ℕ) (l : Literals) (held : Held cap n ts f
     sym (fate_dropped cap (entries_of n ts fs) l s),
     at_length _ _ _ _ _ _ held (after_is cap (entries_of n ts fs) l (entries_of n ts fs) _ (put_dropped cap (entries_of n ts fs) l s) refl),
   )
-
-  -- the newest entry, e, lies in the candidate
-  pub newest_dropped : 0 < n → {e : Literals} {b : Bool} → b ≡ within e l → e ≡ slot ts fs (n - 1) → b ≡ true
-      → Put cap (entries_of n ts fs) l Dropped ts fs
-  newest_dropped h p q t = dropped
-      (found_some _ _ _ _ (sym (hit (λ e. within e l) ts fs n (n - 1) (omega arith) (shown _ p q t))) refl)
 
   module _ (k : ℕ) (ts' fs' : List ℕ) (removed : Holds cap (left (entries_of n ts fs) l) k ts' fs')
       (s : any_of (λ e. within e l) (entries_of n ts fs) ≡ false) where

@@ -20,13 +20,12 @@ use Rattle.sheet.proofs.laws.literals.LiteralBytes.{next_found}
 use Rattle.sheet.proofs.laws.literals.ProperSets.{flip_literal}
 use Rattle.table.specs.Worlds.{add_result, results}
 use Rattle.table.specs.Step.{pieces, image}
-use Rattle.table.specs.declared.slots.Sums.{Sums}
 use Rattle.table.specs.declared.slots.Grown.{Grown}
 use Rattle.table.specs.declared.steps.Undecided.{Undecided}
-use Rattle.table.specs.inner.Slots.{Countable, TellsIn}
+use Rattle.table.specs.inner.Slots.{Puts}
 use Rattle.table.specs.inner.Carry.{Steady, Carried, Skips, part_at, carried_at}
 use Rattle.sheet.specs.inner.Masks.{minus}
-use Rattle.table.proofs.laws.slots.FateSums.{tells_is}
+use Rattle.table.proofs.laws.slots.PutLoops.{puts_is}
 use Rattle.table.proofs.laws.starts.LackedLiterals.{contains_lacks}
 use Rattle.table.proofs.laws.steps.PieceWalk.{Turn, at_leaf, at_whole}
 
@@ -140,53 +139,47 @@ module _ (es hs : List Effect) (i : ℕ) (e : Effect) (at : drop i es ≡ e ∷ 
       rw (p, r) (past_without l both.0 (not-true _ both.1))
 
 -- ---- a walk from `at` on that left the piece whole
-pub settles_start : (es : List Effect) (at : ℕ) (d sum : Literals) → Carried es at d sum
-    → Skips es at d (record { piece = d; at = at; results = sum })
-settles_start es at d sum c = record { upto = omega arith; same = refl; carried = c; whole = refl }
+pub settles_start : (es : List Effect) (at : ℕ) (d sum : Literals) → Carried es at d sum → Skips es at d (record { at = at; results = sum })
+settles_start es at d sum c = record { upto = omega arith; carried = c; whole = refl }
 
 module _ (es : List Effect) (at : ℕ) (d : Literals) (r : Undecided) (g : Skips es at d r) where
-  pub settles_tells : {count : ℕ} {told ts fs : List ℕ} {o : Grown} {after us gs : List ℕ}
-      → TellsIn (map (image es) (pieces (drop r.at es) r.piece)) count told ts fs o after us gs
-      → TellsIn (map (image es) (pieces (drop at es) d)) count told ts fs o after us gs
-  settles_tells w = tells_is (ap (map (image es)) g.whole) w
-
-  pub settles_countable : {s : Sums} → Countable s (map (image es) (pieces (drop at es) d))
-      → Countable s (map (image es) (pieces (drop r.at es) r.piece))
-  settles_countable {s} k = subst (λ (x : List Literals). Countable s (map (image es) x)) (sym g.whole) k
+  pub settles_puts : (k : ℕ) (ts fs : List ℕ) (o : Grown) (us gs : List ℕ)
+      → Puts (map (image es) (pieces (drop r.at es) d)) k ts fs o us gs
+      → Puts (map (image es) (pieces (drop at es) d)) k ts fs o us gs
+  settles_puts k ts fs o us gs w = puts_is (ap (map (image es)) g.whole) w
 
   -- no effect is left
-  pub leaf_is : drop r.at es ≡ [] → (w : Literals) → w ≡ replace d r.results
-      → w ∷ [] ≡ map (image es) (pieces (drop at es) d)
+  pub settles_leaf : drop r.at es ≡ [] → (w : Literals) → w ≡ replace d r.results
+      → (k : ℕ) (ts fs : List ℕ) (o : Grown) (us gs : List ℕ)
+      → Puts (w ∷ []) k ts fs o us gs → Puts (map (image es) (pieces (drop at es) d)) k ts fs o us gs
   unfolding image
-  leaf_is q w e =
-      ap (λ (x : Literals). x ∷ []) (e ∙ ap₂ replace (sym g.same) (sym last)) ∙ at_leaf es (drop r.at es) r.piece q
-      ∙ ap (map (image es)) g.whole
+  settles_leaf q w e k ts fs o us gs p =
+      settles_puts k ts fs o us gs
+      (puts_is (ap (λ (x : Literals). x ∷ []) (e ∙ ap (replace d) (sym last)) ∙ at_leaf es (drop r.at es) d q) p)
     where
       all : take r.at es ≡ es
       all = sym (append-nil (take r.at es)) ∙ ap (λ (x : List Effect). take r.at es ++ x) (sym q) ∙ take-append-drop r.at es
 
-      last : results es r.piece ≡ r.results
-      last = ap (λ (x : List Effect). results x r.piece) (sym all)
-          ∙ g.carried.sum_is r.piece g.carried.piece_steady (T_true (within r.piece r.piece) (within_refl r.piece))
+      last : results es d ≡ r.results
+      last = ap (λ (x : List Effect). results x d) (sym all)
+          ∙ g.carried.sum_is d g.carried.piece_steady (T_true (within d d) (within_refl d))
 
   module _ (e : Effect) (q : drop r.at es ≡ e ∷ drop (r.at + 1) es) where
-    on : (more : Literals) → (within e.condition r.piece || clash e.condition r.piece) ≡ true
-        → Carried es (r.at + 1) r.piece more
-        → Skips es at d (record { piece = r.piece; at = r.at + 1; results = more })
+    on : (more : Literals) → (within e.condition d || clash e.condition d) ≡ true → Carried es (r.at + 1) d more
+        → Skips es at d (record { at = r.at + 1; results = more })
     on more t c =
         record {
           upto = omega (arith, g.upto);
-          same = g.same;
           carried = c;
-          whole = at_whole es (drop r.at es) (drop (r.at + 1) es) e r.piece q t ∙ g.whole;
+          whole = at_whole es (drop r.at es) (drop (r.at + 1) es) e d q t ∙ g.whole;
         }
 
-    pub on_within : (more : Literals) → within e.condition r.piece ≡ true → more ≡ join e.result r.results
-        → Skips es at d (record { piece = r.piece; at = r.at + 1; results = more })
-    on_within more h m = on more (rw h) (rw m (past_within es (drop (r.at + 1) es) r.at e q r.piece r.results g.carried h))
+    pub on_within : (more : Literals) → within e.condition d ≡ true → more ≡ join e.result r.results
+        → Skips es at d (record { at = r.at + 1; results = more })
+    on_within more h m = on more (rw h) (rw m (past_within es (drop (r.at + 1) es) r.at e q d r.results g.carried h))
 
-    pub on_clash : (more : Literals) → clash e.condition r.piece ≡ true → more ≡ r.results
-        → Skips es at d (record { piece = r.piece; at = r.at + 1; results = more })
+    pub on_clash : (more : Literals) → clash e.condition d ≡ true → more ≡ r.results
+        → Skips es at d (record { at = r.at + 1; results = more })
     on_clash more h m =
-        on more (or_right (within e.condition r.piece) (clash e.condition r.piece) h)
-        (rw m (past_clash es (drop (r.at + 1) es) r.at e q r.piece r.results g.carried h))
+        on more (or_right (within e.condition d) (clash e.condition d) h)
+        (rw m (past_clash es (drop (r.at + 1) es) r.at e q d r.results g.carried h))

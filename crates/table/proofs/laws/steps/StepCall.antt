@@ -15,16 +15,15 @@ use Rattle.sheet.specs.declared.Decoded.{Decoded}
 use Rattle.sheet.specs.inner.Decoded.{problem_in, statement_in, judgement_in}
 use Rattle.sheet.specs.Encoding.{ProperAction, ProperStatement}
 use Rattle.table.specs.declared.Table.{Table}
-use Rattle.table.specs.declared.StepAnswer.{StepAnswer}
+use Rattle.table.specs.declared.TableAnswer.{TableAnswer}
 use Rattle.table.specs.Minimal.{described}
 use Rattle.table.specs.Step.{step_table}
 use Rattle.table.specs.Entries.{entries, lent}
-use Rattle.table.specs.Totals.{step_totals}
-use Rattle.table.specs.Calls.{or_given, with_totals, action_at, step_known, step_move, step_of}
-use Rattle.table.specs.declared.steps.Advanced.{Advanced}
-use Rattle.table.specs.declared.steps.Advanced.TheVariants as advanced
+use Rattle.table.specs.Calls.{or_given, action_at, step_known, step_move, step_of}
+use Rattle.table.specs.declared.steps.Stepped.{Stepped}
+use Rattle.table.specs.declared.steps.Stepped.TheVariants as moved
 use Rattle.sheet.specs.inner.Packed.{moves_in, item_at, action_from, count_of, action_of}
-use Rattle.table.specs.inner.Steps.{told_answer, Fits, MoveFits}
+use Rattle.table.specs.inner.Steps.{step_answer, Fits, MoveFits}
 use Rattle.table.proofs.laws.arrays.HeldLists.{length_entries_of}
 use Rattle.sheet.proofs.laws.reader.PackedParts.{items_length, item_at_lem, item_of_all, effects_long}
 use Rattle.sheet.proofs.laws.reader.ReadSheets.{refused_says, accepted_says, accepted_proper, n_few, moves_few, moves_proper}
@@ -33,10 +32,10 @@ use Rattle.table.specs.inner.Slots.{Room, TableRoom}
 use Rattle.sheet.specs.inner.Widths.{packed_length}
 
 module _ (s : List ℕ) (d : Decoded) (packed : List ℕ) (e : judgement_in d packed ≡ sheet_of s) (t : Table) (i : ℕ) where
-  abbrev whole : StepAnswer
+  abbrev whole : TableAnswer
   whole = step_of (sheet_of s) t i
 
-  pub call_fault : (k p : ℕ) → d.answer ≡ Refused k p → told_answer t (advanced.Refused k p) [] [] ≡ whole
+  pub call_fault : (k p : ℕ) → d.answer ≡ Refused k p → step_answer t (moved.Refused k p) [] [] ≡ whole
   unfolding step_of
   call_fault k p a = sym (ap (λ (j : Judgement). step_of j t i) (refused_says d packed s e k p a))
 
@@ -64,7 +63,7 @@ module _ (s : List ℕ) (d : Decoded) (packed : List ℕ) (e : judgement_in d pa
             (sym (item_at_lem 35 action_from x.moves (moves_in packed) i _ (ltb-true i x.moves q)))
         known false q = refl
 
-    pub off_sheet : x.moves ≤ i → told_answer t (advanced.Refused 7 0) [] [] ≡ whole
+    pub off_sheet : x.moves ≤ i → step_answer t (moved.Refused 7 0) [] [] ≡ whole
     off_sheet k = by_move false (le-ltb i x.moves k)
 
     module _ (lt : i < x.moves) where
@@ -82,7 +81,7 @@ module _ (s : List ℕ) (d : Decoded) (packed : List ℕ) (e : judgement_in d pa
       by_known : (b : Bool) → described 128 x.n (entries t) ≡ b → step_known b its t ≡ whole
       by_known b k = ap (λ (z : Bool). step_known z its t) (sym k) ∙ by_move true (lt-ltb i x.moves lt)
 
-      pub undescribed : described 128 x.n (entries t) ≡ false → told_answer t (advanced.Refused 22 0) [] [] ≡ whole
+      pub undescribed : described 128 x.n (entries t) ≡ false → step_answer t (moved.Refused 22 0) [] [] ≡ whole
       undescribed k = by_known false k
 
       module _ (k : described 128 x.n (entries t) ≡ true) where
@@ -101,7 +100,7 @@ module _ (s : List ℕ) (d : Decoded) (packed : List ℕ) (e : judgement_in d pa
         pub its_move : length packed ≡ packed_length → MoveFits packed i t
         its_move long = record { long = long; move_most = its_most; effects_few = its_count; fits = its_fits }
 
-        pub known_step : with_totals (or_given t (step_table 128 its (entries t))) (step_totals 128 its (entries t)) ≡ whole
+        pub known_step : or_given t (step_table 128 its (entries t)) ≡ whole
         known_step = by_known true k
 
 -- the entries of a table that fits stand in its slots
@@ -110,5 +109,5 @@ its_room room f =
     record { trues = omega (arith, f.entries_most, room.trues); falses = omega (arith, f.entries_most, room.falses) }
 
 -- the call by value
-pub step_by : (t : Table) (r x : Advanced) (us gs : List ℕ) (d : StepAnswer) → r ≡ x → told_answer t r us gs ≡ d → told_answer t x us gs ≡ d
-step_by t r x us gs d e q = sym (ap (λ (y : Advanced). told_answer t y us gs) e) ∙ q
+pub step_by : (t : Table) (r x : Stepped) (us gs : List ℕ) (d : TableAnswer) → r ≡ x → step_answer t r us gs ≡ d → step_answer t x us gs ≡ d
+step_by t r x us gs d e q = sym (ap (λ (y : Stepped). step_answer t y us gs) e) ∙ q

@@ -1,8 +1,8 @@
 -- `table::steps::branch_all` meets its contract. The invariant: the entries from i on give what is left. Assumes nothing.
 use mathlib.Core.Path.{◌≡◌, refl}
 use mathlib.Core.Bool.{true}
-use mathlib.Core.List.{map, ◌++◌}
-use Prim.Native.Nat.{◌+◌, ◌≤◌, ◌-◌}
+use mathlib.Core.List.{map}
+use Prim.Native.Nat.{◌≤◌, ◌-◌}
 use native.Mathlib.Omega.{arith}
 use borrow.Author.Rules.{rules}
 use lib.ListN.{drop}
@@ -10,10 +10,9 @@ use Rattle.sheet.specs.Literals.{consistent}
 use Rattle.sheet.specs.Lists.{collect}
 use Rattle.table.specs.Step.{pieces, image}
 use Rattle.table.specs.Entries.{entries_of}
-use Rattle.table.specs.inner.Slots.{no_sums, sums_in}
 use Rattle.sheet.specs.inner.Packed.{effects_at}
 use Rattle.table.proofs.laws.arrays.HeldLists.{held_own}
-use Rattle.table.proofs.laws.slots.FateSums.{Counting, counting_start, counting_next, counting_to, counting_out, counting_end}
+use Rattle.table.proofs.laws.slots.PutLoops.{Going, going_start, going_on, going_full, going_end}
 use Rattle.table.proofs.laws.steps.CarriedResults.{all_here}
 use Rattle.table.proofs.laws.arrays.EntryLoops.{entries_next}
 use Rattle.table.proofs.laws.steps.PieceWalk.{images_step, images_end}
@@ -21,34 +20,22 @@ use Rattle.table.proofs.steps.branch_all.Statement.{statement}
 use Rattle.table.proofs.steps.branch_all.Tie as tie
 
 abbrev invariant_loop : tie.invariant_loop
-invariant_loop effects size trues falses count to-trues₀ to-falses₀ told₀ filled₀ i₀ to-trues to-falses told filled i =
+invariant_loop effects size trues falses count to-trues₀ to-falses₀ filled₀ i₀ to-trues to-falses filled i =
     (i ≤ count)
-    × Counting (map (image (effects_at size effects)) (collect (pieces (effects_at size effects)) (entries_of count trues falses))) no_sums
-    to-trues₀ to-falses₀
-    (map (image (effects_at size effects)) (collect (pieces (effects_at size effects)) (drop i (entries_of count trues falses))))
-    (sums_in filled told) to-trues to-falses
+    × Going (map (image (effects_at size effects)) (collect (pieces (effects_at size effects)) (entries_of count trues falses))) 0 to-trues₀
+    to-falses₀
+    (map (image (effects_at size effects)) (collect (pieces (effects_at size effects)) (drop i (entries_of count trues falses)))) filled
+    to-trues to-falses
 
 abbrev decreases_loop : tie.decreases_loop
-decreases_loop effects size trues falses count to-trues₀ to-falses₀ told₀ filled₀ i₀ to-trues to-falses told filled i = count - i
+decreases_loop effects size trues falses count to-trues₀ to-falses₀ filled₀ i₀ to-trues to-falses filled i = count - i
 
 loop_holds : tie.Need-loop-init invariant_loop decreases_loop
-loop_holds c = let p = c.before.before.before.requires in (omega arith, counting_start refl p.held p.countable)
-
--- the pieces of the entry at hand come first, and then those of the entries after it
-next_entry : (c : tie.After-entry-at invariant_loop decreases_loop)
-    → let a = c.before.before.before.before.before.before.args in
-    let es = effects_at a.size a.effects.now in
-    let all = entries_of a.count a.trues.now a.falses.now in
-    let i = c.before.before.loop.i in
-    map (image es) (collect (pieces es) (drop i all))
-    ≡ map (image es) (pieces es c.entry_at.result) ++ map (image es) (collect (pieces es) (drop (i + 1) all))
-next_entry c =
-    let a = c.before.before.before.before.before.before.args in
-    images_step (effects_at a.size a.effects.now) _ _ _ _ _ c.before.loop-test.true c.entry_at.ensures
+loop_holds c = (omega arith, going_start refl c.before.before.before.requires.held)
 
 branch_requires : tie.Need-branch-requires invariant_loop decreases_loop
 branch_requires c κs =
-    let after-entry-at = c.before.before.before in
+    let after-entry-at = c.before.before in
     let after-loop-test = after-entry-at.before in
     let at_loop = after-loop-test.before in
     let start = at_loop.before.before.before.before in
@@ -60,31 +47,36 @@ branch_requires c κs =
       entry_steady = all_here (λ d. consistent d ≡ true) _ _ v.i _
           (entries_next a.count a.trues.now a.falses.now v.i _ after-loop-test.loop-test.true
           after-entry-at.entry_at.ensures) start.requires.entries_steady;
-      held = held_own v.invariant.1.going.held;
-      countable = counting_next _ v.invariant.1 (next_entry after-entry-at);
+      held = held_own v.invariant.1.held;
     }
 
 returns : tie.Need-returns invariant_loop decreases_loop
 returns c =
-    let after-entry-at = c.before.before.before.before.before.before in
-    counting_out _ after-entry-at.before.before.loop.invariant.1 (next_entry after-entry-at) c.before.before.branch.ensures
-    c.enum_told.given.1
+    let after-entry-at = c.before.before.before.before.before in
+    let at_loop = after-entry-at.before.before in
+    let a = at_loop.before.before.before.before.args in
+    going_full _ at_loop.loop.invariant.1
+    (images_step (effects_at a.size a.effects.now) _ _ _ _ _ after-entry-at.before.loop-test.true
+    after-entry-at.entry_at.ensures) c.before.before.branch.ensures c.enum_told.given.1
 
 loop_again : tie.Need-loop-preserved invariant_loop decreases_loop
 loop_again c =
-    let after-entry-at = c.before.before.before.before.before.before.before in (
+    let after-entry-at = c.before.before.before.before.before.before in
+    let at_loop = after-entry-at.before.before in
+    let a = at_loop.before.before.before.before.args in (
       omega arith,
-      counting_to _ after-entry-at.before.before.loop.invariant.1 (next_entry after-entry-at)
-          c.before.before.before.branch.ensures c.before.grown.given.1,
+      going_on _ at_loop.loop.invariant.1
+          (images_step (effects_at a.size a.effects.now) _ _ _ _ _ after-entry-at.before.loop-test.true
+          after-entry-at.entry_at.ensures) c.before.before.before.branch.ensures c.before.grown.given.1,
     )
 
 returns_2 : tie.Need-returns-2 invariant_loop decreases_loop
 returns_2 c =
     let a = c.before.before.before.before.before.args in
-    counting_end c.before.loop.invariant.1 (images_end (effects_at a.size a.effects.now) _ _ _ _ c.loop-test.false)
+    going_end c.before.loop.invariant.1 (images_end (effects_at a.size a.effects.now) _ _ _ _ c.loop-test.false)
 
 pub branch_all_spec : {M : Type 1} → statement M
 branch_all_spec =
     tie.close
     (tie.spec invariant_loop decreases_loop loop_holds (λ c κs. search rules) branch_requires (λ c. search rules) (λ c. search rules) returns
-    (λ c. search rules) (λ c. search rules) loop_again (λ c. search rules) (λ c. search rules) returns_2)
+    (λ c. search rules) (λ c. search rules) loop_again returns_2)

@@ -14,7 +14,7 @@ use Rattle.table.proofs.steps.skip_decided.Statement.{statement}
 use Rattle.table.proofs.steps.skip_decided.Tie as tie
 
 abbrev invariant_loop : tie.invariant_loop
-invariant_loop effects size at piece sum₀ i₀ sum i = Skips (effects_at size effects) at piece (record { piece = piece; at = i; results = sum })
+invariant_loop effects size at piece sum₀ i₀ sum i = Skips (effects_at size effects) at piece (record { at = i; results = sum })
 
 abbrev decreases_loop : tie.decreases_loop
 decreases_loop effects size at piece sum₀ i₀ sum i = size - i

@@ -1,11 +1,11 @@
 -- `unit::numbers::write_start` meets its contract. Assumes nothing.
-use mathlib.Core.Path.{ap, sym, ◌∙◌}
+use mathlib.Core.Path.{ap, ◌∙◌}
 use native.Mathlib.Omega.{arith}
 use Rattle.table.specs.declared.Table.{Table}
 use Rattle.table.specs.declared.starts.Started.{Started}
 use Rattle.table.specs.inner.Starts.{start_answer}
 use Rattle.unit.specs.Numbers.{table_out}
-use Rattle.unit.proofs.StoredNumbers.{table_by, count_by, zeros_table}
+use Rattle.unit.proofs.StoredNumbers.{answer_by, table_by, count_by, zeros_table}
 use borrow.Author.Rules.{rules}
 use Rattle.unit.proofs.numbers.write_start.Statement.{statement}
 use Rattle.unit.proofs.numbers.write_start.Tie as tie
@@ -15,7 +15,7 @@ write_entries_requires c κs =
     let after-started = c.before.before.before.before in
     let s = after-started.before.before.before in (
       s.requires.0,
-      count_by (λ (x : Started). (start_answer x s.args.trues.now s.args.falses.now).table) after-started.started.given.1
+      count_by (λ (x : Started). start_answer x s.args.trues.now s.args.falses.now) after-started.started.given.1
           s.requires.1,
     )
 
@@ -30,8 +30,8 @@ returns c =
     let after-started = after-write-entries.before.before.before.before.before in
     let s = after-started.before.before.before in
     let e = after-started.started.given.1 in (
-      ap (λ (x : Started). (start_answer x s.args.trues.now s.args.falses.now).answer) (sym e),
-      table_by (λ (x : Started). (start_answer x s.args.trues.now s.args.falses.now).table) e s.args.numbers.now _
+      answer_by (λ (x : Started). start_answer x s.args.trues.now s.args.falses.now) e,
+      table_by (λ (x : Started). start_answer x s.args.trues.now s.args.falses.now) e s.args.numbers.now _
           after-write-entries.write_entries.ensures,
     )
 
@@ -41,8 +41,8 @@ returns_2 c =
     let after-started2 = after-write-entries2.before.before.before.before.before.before.before in
     let s = after-started2.before.before.before in
     let e = after-started2.started2.given.1 in (
-      ap (λ (x : Started). (start_answer x s.args.trues.now s.args.falses.now).answer) (sym e),
-      table_by (λ (x : Started). (start_answer x s.args.trues.now s.args.falses.now).table) e s.args.numbers.now _
+      answer_by (λ (x : Started). start_answer x s.args.trues.now s.args.falses.now) e,
+      table_by (λ (x : Started). start_answer x s.args.trues.now s.args.falses.now) e s.args.numbers.now _
           (after-write-entries2.write-entries2.ensures ∙ ap (λ (t : Table). table_out t s.args.numbers.now) zeros_table),
     )
 
