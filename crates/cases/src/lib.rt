@@ -1,6 +1,7 @@
 // Lines of cases, shared by the programs that run vectors: reading them, writing what the calls give, and digests.
 // A line that starts with '#' is a heading, which is written as it is; any other is bytes in hexadecimal, two digits for each byte,
 // one space between bytes.
+#![tactic(auto)]
 ghost use Rattle.std.specs.Prelude.{◌≡◌, ◌≤◌, ◌<◌, length};
 ghost use Rattle.io.specs.Counts.{IsPrefixLen};
 

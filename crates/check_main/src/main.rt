@@ -1,4 +1,5 @@
 // The program `check`: runs the plan of the sheet on the standard input, and writes its rows and its verdict.
+#![tactic(auto)]
 ghost use Rattle.std.specs.Prelude.{◌≡◌, length};
 
 use libc::{STDIN_FILENO, STDOUT_FILENO};

@@ -9,6 +9,7 @@
 // Written: for 01 the text; for 02 and 03 the verdict, the count and a digest of all slots of the table that comes back, the number of
 // rows (for 02: of those written; for 03: 65) and a digest of them; for 04 how the search ends, the length of the plan and a digest of
 // its eight bytes.
+#![tactic(auto)]
 ghost use Rattle.std.specs.Prelude.{◌≡◌, replicate};
 ghost use Rattle.sheet.specs.Format.{sheet_of};
 ghost use Rattle.plan.specs.Calls.{run_of, rows_after};

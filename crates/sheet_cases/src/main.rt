@@ -1,6 +1,7 @@
 // Judges each sheet of the standard input and writes the answers. What is due stands in stdout, made by tests/vectors/make.
 // A line that starts with '#' is a heading. Any other line is the bytes of a sheet in hexadecimal; an empty line is a sheet of none.
 // Written: the answer of each sheet.
+#![tactic(auto)]
 use libc::STDIN_FILENO;
 
 // The lines in turn.

@@ -8,6 +8,7 @@
 //   04 SIZE         the picture of the current table in a buffer of so many bytes (2 bytes, at most 4096), each 170 before
 // Written: the answer; for 01 and 02 the count and a digest of all slots of the table that comes back and, where it is accepted and n
 // is at most 10, how many worlds the table stands for; for 04 the number of clauses and a digest of the buffer.
+#![tactic(auto)]
 ghost use Rattle.std.specs.Prelude.{◌≡◌, ◌≤◌, length};
 
 use libc::STDIN_FILENO;
