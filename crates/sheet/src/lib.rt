@@ -1,5 +1,6 @@
 // The sheet: its bytes judged and read, one pass, into a planning problem and a plan.
 #![tactic(auto)]
+
 ghost use Rattle.std.specs.Prelude.{◌≡◌, ◌≤◌};
 ghost use Rattle.sheet.specs.Format.{sheet_of};
 ghost use Rattle.sheet.specs.inner.Decoded.{judgement_in};

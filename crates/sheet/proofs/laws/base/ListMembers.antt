@@ -12,6 +12,7 @@ use Rattle.sheet.proofs.laws.base.ListFacts.{any_map, any_collect, any_collected
 
 -- P of some member, of each member, and of the members themselves
 pub any_member : {A : Type 0} (P : A → Type 0) (xs : List A) (x : A) → Memᴰ x xs → P x → Any P xs
+any_member {A = A} P [] x x4 h = elim x4 [ ]
 any_member P (y ∷ xs) x (Memᴰ.head e) h = inl (subst P e h)
 any_member P (y ∷ xs) x (Memᴰ.tail m) h = inr (any_member P xs x m h)
 
@@ -38,6 +39,7 @@ module _ {A : Type 0} where
   some_member P (x ∷ xs) (inr r) = let q = some_member P xs r in (q.0, Memᴰ.tail q.1, q.2)
 
   pub each_member : (P : A → Type 0) (xs : List A) → All P xs → (x : A) → Memᴰ x xs → P x
+  each_member P [] h x x4 = elim x4 [ ]
   each_member P (y ∷ xs) h x (Memᴰ.head e) = subst P (sym e) h.0
   each_member P (y ∷ xs) h x (Memᴰ.tail m) = each_member P xs h.1 x m
 

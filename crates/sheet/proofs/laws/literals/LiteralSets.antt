@@ -1,7 +1,7 @@
 -- Sets of literals by their members: `mem` of each operation, `within`, `clash`, `consistent`, `below`; none looks at a mask's digits.
 -- For all laws of literal sets, here and in table and plan. Assumes nothing.
 use mathlib.Core.Path.{◌≡◌, refl, sym, ap, ap₂, ◌∙◌, subst}
-use mathlib.Core.Logic.{◌⊎◌, ⊎_elim}
+use mathlib.Core.Logic.{⊎_elim}
 use mathlib.Core.Bool.{Bool, true, false, not, ◌&&◌, ◌||◌, beq, and-eq-true_iff, or_comm, or_assoc, true≢false, false≢true}
 use Prim.Native.Nat.{ℕ, ◌^◌, ◌<◌}
 use lib.Dec.{T, eqb, ltb}

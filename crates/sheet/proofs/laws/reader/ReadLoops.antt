@@ -12,7 +12,6 @@ use Rattle.sheet.specs.Lists.{pad}
 use Rattle.sheet.specs.Form.{Form, done, ◌>>=◌, times, Read, item, fault, then_read, read}
 use Rattle.sheet.specs.inner.Packed.{items_at}
 use Rattle.sheet.specs.inner.Marks.{ReadsAs, same}
-use Rattle.sheet.specs.Format.{count}
 use Rattle.sheet.proofs.laws.format.FormReads.{read_then}
 use Rattle.sheet.proofs.laws.base.Padding.{pad_set}
 use Rattle.sheet.proofs.laws.reader.ReadMarks.{gave_item, gave_fault, got_item, got_fault, got_same}

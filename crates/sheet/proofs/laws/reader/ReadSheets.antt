@@ -14,7 +14,7 @@ use Rattle.sheet.specs.declared.Decoded.{Decoded}
 use Rattle.sheet.specs.declared.reader.Mark.{Mark}
 use Rattle.sheet.specs.declared.reader.Mark.TheVariants.{At, Fault}
 use Rattle.sheet.specs.Lists.{All}
-use Rattle.sheet.specs.Problem.{Facts, Problem, problem_of, Statement}
+use Rattle.sheet.specs.Problem.{Problem, problem_of, Statement}
 use Rattle.sheet.specs.declared.reader.Facts as read
 use Rattle.sheet.specs.Format.{Judgement, accepted, refused, sheet_of}
 use Rattle.sheet.specs.inner.Decoded.{plan_of, plan_in, problem_in, statement_in, judged_by, judgement_in, Filled}

@@ -18,8 +18,10 @@ use Rattle.sheet.proofs.reader.sheet_in.Statement.{statement}
 use Rattle.sheet.proofs.reader.sheet_in.Tie as tie
 
 -- ---- the states on the way: each section read, and what is left after it
+
 -- `after-X` is the earlier state of that name; `by-X` and `X-state` that in which X was read
-module _ (c : tie.After-facts-at) where
+
+module _ (c : tie.After-facts_at-facts) where
   abbrev start : tie.Start
   start = c.before.before.before.before
 
@@ -28,171 +30,165 @@ module _ (c : tie.After-facts-at) where
 
   -- the packed array after sections 1 to 4
   abbrev xs : List ℕ
-  xs = c.facts_at.new.1.0
+  xs = c.facts_at-facts.new.packed
 
   abbrev facts : Facts
-  facts = facts_in c.facts_at.result.value xs
+  facts = facts_in c.facts_at-facts.result.value xs
 
-module _ (c : tie.After-mark) where
-  abbrev after_facts_at : tie.After-facts-at
-  after_facts_at = c.before.before.before.before
+module _ (c : tie.In-At) where
+  abbrev after_facts_at : tie.After-facts_at-facts
+  after_facts_at = c.before.before.before
 
-  moves_left : Left (bytes after_facts_at) sheet (from_moves (facts after_facts_at)) c.mark.given.0.0
-  moves_left = section_read _ _ (sheet_begin _) after_facts_at.facts_at.ensures.0 c.mark.given.1
+  moves_left : Left (bytes after_facts_at) sheet (from_moves (facts after_facts_at)) c.in-At.a
+  moves_left = section_read _ _ (sheet_begin _) after_facts_at.facts_at-facts.ensures.0 c.in-At.is
 
-module _ (c : tie.After-moves-at) where
-  abbrev after_mark : tie.After-mark
-  after_mark = c.before.before.before.before
+module _ (c : tie.After-moves_at-moves) where
+  abbrev after_mark : tie.In-At
+  after_mark = c.before.before.before
 
-  abbrev facts_state : tie.After-facts-at
+  abbrev facts_state : tie.After-facts_at-facts
   facts_state = after_facts_at after_mark
 
   abbrev moves : List ℕ
-  moves = c.moves-at.new.1.1.1.0
+  moves = c.moves_at-moves.new.section
 
   abbrev actions : List Action
-  actions = actions_at c.moves-at.result.value moves
+  actions = actions_at c.moves_at-moves.result.value moves
 
-module _ (c : tie.After-mark-moves) where
-  abbrev after_moves_at : tie.After-moves-at
-  after_moves_at = c.before.before.before.before
+module _ (c : tie.In-At-mark_moves) where
+  abbrev after_moves_at : tie.After-moves_at-moves
+  after_moves_at = c.before.before.before
 
   goal_left : Left (bytes (facts_state after_moves_at)) sheet (from_goal (facts (facts_state after_moves_at)) (actions after_moves_at))
-      c.mark-moves.given.0.0
+      c.in-At-mark_moves.b
   unfolding facts_in
-  goal_left = section_read _ _ (moves_left (after_mark after_moves_at)) after_moves_at.moves-at.ensures c.mark-moves.given.1
+  goal_left = section_read _ _ (moves_left (after_mark after_moves_at)) after_moves_at.moves_at-moves.ensures c.in-At-mark_moves.is
 
-module _ (c : tie.After-sets-at) where
-  abbrev after_mark_moves : tie.After-mark-moves
-  after_mark_moves = c.before.before.before
+module _ (c : tie.After-sets_at-mark_goal) where
+  abbrev after_mark_moves : tie.In-At-mark_moves
+  after_mark_moves = c.before.before
 
-  abbrev by_moves : tie.After-moves-at
+  abbrev by_moves : tie.After-moves_at-moves
   by_moves = after_moves_at after_mark_moves
 
-  abbrev by_facts : tie.After-facts-at
+  abbrev by_facts : tie.After-facts_at-facts
   by_facts = facts_state by_moves
 
   abbrev goal_numbers : List ℕ
-  goal_numbers = c.sets-at.new.1.1.1.1.1.0
+  goal_numbers = c.sets_at-mark_goal.new.item
 
   abbrev clauses : List Literals
   clauses = sets_in goal_numbers
 
   long : length (xs by_facts) ≡ 1409
-  long = by_facts.facts_at.kept.1.0 ∙ (start by_facts).pre
+  long = by_facts.facts_at-facts.auto.packed ∙ (start by_facts).requires
 
   same_after : length (anew (anew (xs by_facts) (moves by_moves) 289 1120) goal_numbers 272 17)
       ≡ length (start by_facts).args.packed.now
   same_after =
-      goal_kept (xs by_facts) (moves by_moves) long by_moves.moves-at.kept.1.1.1.0 goal_numbers
-      c.sets-at.auto.1.1.1.1.1.0
-      ∙ sym (start by_facts).pre
+      goal_kept (xs by_facts) (moves by_moves) long by_moves.moves_at-moves.auto.section goal_numbers
+      c.sets_at-mark_goal.auto.item
+      ∙ sym (start by_facts).requires
 
-module _ (c : tie.After-mark-goal) where
-  abbrev after_sets_at : tie.After-sets-at
-  after_sets_at = c.before.before.before.before
+module _ (c : tie.In-At-mark_goal) where
+  abbrev after_sets_at : tie.After-sets_at-mark_goal
+  after_sets_at = c.before.before.before
 
   plan_left : Left (bytes (by_facts after_sets_at)) sheet
       (from_plan (facts (by_facts after_sets_at)) (actions (by_moves after_sets_at)) (clauses after_sets_at))
-      c.mark-goal.given.0.0
+      c.in-At-mark_goal.c
   unfolding facts_in goal
-  plan_left = section_read _ _ (goal_left (after_mark_moves after_sets_at)) after_sets_at.sets-at.ensures c.mark-goal.given.1
+  plan_left = section_read _ _ (goal_left (after_mark_moves after_sets_at)) after_sets_at.sets_at-mark_goal.ensures c.in-At-mark_goal.is
 
-module _ (c : tie.After-plan-at) where
-  abbrev after_mark_goal : tie.After-mark-goal
-  after_mark_goal = c.before.before
+module _ (c : tie.After-plan_at-plan) where
+  abbrev after_mark_goal : tie.In-At-mark_goal
+  after_mark_goal = c.before
 
-  abbrev by_goal : tie.After-sets-at
+  abbrev by_goal : tie.After-sets_at-mark_goal
   by_goal = after_sets_at after_mark_goal
 
   plan_read : ReadsAs plan_of
-      (read (bytes (by_facts by_goal)) (plan (length (actions (by_moves by_goal)))) after_mark_goal.mark-goal.given.0.0)
-      c.plan-at.result.mark c.plan-at.result.value
-  plan_read = rw items_length c.plan-at.ensures
+      (read (bytes (by_facts by_goal)) (plan (length (actions (by_moves by_goal)))) after_mark_goal.in-At-mark_goal.c)
+      c.plan_at-plan.result.mark c.plan_at-plan.result.value
+  plan_read = rw items_length c.plan_at-plan.ensures
 
-module _ (c : tie.After-mark-plan) where
-  abbrev after_plan_at : tie.After-plan-at
-  after_plan_at = c.before.before
+module _ (c : tie.In-At-mark_plan) where
+  abbrev after_plan_at : tie.After-plan_at-plan
+  after_plan_at = c.before
 
-  abbrev goal_state : tie.After-sets-at
+  abbrev goal_state : tie.After-sets_at-mark_goal
   goal_state = by_goal after_plan_at
 
   all_read : WholeRead (bytes (by_facts goal_state)) (facts (by_facts goal_state)) (actions (by_moves goal_state)) (clauses goal_state)
-      after_plan_at.plan-at.result.value c.mark-plan.given.0.0
+      after_plan_at.plan_at-plan.result.value c.in-At-mark_plan.end
   all_read =
       whole_read _ (actions (by_moves goal_state)) (clauses goal_state) (plan_left (after_mark_goal after_plan_at))
-      (plan_read after_plan_at) c.mark-plan.given.1
+      (plan_read after_plan_at) c.in-At-mark_plan.is
 
 -- ---- the answers
-returns : tie.Need-returns
-returns c =
-    refused_so _ _ _ c.refuse-at.ensures
-    (sheet_refused _ _ (sheet_begin _) same c.before.before.before.before.before.facts_at.ensures.0
-    c.before.enum_told.given.1)
 
-returns_2 : tie.Need-returns-2
+returns-in_default : tie.Need-returns-in_default
+returns-in_default c =
+    refused_so _ _ _ c.refuse_at.ensures
+    (sheet_refused _ _ (sheet_begin _) same c.facts_at-facts.ensures.0
+    c.in_default.is)
+
+returns-in_default-mark_moves : tie.Need-returns-in_default-mark_moves
 unfolding facts_in
-returns_2 c =
-    let z = c.before.before.before.before.before in
-    refused_so _ _ _ c.refuse-at2.ensures
-    (sheet_refused _ _ (moves_left (after_mark z)) same z.moves-at.ensures c.before.enum-told2.given.1)
+returns-in_default-mark_moves c =
+    let z = c in
+    refused_so _ _ _ c.refuse_at-in_default-mark_moves.ensures
+    (sheet_refused _ _ (moves_left (after_mark z.before.before.before.before)) same z.moves_at-moves.ensures c.in_default-mark_moves.is)
 
-same_length_3 : tie.Need-same-length-3
-same_length_3 c = same_after c.before.before.before.before.before
+shape_of-packed-in_default-mark_goal : tie.Need-shape_of-packed-in_default-mark_goal
+shape_of-packed-in_default-mark_goal c = same_after c.before.before.before.before
 
-returns_3 : tie.Need-returns-3
+returns-in_default-mark_goal : tie.Need-returns-in_default-mark_goal
 unfolding facts_in goal
-returns_3 c =
-    let z = c.before.before.before.before.before in
-    refused_so _ _ _ c.refuse-at3.ensures
-    (sheet_refused _ _ (goal_left (after_mark_moves z)) same z.sets-at.ensures c.before.enum-told3.given.1)
+returns-in_default-mark_goal c =
+    let z = c in
+    refused_so _ _ _ c.refuse_at-in_default-mark_goal.ensures
+    (sheet_refused _ _ (goal_left (after_mark_moves z.before.before.before.before)) same z.sets_at-mark_goal.ensures c.in_default-mark_goal.is)
 
-plan_at_requires : tie.Need-plan-at-requires
-plan_at_requires c κs =
-    let z = after_mark_moves (after_sets_at c.before) in
-    moves_most _ _ _ (after_moves_at z).moves-at.ensures z.mark-moves.given.1 (items_length 35 action_from _ _)
+plan_at-plan-requires : tie.Need-plan_at-plan-requires
+plan_at-plan-requires c κs =
+    let z = after_mark_moves (after_sets_at c) in
+    moves_most _ _ _ (after_moves_at z).moves_at-moves.ensures z.in-At-mark_moves.is (items_length 35 action_from _ _)
 
-same_length_4 : tie.Need-same-length-4
-same_length_4 c = same_after (by_goal c.before.before.before)
+shape_of-packed-in_default-mark_plan : tie.Need-shape_of-packed-in_default-mark_plan
+shape_of-packed-in_default-mark_plan c = same_after (by_goal c.before.before)
 
-returns_4 : tie.Need-returns-4
-returns_4 c =
-    let z = c.before.before.before in
-    refused_so _ _ _ c.refuse-at4.ensures
-    (sheet_refused _ _ (plan_left (after_mark_goal z)) plan_of (plan_read z) c.before.enum-told4.given.1)
+returns-in_default-mark_plan : tie.Need-returns-in_default-mark_plan
+returns-in_default-mark_plan c =
+    let z = c in
+    refused_so _ _ _ c.refuse_at-in_default-mark_plan.ensures
+    (sheet_refused _ _ (plan_left (after_mark_goal z.before.before)) plan_of (plan_read z.before.before) c.in_default-mark_plan.is)
 
-same_length_5 : tie.Need-same-length-5
-same_length_5 c = same_after (by_goal c.before.before.before.before.before)
+shape_of-packed-then-end-s : tie.Need-shape_of-packed-then-end-s
+shape_of-packed-then-end-s c = same_after (by_goal c.before.before.before)
 
-returns_5 : tie.Need-returns-5
-returns_5 c = (
-  refused_with _ _ _ _ c.refuse.ensures.0 ∙ sym (sheet_longer (all_read c.before.before.before) c.before.if1.true),
+returns-then-end-s : tie.Need-returns-then-end-s
+returns-then-end-s c = (
+  refused_with _ _ _ _ c.refuse.ensures.0 ∙ sym (sheet_longer (all_read c.before.before) c.if-end-s.true),
   c.refuse.ensures.1,
 )
 
-same_length_6 : tie.Need-same-length-6
-same_length_6 c = same_after (by_goal c.before.before.before.before.before.before)
+shape_of-packed : tie.Need-shape_of-packed
+shape_of-packed c = same_after (by_goal c.before.before.before.before)
 
-returns_6 : tie.Need-returns-6
+returns : tie.Need-returns
 unfolding judgement_in statement_in
-returns_6 c =
-    let after-if1 = c.before.before in
-    let after-mark-plan = after-if1.before.before in
-    let z = goal_state after-mark-plan in
-    let numbers = (after_plan_at after-mark-plan).plan-at.result.value in (
-      sym (sheet_whole (all_read after-mark-plan) after-if1.if1.false
+returns c =
+    let after-if1 = c in
+    let after-mark-plan = after-if1 in
+    let z = goal_state after-mark-plan.before.before.before in
+    let numbers = (after_plan_at after-mark-plan.before.before.before).plan_at-plan.result.value in (
+      sym (sheet_whole (all_read after-mark-plan.before.before.before) after-if1.if-end-s.false
           ∙ ap (λ (p : Problem). accepted (record { problem = p; plan = plan_in numbers }))
-          (problem_laid (xs (by_facts z)) (moves (by_moves z)) (long z) (by_moves z).moves-at.kept.1.1.1.0 (goal_numbers z)
-          z.sets-at.kept.1.1.1.1.1.0 (by_facts z).facts_at.result.value (by_moves z).moves-at.result.value numbers)),
-      (all_read after-mark-plan).most,
+          (problem_laid (xs (by_facts z)) (moves (by_moves z)) (long z) (by_moves z).moves_at-moves.auto.section (goal_numbers z)
+          z.sets_at-mark_goal.auto.item (by_facts z).facts_at-facts.result.value (by_moves z).moves_at-moves.result.value numbers)),
+      (all_read after-mark-plan.before.before.before).most,
     )
 
 pub sheet_in_spec : {M : Type 1} → statement M
-sheet_in_spec =
-    tie.close
-    (tie.spec (λ c κs. search rules) (λ c. search rules) (λ c. search rules) (λ c κs. search rules) (λ c. search rules) returns
-    (λ c. search rules) (λ c. search rules) (λ c. search rules) (λ c κs. search rules) (λ c. search rules) (λ c. search rules)
-    (λ c κs. search rules) (λ c. search rules) returns_2 (λ c. search rules) (λ c. search rules) (λ c. search rules)
-    (λ c κs. search rules) (λ c. search rules) (λ c. search rules) (λ c κs. search rules) same_length_3 returns_3 plan_at_requires
-    (λ c. search rules) (λ c. search rules) (λ c κs. search rules) same_length_4 returns_4 (λ c κs. search rules) same_length_5
-    returns_5 same_length_6 returns_6)
+sheet_in_spec = tie.close (tie.spec (λ c κs. search rules) (λ c. search rules) (λ c. search rules) (λ c κs. search rules) (λ c. search rules) returns-in_default (λ c. search rules) (λ c. search rules) (λ c. search rules) (λ c κs. search rules) (λ c. search rules) (λ c. search rules) (λ c κs. search rules) (λ c. search rules) returns-in_default-mark_moves (λ c. search rules) (λ c. search rules) (λ c. search rules) (λ c κs. search rules) (λ c. search rules) (λ c. search rules) (λ c κs. search rules) shape_of-packed-in_default-mark_goal returns-in_default-mark_goal plan_at-plan-requires (λ c. search rules) (λ c. search rules) (λ c κs. search rules) shape_of-packed-in_default-mark_plan returns-in_default-mark_plan (λ c κs. search rules) shape_of-packed-then-end-s returns-then-end-s shape_of-packed returns)

@@ -1,0 +1,12 @@
+-- `sheet::reader::clauses_from` meets its contract. The invariant: the clauses before i are read and laid. Assumes nothing.
+use Prim.Native.Nat.{◌-◌}
+use Rattle.sheet.specs.Format.{clause}
+use Rattle.sheet.specs.inner.Packed.{clauses_at}
+use Rattle.sheet.proofs.laws.reader.ReadLoops.{Laid}
+use Rattle.sheet.proofs.reader.clauses_from.Given as goal
+
+abbrev pub invariant-loop-i : goal.invariant-loop-i
+invariant-loop-i l = Laid l.s (clause l.n) 136 clauses_at l.k l.first l.section l.i l.next
+
+abbrev pub decreases-loop-i : goal.decreases-loop-i
+decreases-loop-i l = l.k - l.i
