@@ -75,7 +75,8 @@ module _ (R : RattleType) (ℓ : Lifetime) (b o : ℕ) {M : Type 1} {𝓤 : Ura 
   open 𝓛 use {H, A}
 
   abbrev pub LentHome : ℕ → GName → List R.Denot → Fml
-  LentHome ν δ ys = (MutSlice ℓ (ν ∷ []) R).own_val (record { ref_ptr = (b, o); ghost_name = δ; now = ys }) (slice_val (b, o) (length ys) ∷ [])
+  LentHome ν δ ys = (MutSlice ℓ (ν ∷ []) R).own_val (record { ref_ptr = (b, o); ghost_name = δ; now = ys })
+      (slice_val (b, o) (length ys) ∷ [])
 
   module _ (ys : List R.Denot) (φ : Val → List R.Denot → Type 0) (P X : SProp 𝓤) where
     abbrev pub Home : Val → Item 𝓤

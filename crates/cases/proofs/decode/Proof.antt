@@ -27,6 +27,7 @@ returns_2 c = prefix_len_of_le _ _ (omega arith)
 pub decode_spec : {M : Type 1} → statement M
 decode_spec =
     tie.close
-    (tie.spec invariant_loop decreases_loop (λ c. search rules) (λ c. search rules) returns (λ c. omega arith) (λ c. omega arith) (λ c. omega arith)
+    (tie.spec invariant_loop decreases_loop (λ c. search rules) (λ c. search rules) returns (λ c. omega arith) (λ c. omega arith)
+        (λ c. omega arith)
     (λ c κs. search rules) (λ c. omega arith) (λ c. omega arith) (λ c. omega arith) (λ c. omega arith) loop_again (λ c. search rules)
     returns_2)

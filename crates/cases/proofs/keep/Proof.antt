@@ -26,5 +26,6 @@ returns_2 c = prefix_len_of_le _ _ (omega arith)
 pub keep_spec : {M : Type 1} → statement M
 keep_spec =
     tie.close
-    (tie.spec invariant_loop decreases_loop (λ c. omega arith) (λ c. omega arith) (λ c. search rules) returns (λ c. omega arith) (λ c. omega arith)
+    (tie.spec invariant_loop decreases_loop (λ c. omega arith) (λ c. omega arith) (λ c. search rules) returns (λ c. omega arith)
+        (λ c. omega arith)
     (λ c. omega arith) (λ c. omega arith) loop_again (λ c. search rules) returns_2)

@@ -16,4 +16,5 @@ write_text-requires c =
 
 pub returns : goal.returns
 returns c =
-    let both = reports _ _ c.course_into-ran.ensures _ _ _ c.if-out-lt-REPORT_LENGTH.false c.write_text.ensures in record { value = both.0; out_after = both.1 }
+    let both = reports _ _ c.course_into-ran.ensures _ _ _ c.if-out-lt-REPORT_LENGTH.false c.write_text.ensures in record
+        { value = both.0; out_after = both.1 }

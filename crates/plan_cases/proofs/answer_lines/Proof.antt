@@ -20,6 +20,7 @@ returns c = tt
 pub answer_lines_spec : {M : Type 1} → statement M
 answer_lines_spec =
     tie.close
-    (tie.spec invariant_loop decreases_loop (λ c κs. search rules) (λ c κs. search rules) (λ c. search rules) (λ c. search rules) (λ c. search rules)
+    (tie.spec invariant_loop decreases_loop (λ c κs. search rules) (λ c κs. search rules) (λ c. search rules) (λ c. search rules)
+        (λ c. search rules)
     (λ c κs. search rules) (λ c. search rules) (λ c. search rules) (λ c. search rules) (λ c. search rules) (λ c κs. search rules)
     (λ c. omega arith) (λ c. search rules) returns)

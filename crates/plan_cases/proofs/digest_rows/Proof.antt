@@ -17,5 +17,6 @@ returns c = tt
 pub digest_rows_spec : {M : Type 1} → statement M
 digest_rows_spec =
     tie.close
-    (tie.spec invariant_loop decreases_loop (λ c. omega arith) (λ c. omega arith) (λ c. omega arith) (λ c κs. search rules) (λ c κs. omega arith)
+    (tie.spec invariant_loop decreases_loop (λ c. omega arith) (λ c. omega arith) (λ c. omega arith) (λ c κs. search rules)
+        (λ c κs. omega arith)
     (λ c κs. omega arith) (λ c. omega arith) (λ c. omega arith) (λ c. omega arith) returns)

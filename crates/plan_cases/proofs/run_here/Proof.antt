@@ -188,7 +188,8 @@ module _ {M : Type 1} {𝓤 : Ura M} (𝓛 : Logic 𝓤) (mem : Memory → SProp
     gets_run : (ν : ℕ) (δ : GName) (w : Val) → ent 𝓤 ((Run 𝓛 mem run).post (to_run ν δ) w) (mean 𝓛 (Answered ν δ w))
     gets_run ν δ w =
         qed 𝓛 (raw ((Run 𝓛 mem run).post (to_run ν δ) w) ∷ []) ∵ updating ! $
-        use1 𝓛 (later (some (λ (r : RunAnswer). ((‵ (flft κ q) ⊛ (‵ (flft (ν ∷ []) full_share) ⊛ ‵ ftrue)) ⊛ ‵ ((S.the_row).own_val r (w ∷ [])))
+        use1 𝓛 (later (some (λ (r : RunAnswer). ((‵ (flft κ q) ⊛ (‵ (flft (ν ∷ []) full_share) ⊛ ‵ ftrue)) ⊛ ‵
+            ((S.the_row).own_val r (w ∷ [])))
         ⊛ some (λ (ws : Lasts run-rows.ended (κ, (ν ∷ [], tt)) (args δ)). ‵ (lasts run-rows.ended (κ, (ν ∷ [], tt)) (args δ) ws) ⊛
         (raw (fact 𝓤 (r ≡ out)) ⊛ raw (fact 𝓤 (ws.1.0 ≡ last))))))) (id⊢ 𝓤 _) $ await ! tt $ pick ! (λ r.
         split ! $ move ! (1 ∷ []) $ pick ! (λ ws. split ! $ move ! (1 ∷ []) $ split ! $
@@ -232,7 +233,8 @@ module _ {M : Type 1} {𝓤 : Ura M} (𝓛 : Logic 𝓤) (mem : Memory → SProp
       ends r zs w is l e₁ e₂ =
           qed 𝓛 (‵ (cells (in_memory T.the_row) zs l₂ 0) ∷ raw (A.lft κ q) ∷ ‵ Shared ∷ Cells (‵ (fat full_share (S'.mir) l₃ 0 w))) ∵
           exec ! C Λ En body.t-6 (at_ret En Post) $
-          use1 𝓛 (some (λ (us : List Val). given (shadow (each Row (T.the_row).own_val zs us)) (‵ (fat full_share array l₂ 0 (array_val us)))))
+          use1 𝓛 (some (λ (us : List Val). given (shadow (each Row (T.the_row).own_val zs us))
+              (‵ (fat full_share array l₂ 0 (array_val us)))))
           (home_out T.the_row 𝓛 65 l₂ 0 zs l) $ pick ! (λ us. learn ! (λ arr.
           -- [_2; the token; the bytes; _7; …; _6; …; _5; …; _4; …; _3; …; (_2's right to be freed); _1; …; _0; …]
           assigns ! (of_opd ! (load ! (from ! (stop !)) (look ! 0 refl))) (from ! (stop !))

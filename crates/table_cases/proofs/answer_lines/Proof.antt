@@ -9,7 +9,8 @@ use Rattle.table_cases.proofs.answer_lines.Statement.{statement}
 use Rattle.table_cases.proofs.answer_lines.Tie as tie
 
 abbrev invariant_loop : tie.invariant_loop
-invariant_loop text sheet₀ bytes₀ size₀ t₀ at₀ sheet bytes size t at = IsPrefixLen size sheet × (length sheet ≡ 8192) × (length bytes ≡ 8192)
+invariant_loop text sheet₀ bytes₀ size₀ t₀ at₀ sheet bytes size t at = IsPrefixLen size sheet × (length sheet ≡ 8192) ×
+    (length bytes ≡ 8192)
 
 abbrev decreases_loop : tie.decreases_loop
 decreases_loop text sheet₀ bytes₀ size₀ t₀ at₀ sheet bytes size t at = length text - at

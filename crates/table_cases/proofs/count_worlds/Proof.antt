@@ -21,5 +21,6 @@ returns c = tt
 pub count_worlds_spec : {M : Type 1} → statement M
 count_worlds_spec =
     tie.close
-    (tie.spec invariant_loop decreases_loop (λ c. omega arith) (λ c. omega arith) (λ c κs. search rules) (λ c. omega arith) (λ c. omega arith)
+    (tie.spec invariant_loop decreases_loop (λ c. omega arith) (λ c. omega arith) (λ c κs. search rules) (λ c. omega arith)
+        (λ c. omega arith)
     (λ c. omega arith) loop_again returns)

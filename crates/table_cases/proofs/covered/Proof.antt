@@ -19,5 +19,6 @@ returns_2 c = tt
 pub covered_spec : {M : Type 1} → statement M
 covered_spec =
     tie.close
-    (tie.spec invariant_loop decreases_loop (λ c. omega arith) (λ c. omega arith) (λ c. omega arith) (λ c. omega arith) (λ c. omega arith) returns
+    (tie.spec invariant_loop decreases_loop (λ c. omega arith) (λ c. omega arith) (λ c. omega arith) (λ c. omega arith) (λ c. omega arith)
+        returns
     (λ c. omega arith) (λ c. omega arith) (λ c. omega arith) returns_2)

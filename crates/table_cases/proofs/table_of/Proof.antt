@@ -17,7 +17,8 @@ returns c = tt
 pub table_of_spec : {M : Type 1} → statement M
 table_of_spec =
     tie.close
-    (tie.spec invariant_loop decreases_loop (λ c κs. search rules) (λ c κs. search rules) (λ c. omega arith) (λ c. omega arith) (λ c. omega arith)
+    (tie.spec invariant_loop decreases_loop (λ c κs. search rules) (λ c κs. search rules) (λ c. omega arith) (λ c. omega arith)
+        (λ c. omega arith)
     (λ c κs. search rules) (λ c. omega arith) (λ c. omega arith) (λ c. omega arith) (λ c. omega arith) (λ c. omega arith)
     (λ c κs. search rules) (λ c. omega arith) (λ c. omega arith) (λ c. omega arith) (λ c. omega arith) (λ c. omega arith)
     (λ c. omega arith) returns)

@@ -19,11 +19,13 @@ pub returns-then-plan-lt8 : goal.returns-then-plan-lt8
 returns-then-plan-lt8 c =
     let a = c.args in
     let both =
-    unwritten (lacks_first 8 a.plan.now a.info.now c.if-plan-lt8.true) _ _ _ in record { value = both.0; plan_after = both.1.0; info_after = both.1.1 }
+    unwritten (lacks_first 8 a.plan.now a.info.now c.if-plan-lt8.true) _ _ _ in record
+        { value = both.0; plan_after = both.1.0; info_after = both.1.1 }
 
 pub returns-then-info-lt4 : goal.returns-then-info-lt4
 returns-then-info-lt4 c =
     let a = c.args in
     let both =
-    unwritten (lacks_info 8 a.plan.now a.info.now c.if-plan-lt8.false c.if-info-lt4.true) _ _ _ in record { value = both.0; plan_after = both.1.0; info_after = both.1.1 }
+    unwritten (lacks_info 8 a.plan.now a.info.now c.if-plan-lt8.false c.if-info-lt4.true) _ _ _ in record
+        { value = both.0; plan_after = both.1.0; info_after = both.1.1 }
 

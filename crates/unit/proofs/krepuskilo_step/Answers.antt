@@ -24,11 +24,13 @@ pub returns-then-table-lt-TABLE_NUMBERS : goal.returns-then-table-lt-TABLE_NUMBE
 returns-then-table-lt-TABLE_NUMBERS c =
     let a = c.args in
     let both =
-    unwritten (lacks_first table_numbers a.table.now a.info.now c.if-table-lt-TABLE_NUMBERS.true) _ _ _ in record { value = both.0; table_after = both.1.0; info_after = both.1.1 }
+    unwritten (lacks_first table_numbers a.table.now a.info.now c.if-table-lt-TABLE_NUMBERS.true) _ _ _ in record
+        { value = both.0; table_after = both.1.0; info_after = both.1.1 }
 
 pub returns-then-info-lt4 : goal.returns-then-info-lt4
 returns-then-info-lt4 c =
     let a = c.args in
     let both =
-    unwritten (lacks_info table_numbers a.table.now a.info.now c.if-table-lt-TABLE_NUMBERS.false c.if-info-lt4.true) _ _ _ in record { value = both.0; table_after = both.1.0; info_after = both.1.1 }
+    unwritten (lacks_info table_numbers a.table.now a.info.now c.if-table-lt-TABLE_NUMBERS.false c.if-info-lt4.true) _ _ _ in record
+        { value = both.0; table_after = both.1.0; info_after = both.1.1 }
 

@@ -27,9 +27,9 @@ set_at-c-requires c = omega
 pub returns-then-not-shares : goal.returns-then-not-shares
 unfolding sets_in in_goal
 returns-then-not-shares c =
-    all_stop (λ x. meets x c.args.d) _ _ _ _ (( let goal = c.args.goal.now in
+    all_stop (λ x. meets x c.args.d) _ _ _ _ (let goal = c.args.goal.now in
     sets_step (get_or goal 0 0) (drop 1 goal) c.loop-i.i _ (omega (arith, c.loop-i.invariant.0, c.loop-i-test.true))
-    c.set_at-c.ensures)) c.shares.ensures
+    c.set_at-c.ensures) c.shares.ensures
     c.if-not-shares.true
     ∙ sym c.loop-i.invariant.1
 
@@ -39,9 +39,9 @@ loop-i-preserved c =
     (
       c.loop-i.invariant.0,
       c.loop-i.invariant.1
-          ∙ all_on (λ x. meets x c.args.d) _ _ _ _ (( let goal = c.args.goal.now in
+          ∙ all_on (λ x. meets x c.args.d) _ _ _ _ (let goal = c.args.goal.now in
     sets_step (get_or goal 0 0) (drop 1 goal) c.loop-i.i _ (omega (arith, c.loop-i.invariant.0, c.loop-i-test.true))
-    c.set_at-c.ensures)) c.shares.ensures
+    c.set_at-c.ensures) c.shares.ensures
           c.if-not-shares.false,
     )
 

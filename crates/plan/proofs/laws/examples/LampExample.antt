@@ -58,12 +58,14 @@ abbrev with_plan : ℕ → ℕ → Statement
 with_plan a b = record { problem = two; plan = a ∷ b ∷ [] }
 
 says_01 : sheet_of (lamp_sheet 0 1) ≡ accepted (with_plan 0 1)
-unfolding sheet_of at_end read byte_at sheet facts plan goal actions clauses action effect clause literals set_of ascending list_of number_fault
+unfolding sheet_of at_end read byte_at sheet facts plan goal actions clauses action effect clause literals set_of ascending list_of
+    number_fault
     literal_fault count_fault times judged ◌>>=◌ problem_of no_literal join literal single sign
 says_01 = refl
 
 says_10 : sheet_of (lamp_sheet 1 0) ≡ accepted (with_plan 1 0)
-unfolding sheet_of at_end read byte_at sheet facts plan goal actions clauses action effect clause literals set_of ascending list_of number_fault
+unfolding sheet_of at_end read byte_at sheet facts plan goal actions clauses action effect clause literals set_of ascending list_of
+    number_fault
     literal_fault count_fault times judged ◌>>=◌ problem_of no_literal join literal single sign
 says_10 = refl
 
@@ -125,7 +127,8 @@ unfolding within state
 world = (4, (omega arith, record { known = tt; ors = tt; oneofs = tt }))
 
 -- they do not touch, though they did by document 01's wording before W2, and change places
-pub lamp : (touch out_f out_g ≡ false) × (touch_anywhere out_f out_g ≡ true) × (exchanges (action_at two) (1 ∷ []) (0 ∷ 1 ∷ []) ≡ 1 ∷ 0 ∷ [])
+pub lamp : (touch out_f out_g ≡ false) × (touch_anywhere out_f out_g ≡ true) ×
+    (exchanges (action_at two) (1 ∷ []) (0 ∷ 1 ∷ []) ≡ 1 ∷ 0 ∷ [])
 unfolding action_at touch touch_anywhere clash join no_literal named reads changed names
 lamp = (refl, refl, refl)
 

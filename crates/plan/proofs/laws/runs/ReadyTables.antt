@@ -44,7 +44,8 @@ ready_count n t h = let e = length_entries_of t.count t.trues t.falses in
     (omega (arith, h.described.least), omega (arith, h.described.most))
 
 -- ---- the start of a problem
-module _ (p : Problem) (g : ProperProblem p) (s : TableAnswer) (is : s ≡ or_given (table_of []) (start_table 128 p)) (a : s.answer ≡ Accepted)
+module _ (p : Problem) (g : ProperProblem p) (s : TableAnswer) (is : s ≡ or_given (table_of []) (start_table 128 p))
+    (a : s.answer ≡ Accepted)
   where
     first : (u : List Literals) × (start_table 128 p ≡ table u) × (s.table ≡ table_of u)
     first = stepped (table_of []) _ s is a

@@ -90,7 +90,8 @@ module _ (s : List ℕ) (x : Statement) (says : Says s x) (rows : ℕ) (given : 
 
 -- ---- a run that is not full, whether or not its start gives a table: it does where some starting world is known from what the verdict
 -- says
-module _ (s : List ℕ) (x : Statement) (says : Says s x) (rows : ℕ) (enough : 65 ≤ rows) (unfull : run_full (run_of (sheet_of s) rows) ≡ false)
+module _ (s : List ℕ) (x : Statement) (says : Says s x) (rows : ℕ) (enough : 65 ≤ rows)
+    (unfull : run_full (run_of (sheet_of s) rows) ≡ false)
     (v : Verdict) (not-that : (k : ℕ) → v ≡ full k → ⊥) where
   abbrev Meant : Type 0
   Meant = Means x.problem.n x.problem.goal (Starting x.problem) (actions_of x.problem x.plan) v

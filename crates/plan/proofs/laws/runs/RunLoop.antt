@@ -173,7 +173,8 @@ module _ {plan : Plan} {packed : List ℕ} {whole : Course} {i : ℕ} {t : Table
     below : m < h.can.count
     below = number_below h.can h.long lt
 
-    unrolled : course_from (sets_in (goal_in packed)) h.rows i (action_of (moves_in packed) m ∷ left plan packed (i + 1)) (entries t) ≡ whole
+    unrolled : course_from (sets_in (goal_in packed)) h.rows i (action_of (moves_in packed) m ∷ left plan packed (i + 1)) (entries t) ≡
+        whole
     unfolding plan_in
     unrolled =
         sym (ap (λ (p : List ℕ). course_from (sets_in (goal_in packed)) h.rows i (map (action_of (moves_in packed)) p) (entries t))

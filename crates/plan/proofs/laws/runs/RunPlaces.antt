@@ -351,7 +351,8 @@ module _ (s : List ℕ) (x : Statement) (says : Says s x) where
 
     -- the clauses of a row, by the picture call
     row_clauses : (u : List Literals) → Described 128 p.n u
-        → clauses_or (picture_of (sheet_of s) (table_of u) 2050).answer (picture_of (sheet_of s) (table_of u) 2050).clauses ≡ size_of (picture u)
+        → clauses_or (picture_of (sheet_of s) (table_of u) 2050).answer (picture_of (sheet_of s) (table_of u) 2050).clauses ≡ size_of
+            (picture u)
     row_clauses u d = ap (λ (r : PictureAnswer). clauses_or r.answer r.clauses) call ∙ go (picture u) refl
       where
         call : picture_of (sheet_of s) (table_of u) 2050 ≡ pictured.given (picture u) 2050

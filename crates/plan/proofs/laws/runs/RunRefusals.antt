@@ -104,7 +104,8 @@ module _ (s : List ℕ) (x : Statement) (says : sheet_of s ≡ accepted x) where
       go false f = absurd (omega (arith, (start_refused x.problem ((run_number rows (ltb-false rows 65 f) 23 q).0 e).1).1))
 
 -- a refused run gives a table with count 0 and all slots zero
-pub run_back : (s : List ℕ) (rows k q : ℕ) → (run_of (sheet_of s) rows).verdict ≡ ran.Refused k q → (run_of (sheet_of s) rows).table ≡ table_of []
+pub run_back : (s : List ℕ) (rows k q : ℕ) → (run_of (sheet_of s) rows).verdict ≡ ran.Refused k q → (run_of (sheet_of s) rows).table ≡
+    table_of []
 run_back s rows k q e = (run_none (sheet_of s) rows k q e).0
 
 -- and keeps every row as it was given

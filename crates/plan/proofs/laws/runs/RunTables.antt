@@ -156,12 +156,14 @@ module _ (cap : ℕ) where
     where
       go : (o : Outcome) → step_table cap a t ≡ o
           → ((v : List Literals) → (i ≤ moves_taken cap plan v) ↔ ((u : List Literals) × (table_at cap i plan v ≡ some u)))
-          → (suc i ≤ count_or o (λ v. moves_taken cap plan v)) ↔ ((u : List Literals) × (then_table o (λ v. table_at cap i plan v) ≡ some u))
+          → (suc i ≤ count_or o (λ v. moves_taken cap plan v)) ↔
+              ((u : List Literals) × (then_table o (λ v. table_at cap i plan v) ≡ some u))
       go (refused N) e ih = (λ h. absurd (omega arith), λ x. absurd (none-ne-some x.0 x.1))
       go (table v) e ih = (λ h. (ih v).0 (le_of_suc-le-suc h), λ x. omega (arith, (ih v).1 x))
 
   -- ---- the rows
-  pub rows_length : (place : ℕ) (plan : List Action) (t : List Literals) → length (rows_from cap place plan t) ≡ suc (moves_taken cap plan t)
+  pub rows_length : (place : ℕ) (plan : List Action) (t : List Literals) → length (rows_from cap place plan t) ≡ suc
+      (moves_taken cap plan t)
   rows_length place [] t = refl
   rows_length place (a ∷ plan) t = go (step_table cap a t) (rows_length (suc place) plan)
     where
@@ -176,7 +178,8 @@ module _ (cap : ℕ) where
       let e : t ≡ u = some-injective t u h in
       cc
 
-  pub row_at_lem : (place : ℕ) (plan : List Action) (t : List Literals) (i : ℕ) (u : List Literals) (d : Row) → table_at cap i plan t ≡ some u
+  pub row_at_lem : (place : ℕ) (plan : List Action) (t : List Literals) (i : ℕ) (u : List Literals) (d : Row) → table_at cap i plan t ≡
+      some u
       → get_or (rows_from cap place plan t) i d ≡ row_of (place + i) u
   row_at_lem place [] t zero u d h = rowed place t u h
   row_at_lem place (a ∷ plan) t zero u d h = rowed place t u h

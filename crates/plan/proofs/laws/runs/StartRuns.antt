@@ -44,7 +44,8 @@ plan_proper p hp q h = all_imaged (action_at p) (ProperAction p.n) q
     (all_map (λ i. i < length p.actions) (λ i. ProperAction p.n (action_at p i)) (at_proper p hp) q h)
 
 -- ---- the moves taken, by the verdict alone: of any list as long as the plan
-pub taken_by_lem : {A : Type 0} (cap : ℕ) (goal : List Literals) (plan : List Action) (t : List Literals) (q : List A) → length q ≡ length plan
+pub taken_by_lem : {A : Type 0} (cap : ℕ) (goal : List Literals) (plan : List Action) (t : List Literals) (q : List A) → length q ≡ length
+    plan
     → taken_by (verdict_of (run_from cap goal 0 plan t)) q ≡ take (moves_taken cap plan t) q
 unfolding taken_by verdict_of
 taken_by_lem cap goal plan t q same = go (story cap plan t)

@@ -285,7 +285,8 @@ module _ (s : List ℕ) (x : Statement) (says : Says s x) (limit : ℕ) (le : li
   empty : PlanOf moves limit []
   empty = (tt, omega arith)
 
-  pub search_reached : (q : List ℕ) → (((search_of (sheet_of s) limit).kind ≡ kind.Reached) × (plan_found (search_of (sheet_of s) limit) ≡ q))
+  pub search_reached : (q : List ℕ) → (((search_of (sheet_of s) limit).kind ≡ kind.Reached) ×
+      (plan_found (search_of (sheet_of s) limit) ≡ q))
       ↔ FirstRun x.problem limit q ran.Reached
   search_reached q = by_outcome x.problem
       (λ N e h. let z : ◌≡◌ {A = ℕ} 0 1 = cc (call_refused N e, h.0) in omega arith)
@@ -357,7 +358,8 @@ module _ (s : List ℕ) (x : Statement) (says : Says s x) (limit : ℕ) (le : li
           (run_refused_lem 21 ((tables.start_number s x says 21 0).0 e).1 [] empty)
 
   -- by worlds, both ways
-  pub reached_worlds : (q : List ℕ) → (((search_of (sheet_of s) limit).kind ≡ kind.Reached) × (plan_found (search_of (sheet_of s) limit) ≡ q))
+  pub reached_worlds : (q : List ℕ) → (((search_of (sheet_of s) limit).kind ≡ kind.Reached) ×
+      (plan_found (search_of (sheet_of s) limit) ≡ q))
       ↔ (((w : ℕ) × Starts x.problem w) × PlanOf moves limit q × (run_full (run_with x.problem q) ≡ false) × Solves x.problem q
       × ((r : List ℕ) → PlanOf moves limit r → Earlier r q → (run_full (run_with x.problem r) ≡ false) × Spoiled x.problem r))
   reached_worlds q = (
@@ -452,7 +454,8 @@ unplanned_refused : (k q : ℕ) → Unplanned (refused_search k q)
 unfolding refused_search
 unplanned_refused k q e = refl
 
-pub search_no_plan : (s : List ℕ) (limit : ℕ) → (search_of (sheet_of s) limit).kind ≡ kind.Nothing → (search_of (sheet_of s) limit).length ≡ 0
+pub search_no_plan : (s : List ℕ) (limit : ℕ) → (search_of (sheet_of s) limit).kind ≡ kind.Nothing → (search_of (sheet_of s) limit).length
+    ≡ 0
 search_no_plan = search_any Unplanned unplanned_refused (λ a h. unplanned a)
 
 -- ---- the sheet's own plan is ignored

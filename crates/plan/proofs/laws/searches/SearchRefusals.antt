@@ -35,7 +35,8 @@ not_answered nothing k q e = let z : ◌≡◌ {A = ℕ} 0 1 = cc in omega arith
 module _ (p : Problem) (limit : ℕ) where
   searched_refused : (o : Outcome) (k q : ℕ) → ((searched p limit o).kind ≡ kind.Refused k q) ↔ ((q ≡ 0) × (o ≡ Outcome.refused k))
   unfolding searched refused_search
-  searched_refused = refused_by_start kind.Refused (λ i j k q e. (cc, cc)) (λ o. (searched p limit o).kind) (λ k. refl) (λ t. not_answered _)
+  searched_refused = refused_by_start kind.Refused (λ i j k q e. (cc, cc)) (λ o. (searched p limit o).kind) (λ k. refl)
+      (λ t. not_answered _)
 
   searched_back : (o : Outcome) (k q : ℕ) → (searched p limit o).kind ≡ kind.Refused k q → ((searched p limit o).plan ≡ replicate 8 0)
       × ((searched p limit o).length ≡ 0)

@@ -127,7 +127,8 @@ wrote_high b at n q m h i e f =
 rows_snoc : (rows : List Row) (r : Row) → rows_text (rows ++ (r ∷ [])) ≡ rows_text rows ++ row_text r
 unfolding rows_text
 rows_snoc [] r = append-nil (row_text r)
-rows_snoc (x ∷ rows) r = ap (λ (t : List ℕ). row_text x ++ t) (rows_snoc rows r) ∙ sym (append_assoc (row_text x) (rows_text rows) (row_text r))
+rows_snoc (x ∷ rows) r = ap (λ (t : List ℕ). row_text x ++ t) (rows_snoc rows r) ∙ sym
+    (append_assoc (row_text x) (rows_text rows) (row_text r))
 
 -- no row
 pub wrote_no_rows : (c : Counts) (b : List ℕ) (at : ℕ) → Wrote b at (rows_text (rows_below c 0)) at b

@@ -32,10 +32,11 @@ pub bounds-plan-i : goal.bounds-plan-i
 bounds-plan-i c = omega (arith, c.loop-i.invariant.can.most, c.loop-i-test.true)
 
 pub overflow_cast-index : goal.overflow_cast-index
-overflow_cast-index c = omega (arith, (let v = c.loop-i.invariant in number_below v.can v.long c.loop-i-test.true), c.loop-i.invariant.can.fits.most)
+overflow_cast-index c = omega (arith, (let v = c.loop-i.invariant in number_below v.can v.long c.loop-i-test.true),
+    c.loop-i.invariant.can.fits.most)
 
 pub step_here-requires : goal.step_here-requires
-step_here-requires c = move_fits c.loop-i.invariant.can.fits ((let v = c.loop-i.invariant in number_below v.can v.long c.loop-i-test.true))
+step_here-requires c = move_fits c.loop-i.invariant.can.fits (let v = c.loop-i.invariant in number_below v.can v.long c.loop-i-test.true)
 
 pub returns-in-Refused : goal.returns-in-Refused
 unfolding tableEntries

@@ -15,7 +15,8 @@ use Rattle.plan.proofs.laws.runs.RunLoop.{no_rows, going_note}
 use Rattle.plan.proofs.runs.run_from.Given as goal
 
 abbrev pub invariant-loop-i : goal.invariant-loop-i
-invariant-loop-i l = Going l.plan l.packed (course_from (sets_in (goal_in l.packed)) [] 0 (left l.plan l.packed 0) (tableEntries (lent l.count l.initial.trues l.initial.falses))) l.i
+invariant-loop-i l = Going l.plan l.packed (course_from (sets_in (goal_in l.packed)) [] 0 (left l.plan l.packed 0)
+    (tableEntries (lent l.count l.initial.trues l.initial.falses))) l.i
     (lent l.filled l.trues l.falses) (counts_in l.i l.entries l.clauses)
 
 

@@ -16,7 +16,8 @@ use Rattle.plan.specs.inner.Memory.{Remembers}
 use Rattle.plan.proofs.searches.lengths.Given as goal
 
 abbrev pub invariant-loop-length : goal.invariant-loop-length
-invariant-loop-length l = (first_below (first_from (sets_in (goal_in l.packed)) (action_of (moves_in l.packed)) l.move_count 0 (entries_of l.count l.trues l.falses)) l.length
+invariant-loop-length l = (first_below (first_from (sets_in (goal_in l.packed)) (action_of (moves_in l.packed)) l.move_count 0
+    (entries_of l.count l.trues l.falses)) l.length
     ≡ nothing) × (l.length ≤ l.limit + 1) × (N.length l.memory ≡ N.length l.initial.memory) × Remembers l.packed l.move_count l.memory
 
 

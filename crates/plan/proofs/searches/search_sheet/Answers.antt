@@ -15,10 +15,12 @@ first_into-requires c =
     }
 
 pub slice_bounds-lengths-end : goal.slice_bounds-lengths-end
-slice_bounds-lengths-end c = sym (trues_long (can_search c.args.sheet c.args.packed.now c.requires.filled _ _ _ c.first_into.ensures _ c.in-To.is))
+slice_bounds-lengths-end c = sym (trues_long (can_search c.args.sheet c.args.packed.now c.requires.filled _ _ _ c.first_into.ensures _
+    c.in-To.is))
 
 pub slice_bounds-lengths-end-in-To : goal.slice_bounds-lengths-end-in-To
-slice_bounds-lengths-end-in-To c = sym (falses_long (can_search c.args.sheet c.args.packed.now c.requires.filled _ _ _ c.first_into.ensures _ c.in-To.is))
+slice_bounds-lengths-end-in-To c = sym (falses_long (can_search c.args.sheet c.args.packed.now c.requires.filled _ _ _
+    c.first_into.ensures _ c.in-To.is))
 
 pub lengths-requires : goal.lengths-requires
 lengths-requires c =

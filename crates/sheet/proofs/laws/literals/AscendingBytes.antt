@@ -161,7 +161,8 @@ from_apart a c n l e [] is h = h
 from_apart a c n l e (b ∷ bs) is h = (apart a c l b e (is b (Memᴰ.head refl)) (omega arith), h.1, h.2)
 
 members_from_lem : (n : ℕ) (a : Literals) → consistent a ≡ true → below n a ≡ true → (l : ℕ) → From n l (members a l)
-members_from_lem n a c b = down (λ (l : ℕ). From n l (members a l)) (λ l h. rw (members_end a l h) tt) (λ l h r. pick l h r (contains a l) refl)
+members_from_lem n a c b = down (λ (l : ℕ). From n l (members a l)) (λ l h. rw (members_end a l h) tt)
+    (λ l h r. pick l h r (contains a l) refl)
   where
     pick : (l : ℕ) → l < 64 → From n (l + 1) (members a (l + 1)) → (t : Bool) → contains a l ≡ t → From n l (members a l)
     pick l h r true e =

@@ -125,10 +125,16 @@ returns c =
             ors = read-ors.clauses_at-ors.result.value;
             oneofs = after-clauses-at2.clauses_at-oneofs.result.value;
           }))
-          (facts_read (section_read _ _ (oneofs_left after-mark-ors.before.before.before.before.before.before) after-clauses-at2.clauses_at-oneofs.ensures
+          (facts_read (section_read _ _ (oneofs_left after-mark-ors.before.before.before.before.before.before)
+              after-clauses-at2.clauses_at-oneofs.ensures
           after-mark-oneofs.in-At-mark_oneofs.is)),
       n_most counted,
     )
 
 pub facts_at_spec : {M : Type 1} → statement M
-facts_at_spec = tie.close (tie.spec (λ c κs. search rules) (λ c. search rules) (λ c. search rules) (λ c κs. search rules) returns-in_default literals_at-known-requires (λ c. search rules) (λ c. search rules) (λ c κs. search rules) returns-in_default-mark_known (λ c. search rules) (λ c. search rules) (λ c. search rules) clauses_at-ors-requires (λ c. search rules) (λ c. search rules) (λ c κs. search rules) (λ c. search rules) returns-in_default-mark_ors (λ c. search rules) (λ c. search rules) (λ c. search rules) clauses_at-oneofs-requires (λ c. search rules) (λ c. search rules) (λ c κs. search rules) (λ c. search rules) returns-in_default-mark_oneofs (λ c. search rules) returns)
+facts_at_spec = tie.close (tie.spec (λ c κs. search rules) (λ c. search rules) (λ c. search rules) (λ c κs. search rules)
+    returns-in_default literals_at-known-requires (λ c. search rules) (λ c. search rules) (λ c κs. search rules)
+    returns-in_default-mark_known (λ c. search rules) (λ c. search rules) (λ c. search rules) clauses_at-ors-requires (λ c. search rules)
+    (λ c. search rules) (λ c κs. search rules) (λ c. search rules) returns-in_default-mark_ors (λ c. search rules) (λ c. search rules)
+    (λ c. search rules) clauses_at-oneofs-requires (λ c. search rules) (λ c. search rules) (λ c κs. search rules) (λ c. search rules)
+    returns-in_default-mark_oneofs (λ c. search rules) returns)

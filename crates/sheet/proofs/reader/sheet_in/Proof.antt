@@ -148,7 +148,8 @@ unfolding facts_in goal
 returns-in_default-mark_goal c =
     let z = c in
     refused_so _ _ _ c.refuse_at-in_default-mark_goal.ensures
-    (sheet_refused _ _ (goal_left (after_mark_moves z.before.before.before.before)) same z.sets_at-mark_goal.ensures c.in_default-mark_goal.is)
+    (sheet_refused _ _ (goal_left (after_mark_moves z.before.before.before.before)) same z.sets_at-mark_goal.ensures
+        c.in_default-mark_goal.is)
 
 plan_at-plan-requires : tie.Need-plan_at-plan-requires
 plan_at-plan-requires c κs =
@@ -191,4 +192,10 @@ returns c =
     )
 
 pub sheet_in_spec : {M : Type 1} → statement M
-sheet_in_spec = tie.close (tie.spec (λ c κs. search rules) (λ c. search rules) (λ c. search rules) (λ c κs. search rules) (λ c. search rules) returns-in_default (λ c. search rules) (λ c. search rules) (λ c. search rules) (λ c κs. search rules) (λ c. search rules) (λ c. search rules) (λ c κs. search rules) (λ c. search rules) returns-in_default-mark_moves (λ c. search rules) (λ c. search rules) (λ c. search rules) (λ c κs. search rules) (λ c. search rules) (λ c. search rules) (λ c κs. search rules) shape_of-packed-in_default-mark_goal returns-in_default-mark_goal plan_at-plan-requires (λ c. search rules) (λ c. search rules) (λ c κs. search rules) shape_of-packed-in_default-mark_plan returns-in_default-mark_plan (λ c κs. search rules) shape_of-packed-then-end-s returns-then-end-s shape_of-packed returns)
+sheet_in_spec = tie.close (tie.spec (λ c κs. search rules) (λ c. search rules) (λ c. search rules) (λ c κs. search rules)
+    (λ c. search rules) returns-in_default (λ c. search rules) (λ c. search rules) (λ c. search rules) (λ c κs. search rules)
+    (λ c. search rules) (λ c. search rules) (λ c κs. search rules) (λ c. search rules) returns-in_default-mark_moves (λ c. search rules)
+    (λ c. search rules) (λ c. search rules) (λ c κs. search rules) (λ c. search rules) (λ c. search rules) (λ c κs. search rules)
+    shape_of-packed-in_default-mark_goal returns-in_default-mark_goal plan_at-plan-requires (λ c. search rules) (λ c. search rules)
+    (λ c κs. search rules) shape_of-packed-in_default-mark_plan returns-in_default-mark_plan (λ c κs. search rules)
+    shape_of-packed-then-end-s returns-then-end-s shape_of-packed returns)

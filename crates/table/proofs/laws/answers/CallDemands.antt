@@ -70,7 +70,8 @@ module _ (s : List ℕ) (x : Statement) (says : Says s x) where
       ⊎ ((start_of (sheet_of s)).answer ≡ Refused 21 0)
   start_none f = go (tables.start_none p hp 128 (λ w l st. f w (l, st)))
     where
-      go : (start_table 128 p ≡ Outcome.refused 20) ⊎ (start_table 128 p ≡ Outcome.refused 21) → ((start_of (sheet_of s)).answer ≡ Refused 20 0)
+      go : (start_table 128 p ≡ Outcome.refused 20) ⊎ (start_table 128 p ≡ Outcome.refused 21) →
+          ((start_of (sheet_of s)).answer ≡ Refused 20 0)
           ⊎ ((start_of (sheet_of s)).answer ≡ Refused 21 0)
       go (inl e) = inl ((tables.start_number s x says 20 0).1 (refl, e))
       go (inr e) = inr ((tables.start_number s x says 21 0).1 (refl, e))
@@ -87,7 +88,8 @@ module _ (s : List ℕ) (x : Statement) (says : Says s x) where
       go (inr (inl e)) = inr (inr ((tables.start_number s x says 21 0).1 (refl, e)))
       go (inr (inr e)) = inl ((tables.start_accepted s x says).1 e)
 
-  pub start_else : (w : ℕ) → Starts x.problem w → ((start_of (sheet_of s)).answer ≡ Accepted) ⊎ ((start_of (sheet_of s)).answer ≡ Refused 21 0)
+  pub start_else : (w : ℕ) → Starts x.problem w → ((start_of (sheet_of s)).answer ≡ Accepted) ⊎
+      ((start_of (sheet_of s)).answer ≡ Refused 21 0)
   start_else w st = go start_numbers
     where
       go : ((start_of (sheet_of s)).answer ≡ Accepted) ⊎
@@ -194,7 +196,8 @@ module _ (s : List ℕ) (x : Statement) (says : Says s x) (t : Table) (m : ℕ) 
         go (inr (inr (inr k))) = k
 
     -- undefined exactly if some world cannot take the move
-    pub step_undefined : (((step_of (sheet_of s) t m).answer ≡ Refused 24 0) ⊎ ((step_of (sheet_of s) t m).answer ≡ Refused 25 0)) ↔ Untaken x t m
+    pub step_undefined : (((step_of (sheet_of s) t m).answer ≡ Refused 24 0) ⊎ ((step_of (sheet_of s) t m).answer ≡ Refused 25 0)) ↔
+        Untaken x t m
     step_undefined = (there, λ k. split (law.1 (k.0, (k.1.1, (k.1.0, k.2)))))
       where
         law : ((o ≡ Outcome.refused 24) ⊎ (o ≡ Outcome.refused 25))
@@ -217,7 +220,8 @@ module _ (s : List ℕ) (x : Statement) (says : Says s x) (t : Table) (m : ℕ) 
       where
         go : (o ≡ Outcome.refused 24) ⊎
             ((o ≡ Outcome.refused 25) ⊎ ((o ≡ Outcome.refused 21) ⊎ ((u : List Literals) × (o ≡ Outcome.table u))))
-            → ((step_of (sheet_of s) t m).answer ≡ Accepted) ⊎ (((step_of (sheet_of s) t m).answer ≡ Refused 21 0) × (put_images x t m ≡ none))
+            → ((step_of (sheet_of s) t m).answer ≡ Accepted) ⊎
+                (((step_of (sheet_of s) t m).answer ≡ Refused 21 0) × (put_images x t m ≡ none))
         go (inl e) = absurd (f (step_undefined.0 (inl ((number 24 (inl refl)).1 (on, fits, e)))))
         go (inr (inl e)) = absurd (f (step_undefined.0 (inr ((number 25 (inr (inl refl))).1 (on, fits, e)))))
         go (inr (inr (inl e))) = inr ((number 21 (inr (inr refl))).1 (on, fits, e), (filled.0 e).2)
@@ -229,7 +233,8 @@ module _ (s : List ℕ) (x : Statement) (says : Says s x) (t : Table) (m : ℕ) 
     λ k. (number 24 (inl refl)).1 (k.0, k.1, (unsure k.0 k.1).1 k.2),
   )
 
-  pub step_25 : ((step_of (sheet_of s) t m).answer ≡ Refused 25 0) ↔ (OnSheet x m × AsDescribed x t × (Unsure x t m → ⊥) × Contradictory x t m)
+  pub step_25 : ((step_of (sheet_of s) t m).answer ≡ Refused 25 0) ↔
+      (OnSheet x m × AsDescribed x t × (Unsure x t m → ⊥) × Contradictory x t m)
   step_25 = (
     λ e. let k = (number 25 (inr (inl refl))).0 e in let c = (unclear k.0 k.1).0 k.2 in (k.0, k.1, c.0, c.1),
     λ k. (number 25 (inr (inl refl))).1 (k.0, k.1, (unclear k.0 k.1).1 (k.2, k.3)),

@@ -24,7 +24,8 @@ use Rattle.table.proofs.laws.slots.DescribedTables.{described_iff}
 
 -- a fault of the sheet comes first
 pub picture_fault : (s : List ℕ) (t : Table) (buffer : List ℕ) (k p : ℕ) → sheet_of s ≡ refused k p
-    → (picture_of (sheet_of s) t (length buffer) ≡ record { answer = Refused k p; clauses = 0 }) × (buffer_of (sheet_of s) t buffer ≡ buffer)
+    → (picture_of (sheet_of s) t (length buffer) ≡ record { answer = Refused k p; clauses = 0 }) ×
+        (buffer_of (sheet_of s) t buffer ≡ buffer)
 unfolding picture_of buffer_of refusal
 picture_fault s t buffer k p e = (rw e, rw e)
 
@@ -207,6 +208,7 @@ picture_back s t buffer k q e = go (sheet_of s) refl
     by x i says (short d c o f) = let r = by_short s x says t buffer d c o f in (ap (λ (y : PictureAnswer). y.clauses) r.0, r.1)
     by x i says (fine d c o f) = absurd (not_both (ap (λ (r : PictureAnswer). r.answer) (sym (by_fine s x says t buffer d c o f).0) ∙ e))
 
-    go : (j : Judgement) → sheet_of s ≡ j → ((picture_of (sheet_of s) t (length buffer)).clauses ≡ 0) × (buffer_of (sheet_of s) t buffer ≡ buffer)
+    go : (j : Judgement) → sheet_of s ≡ j → ((picture_of (sheet_of s) t (length buffer)).clauses ≡ 0) ×
+        (buffer_of (sheet_of s) t buffer ≡ buffer)
     go (refused i p) f = let r = picture_fault s t buffer i p f in (ap (λ (y : PictureAnswer). y.clauses) r.0, r.1)
     go (accepted x) f = by x f f (which s x f t buffer)

@@ -71,7 +71,8 @@ module _ (s : List ℕ) (x : Statement) (says : sheet_of s ≡ accepted x) where
   started = rw says
 
   -- then 20 or 21, by the working order of the start (TH2)
-  pub start_number : (k q : ℕ) → ((start_of (sheet_of s)).answer ≡ Refused k q) ↔ ((q ≡ 0) × (start_table 128 x.problem ≡ Outcome.refused k))
+  pub start_number : (k q : ℕ) → ((start_of (sheet_of s)).answer ≡ Refused k q) ↔
+      ((q ≡ 0) × (start_table 128 x.problem ≡ Outcome.refused k))
   start_number k q = rw started (given_refused (table_of []) (start_table 128 x.problem) k q)
 
   pub start_accepted : ((start_of (sheet_of s)).answer ≡ Accepted) ↔ ((t : List Literals) × (start_table 128 x.problem ≡ Outcome.table t))
@@ -229,7 +230,8 @@ module _ (s : List ℕ) (x : Statement) (says : sheet_of s ≡ accepted x) (t : 
       back h (known y d) = ap (λ (r : TableAnswer). r.answer) (by_known y d) ∙ (given_accepted t _).1 h.2
 
 -- a refused step gives back the given table in every slot
-pub step_back : (s : List ℕ) (t : Table) (m k q : ℕ) → (step_of (sheet_of s) t m).answer ≡ Refused k q → (step_of (sheet_of s) t m).table ≡ t
+pub step_back : (s : List ℕ) (t : Table) (m k q : ℕ) → (step_of (sheet_of s) t m).answer ≡ Refused k q → (step_of (sheet_of s) t m).table
+    ≡ t
 unfolding step_of
 step_back s t m k q = go (sheet_of s)
   where

@@ -60,7 +60,8 @@ pub record Bench : Type 0 where
   pub M12 : step_table 128 (always (when (set 0 0) (set 1 0) ∷ when (set 0 0) (set 0 1) ∷ [])) (set 0 0 ∷ []) ≡ refused 25
 
 says : sheet_of printed ≡ accepted paper
-unfolding sheet_of at_end read byte_at sheet facts plan goal actions clauses action effect clause literals set_of ascending list_of number_fault
+unfolding sheet_of at_end read byte_at sheet facts plan goal actions clauses action effect clause literals set_of ascending list_of
+    number_fault
     literal_fault count_fault times judged ◌>>=◌ problem_of no_literal join literal single sign
 says = refl
 

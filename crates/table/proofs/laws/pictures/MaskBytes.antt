@@ -41,7 +41,8 @@ unfolding mask_bytes
 mask_length m r = omega arith
 
 -- a mask after the bytes p
-masked : (p q : List ℕ) (at m : ℕ) → length p ≡ at → take at (p ++ q) ++ mask_bytes m (drop (at + 4) (p ++ q)) ≡ p ++ mask_bytes m (drop 4 q)
+masked : (p q : List ℕ) (at m : ℕ) → length p ≡ at → take at (p ++ q) ++ mask_bytes m (drop (at + 4) (p ++ q)) ≡ p ++ mask_bytes m
+    (drop 4 q)
 masked p q at m e =
     ap₂ (λ (x y : List ℕ). x ++ mask_bytes m y) (take_at p q at e) (ap (λ (k : ℕ). drop (k + 4) (p ++ q)) (sym e) ∙ drop-append-add p q 4)
 

@@ -23,7 +23,8 @@ use Rattle.sheet.proofs.laws.base.ListFacts.{all_at, all_places, any_none}
 use Rattle.table.proofs.laws.arrays.HeldLists.{length_entries_of, get_d_entries_of, take_entries_of}
 
 -- one member more at the end
-last_more : (f : Literals → Bool) (xs : List Literals) (x : Literals) → last_of f (xs ++ x ∷ []) ≡ cond (f x) (At (length xs)) (last_of f xs)
+last_more : (f : Literals → Bool) (xs : List Literals) (x : Literals) → last_of f (xs ++ x ∷ []) ≡ cond (f x) (At (length xs))
+    (last_of f xs)
 unfolding last_of shifted
 last_more f [] x = refl
 last_more f (y ∷ ys) x = ap (shifted (f y)) (last_more f ys x) ∙ at (f x)

@@ -122,7 +122,8 @@ module _ (cap n : ℕ) (ts fs : List ℕ) (l : Literals) (held : Held cap n ts f
         let d : n ≡ length (entries_of n ts fs) = sym (length_entries_of n ts fs) in (
           ap₂ (λ (x y : ℕ). Added (x - y) (y + 1)) d c ∙ sym (fate_added cap (entries_of n ts fs) l s q),
           at_length _ _ _ _ _ _ (holds_push removed lt l)
-              (after_is cap (entries_of n ts fs) l (left (entries_of n ts fs) l ++ l ∷ []) _ (put_added cap (entries_of n ts fs) l s q) refl),
+              (after_is cap (entries_of n ts fs) l (left (entries_of n ts fs) l ++ l ∷ []) _ (put_added cap (entries_of n ts fs) l s q)
+                  refl),
         )
 
     -- no more are left than there were
@@ -178,7 +179,8 @@ module _ (cap n : ℕ) (ts fs : List ℕ) (c : Literals) where
           (grew_of cap _ (left before c ++ c ∷ []) _ (length (left before c) + 1) ts' fs' h e
           (ap length e ∙ length-append (left before c) (c ∷ [])))
 
-pub offered : (n : ℕ) (ts fs : List ℕ) (c : Literals) (ts' fs' : List ℕ) (f g : Fate) → f ≡ fate_of (length ts) (entries_of n ts fs) c → f ≡ g
+pub offered : (n : ℕ) (ts fs : List ℕ) (c : Literals) (ts' fs' : List ℕ) (f g : Fate) → f ≡ fate_of (length ts) (entries_of n ts fs) c → f
+    ≡ g
     → Holds (length ts) (list_after (length ts) (entries_of n ts fs) c) (length (list_after (length ts) (entries_of n ts fs) c)) ts' fs'
     → Puts (c ∷ []) n ts fs (grown_after n g) ts' fs'
 offered n ts fs c ts' fs' f g p q h = record {

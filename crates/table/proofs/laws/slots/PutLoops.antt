@@ -18,7 +18,8 @@ pub put_all_append : (cap : ℕ) (cs ds s : List Literals) → put_all cap (cs +
 put_all_append cap [] ds s = refl
 put_all_append cap (c ∷ cs) ds s = at (put cap s c) (λ r. put_all_append cap cs ds r)
   where
-    at : (o : Option (List Literals)) → ((r : List Literals) → put_all cap (cs ++ ds) r ≡ and_then (put_all cap cs r) (λ q. put_all cap ds q))
+    at : (o : Option (List Literals)) → ((r : List Literals) → put_all cap (cs ++ ds) r ≡ and_then (put_all cap cs r)
+        (λ q. put_all cap ds q))
         → and_then o (λ r. put_all cap (cs ++ ds) r) ≡ and_then (and_then o (λ r. put_all cap cs r)) (λ q. put_all cap ds q)
     at none rec = refl
     at (some r) rec = rec r

@@ -32,7 +32,8 @@ module _ (xs : List ℕ) {i n : ℕ} (e : n ≡ get_or xs 0 0) where
   alts_end h = sets_end (get_or xs 0 0) (drop 1 xs) i (omega arith)
 
 -- the one of number i
-pub alt_at : (xs : List ℕ) (i : ℕ) (a : Literals) → i < get_or xs 0 0 → a ≡ set_from (drop 1 xs) (2 * i) → get_or (sets_in xs) i no_literal ≡ a
+pub alt_at : (xs : List ℕ) (i : ℕ) (a : Literals) → i < get_or xs 0 0 → a ≡ set_from (drop 1 xs) (2 * i) → get_or (sets_in xs) i
+    no_literal ≡ a
 alt_at xs i a h q =
     let e : i ≡ i + 0 = omega arith in
     ap (λ (k : ℕ). get_or (sets_in xs) k no_literal) e

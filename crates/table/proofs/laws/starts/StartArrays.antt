@@ -81,7 +81,8 @@ pub grow_small : (c : Clause) (es : List Literals) → Small (grow 128 c es)
 unfolding grow
 grow_small c es u e = at (put_all 128 (keep consistent (collect (candidates c) es)) []) refl e
   where
-    at : (o : Option (List Literals)) → put_all 128 (keep consistent (collect (candidates c) es)) [] ≡ o → fresh o ≡ table u → length u ≤ 128
+    at : (o : Option (List Literals)) → put_all 128 (keep consistent (collect (candidates c) es)) [] ≡ o → fresh o ≡ table u → length u ≤
+        128
     at none q f = absurd (let z : ◌≡◌ {A = ℕ} 0 1 = cc in omega arith)
     at (some []) q f = absurd (let z : ◌≡◌ {A = ℕ} 0 1 = cc in omega arith)
     at (some (d ∷ t)) q f = let s : d ∷ t ≡ u = cc in put_all_size 128 (keep consistent (collect (candidates c) es)) [] u
@@ -137,7 +138,8 @@ sections_end {o} {cs} {k} {ts} {fs} g e =
 
 -- ---- the first table
 
-grow_all_append : (cs ds : List Clause) (t : List Literals) → grow_all 128 (cs ++ ds) t ≡ on_table (grow_all 128 cs t) (λ u. grow_all 128 ds u)
+grow_all_append : (cs ds : List Clause) (t : List Literals) → grow_all 128 (cs ++ ds) t ≡ on_table (grow_all 128 cs t)
+    (λ u. grow_all 128 ds u)
 grow_all_append [] ds t = refl
 grow_all_append (c ∷ cs) ds t = at (grow 128 c t) (λ u. grow_all_append cs ds u)
   where

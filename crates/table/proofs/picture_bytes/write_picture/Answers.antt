@@ -10,7 +10,8 @@ use Rattle.table.proofs.picture_bytes.write_picture.Goals as goal
 
 pub loop-i-init : goal.loop-i-init
 loop-i-init c =
-    (simp length-set c.requires.picture_room.long, omega arith, wrote_start _ _ (simp (length-set, length_entries_of) c.requires.picture_room.long))
+    (simp length-set c.requires.picture_room.long, omega arith, wrote_start _ _
+        (simp (length-set, length_entries_of) c.requires.picture_room.long))
 
 pub write_mask-requires-in-loop-i : goal.write_mask-requires-in-loop-i
 write_mask-requires-in-loop-i c = omega (arith, c.write_mask.auto.buffer)

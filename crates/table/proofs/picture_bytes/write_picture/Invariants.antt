@@ -9,7 +9,8 @@ use Rattle.table.proofs.laws.pictures.MaskBytes.{Wrote, wrote_start, wrote_step,
 use Rattle.table.proofs.picture_bytes.write_picture.Given as goal
 
 abbrev pub invariant-loop-i : goal.invariant-loop-i
-invariant-loop-i l = (2 + 8 * l.count ≤ length l.buffer) × (l.i ≤ l.count) × Wrote (entries_of l.count l.trues l.falses) l.initial.buffer l.i l.buffer
+invariant-loop-i l = (2 + 8 * l.count ≤ length l.buffer) × (l.i ≤ l.count) × Wrote (entries_of l.count l.trues l.falses) l.initial.buffer
+    l.i l.buffer
 
 
 abbrev pub decreases-loop-i : goal.decreases-loop-i

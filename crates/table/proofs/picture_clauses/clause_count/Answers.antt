@@ -4,7 +4,8 @@ use borrow.Author.Rules.{rules}
 use Rattle.table.proofs.picture_clauses.clause_count.Goals as goal
 
 pub returns-then-clauses : goal.returns-then-clauses
-returns-then-clauses c = size_full _ _ (c.clauses_of-clauses.ensures.value, c.clauses_of-clauses.ensures.count_le_most_clauses) c.if-clauses.true
+returns-then-clauses c = size_full _ _ (c.clauses_of-clauses.ensures.value, c.clauses_of-clauses.ensures.count_le_most_clauses)
+    c.if-clauses.true
 
 pub returns : goal.returns
 returns c = size_some _ _ (c.clauses_of-clauses.ensures.value, c.clauses_of-clauses.ensures.count_le_most_clauses) c.if-clauses.false

@@ -47,4 +47,5 @@ loop-at-preserved c =
 
 pub returns : goal.returns
 returns c =
-    let both = folds_end _ _ _ _ _ _ _ _ c.loop-at.invariant c.loop-at-test.false in record { value = both.0; count_le_most_clauses = both.1 }
+    let both = folds_end _ _ _ _ _ _ _ _ c.loop-at.invariant c.loop-at-test.false in record
+        { value = both.0; count_le_most_clauses = both.1 }

@@ -11,7 +11,8 @@ use borrow.Author.Rules.{rules}
 use Rattle.table.proofs.picture_clauses.clauses_of.Given as goal
 
 abbrev pub invariant-loop-at : goal.invariant-loop-at
-invariant-loop-at l = Folds (primes 256 (entries_of l.count l.trues l.falses)) (entries_of l.count l.trues l.falses) l.at l.filled l.clause_trues l.clause_falses
+invariant-loop-at l = Folds (primes 256 (entries_of l.count l.trues l.falses)) (entries_of l.count l.trues l.falses) l.at l.filled
+    l.clause_trues l.clause_falses
 
 
 abbrev pub decreases-loop-at : goal.decreases-loop-at

@@ -15,7 +15,8 @@ use Rattle.table.proofs.picture_clauses.put_joined.Given as goal
 
 abbrev pub invariant-loop-i : goal.invariant-loop-i
 invariant-loop-i l = (l.i ≤ l.others)
-    × Going (keep consistent (map (join l.clause) (entries_of l.others l.other_trues l.other_falses))) l.count l.initial.to_trues l.initial.to_falses
+    × Going (keep consistent (map (join l.clause) (entries_of l.others l.other_trues l.other_falses))) l.count l.initial.to_trues
+        l.initial.to_falses
     (keep consistent (map (join l.clause) (drop l.i (entries_of l.others l.other_trues l.other_falses)))) l.filled l.to_trues l.to_falses
 
 

@@ -41,8 +41,10 @@ loop-i-preserved c =
     let g = c.loop-i.invariant in
     let w = c.within.ensures in
     elim c.if-not-within.branch [
-      then-not-within v ↦ moved_is _ _ _ _ _ _ _ _ _ _ _ v.trues-is v.falses-is v.filled-is (moved_kept _ _ _ _ h _ _ _ _ g (omega arith) (ap not (sym w ∙ v.if-not-within.true)))
-      | else-not-within v ↦ moved_is _ _ _ _ _ _ _ _ _ _ _ v.trues-is v.falses-is v.filled-is (moved_gone _ _ _ _ h _ _ _ _ g (omega arith) (ap not (sym w ∙ v.if-not-within.false)))
+      then-not-within v ↦ moved_is _ _ _ _ _ _ _ _ _ _ _ v.trues-is v.falses-is v.filled-is
+          (moved_kept _ _ _ _ h _ _ _ _ g (omega arith) (ap not (sym w ∙ v.if-not-within.true)))
+      | else-not-within v ↦ moved_is _ _ _ _ _ _ _ _ _ _ _ v.trues-is v.falses-is v.filled-is
+          (moved_gone _ _ _ _ h _ _ _ _ g (omega arith) (ap not (sym w ∙ v.if-not-within.false)))
     ]
 
 pub shape_of-trues : goal.shape_of-trues

@@ -48,7 +48,7 @@ choose-requires t c =
       omega arith,
       record {
         room = c.requires.room;
-        steady = ( chosen_steady _ _ _ _ _ _ c.requires.steady c.loop-l.invariant.2 c.loop-l.invariant.1
+        steady = (chosen_steady _ _ _ _ _ _ c.requires.steady c.loop-l.invariant.2 c.loop-l.invariant.1
     c.loop-l-test.true c.literal-one.ensures c.flip.ensures c.join-chosen.ensures);
         held = held_own c.loop-l.invariant.0.held;
       },
@@ -56,8 +56,8 @@ choose-requires t c =
 
 pub returns-in_default : goal.returns-in_default
 returns-in_default t c =
-    going_full _ c.loop-l.invariant.0 ((choices_step _ _ _ _ _ _ _ _ c.loop-l.invariant.1 c.loop-l-test.true
-    c.literal-one.ensures c.flip.ensures c.join-chosen.ensures refl))
+    going_full _ c.loop-l.invariant.0 (choices_step _ _ _ _ _ _ _ _ c.loop-l.invariant.1 c.loop-l-test.true
+    c.literal-one.ensures c.flip.ensures c.join-chosen.ensures refl)
     c.choose.ensures c.in_default.is
 
 pub offer_by_newest-requires-else-after-size : goal.offer_by_newest-requires-else-after-size
@@ -65,11 +65,13 @@ offer_by_newest-requires-else-after-size t c = held_own c.loop-l.invariant.0.hel
 
 pub returns-in_default-offer_by_newest : goal.returns-in_default-offer_by_newest
 returns-in_default-offer_by_newest t c =
-    going_full _ c.loop-l.invariant.0 ((choices_step _ _ _ _ _ _ _ _ c.loop-l.invariant.1 c.loop-l-test.true
-    c.literal-one.ensures c.flip.ensures c.join-chosen.ensures refl))
-    (puts_is ((let a = c.args in
-    chosen_all a.size a.laid.now (a.at + 1) _ c.if-after-size.false ((chosen_steady _ _ _ _ _ _ c.requires.steady c.loop-l.invariant.2 c.loop-l.invariant.1
-    c.loop-l-test.true c.literal-one.ensures c.flip.ensures c.join-chosen.ensures)))) c.offer_by_newest-else-after-size.ensures) c.in_default-offer_by_newest.is
+    going_full _ c.loop-l.invariant.0 (choices_step _ _ _ _ _ _ _ _ c.loop-l.invariant.1 c.loop-l-test.true
+    c.literal-one.ensures c.flip.ensures c.join-chosen.ensures refl)
+    (puts_is (let a = c.args in
+    chosen_all a.size a.laid.now (a.at + 1) _ c.if-after-size.false
+        (chosen_steady _ _ _ _ _ _ c.requires.steady c.loop-l.invariant.2 c.loop-l.invariant.1
+    c.loop-l-test.true c.literal-one.ensures c.flip.ensures c.join-chosen.ensures)) c.offer_by_newest-else-after-size.ensures)
+        c.in_default-offer_by_newest.is
 
 pub loop-l-smaller : goal.loop-l-smaller
 loop-l-smaller t c =
@@ -79,12 +81,14 @@ loop-l-smaller t c =
 pub loop-l-preserved : goal.loop-l-preserved
 loop-l-preserved t c =
     let inv = c.loop-l.invariant in (
-      going_on _ inv.0 ((choices_step _ _ _ _ _ _ _ _ c.loop-l.invariant.1 c.loop-l-test.true
-    c.literal-one.ensures c.flip.ensures c.join-chosen.ensures c.minus-rest-in-loop-l.ensures))
+      going_on _ inv.0 (choices_step _ _ _ _ _ _ _ _ c.loop-l.invariant.1 c.loop-l-test.true
+    c.literal-one.ensures c.flip.ensures c.join-chosen.ensures c.minus-rest-in-loop-l.ensures)
           (elim c.if-after-size.branch [
             then-after-size+in-To w ↦ puts_later w.to_trues-is w.to_falses-is (ap grown.To w.filled-is ∙ sym w.in-To.is) w.choose.ensures
-            | else-after-size+in-To-offer_by_newest w ↦ puts_later w.to_trues-is w.to_falses-is (ap grown.To w.filled-is ∙ sym w.in-To-offer_by_newest.is)
-                (puts_is (let a = c.args in chosen_all a.size a.laid.now (a.at + 1) _ w.if-after-size.false (chosen_steady _ _ _ _ _ _ c.requires.steady inv.2 inv.1
+            | else-after-size+in-To-offer_by_newest w ↦ puts_later w.to_trues-is w.to_falses-is
+                (ap grown.To w.filled-is ∙ sym w.in-To-offer_by_newest.is)
+                (puts_is (let a = c.args in chosen_all a.size a.laid.now (a.at + 1) _ w.if-after-size.false
+                    (chosen_steady _ _ _ _ _ _ c.requires.steady inv.2 inv.1
                 c.loop-l-test.true c.literal-one.ensures c.flip.ensures c.join-chosen.ensures)) w.offer_by_newest-else-after-size.ensures)
           ]) refl,
       c.next-l-in-loop-l.ensures,

@@ -24,7 +24,8 @@ abbrev pub decreases-choose : goal.decreases-choose
 decreases-choose l = l.size - l.at
 
 abbrev pub invariant-loop-l : goal.invariant-loop-l
-invariant-loop-l l = Going (keep L.consistent (falsify (drop l.at (sets_at l.size l.laid)) l.piece)) l.count l.initial.to_trues l.initial.to_falses
+invariant-loop-l l = Going (keep L.consistent (falsify (drop l.at (sets_at l.size l.laid)) l.piece)) l.count l.initial.to_trues
+    l.initial.to_falses
     (keep L.consistent (choices_of (drop l.after (sets_at l.size l.laid)) l.rest l.piece)) l.filled l.to_trues l.to_falses
     × (l.l ≡ K.next l.rest 0)
     × Free l.rest l.piece

@@ -15,7 +15,8 @@ use Rattle.table.proofs.starts.grow_all.Given as goal
 
 abbrev pub invariant-loop-i : goal.invariant-loop-i
 invariant-loop-i l = (l.i ≤ l.size)
-    × Sections (grow_all 128 (map (clause_of l.exclusive) (clauses_at l.size l.clauses)) (entries_of l.count l.initial.trues l.initial.falses))
+    × Sections (grow_all 128 (map (clause_of l.exclusive) (clauses_at l.size l.clauses))
+        (entries_of l.count l.initial.trues l.initial.falses))
     (map (clause_of l.exclusive) (drop l.i (clauses_at l.size l.clauses))) l.filled l.trues l.falses
 
 

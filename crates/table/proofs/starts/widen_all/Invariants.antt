@@ -17,9 +17,11 @@ use Rattle.table.proofs.starts.widen_all.Given as goal
 
 abbrev pub invariant-loop-i : goal.invariant-loop-i
 invariant-loop-i l = (l.i ≤ l.count)
-    × Going (keep L.consistent (collect (candidates (clause_of l.exclusive (sets_in l.alts))) (entries_of l.count l.trues l.falses))) 0 l.initial.to_trues
+    × Going (keep L.consistent (collect (candidates (clause_of l.exclusive (sets_in l.alts))) (entries_of l.count l.trues l.falses))) 0
+        l.initial.to_trues
     l.initial.to_falses
-    (keep L.consistent (collect (candidates (clause_of l.exclusive (sets_in l.alts))) (drop l.i (entries_of l.count l.trues l.falses)))) l.filled l.to_trues
+    (keep L.consistent (collect (candidates (clause_of l.exclusive (sets_in l.alts))) (drop l.i (entries_of l.count l.trues l.falses))))
+        l.filled l.to_trues
     l.to_falses
 
 

@@ -23,11 +23,11 @@ use Rattle.table.proofs.steps.+split.Goals.{then-s-size+in-To, else-s-size+in-To
 pub loop-t-init : goal.loop-t-init
 loop-t-init t c =
     let a = c.args in
-    let by = ( subst (λ (e : Effect). Splits e.condition c.args.piece)
+    let by = (subst (λ (e : Effect). Splits e.condition c.args.piece)
     (sym c.effect_at-e.ensures) c.requires.splits) in (
       turn_start _,
-      going_start (parts_start (effects_at a.size a.effects.now) _ _ _ a.piece ((let a = c.args in
-    effects_step a.size a.effects.now a.undecided.at _ c.requires.below c.effect_at-e.ensures)) _
+      going_start (parts_start (effects_at a.size a.effects.now) _ _ _ a.piece (let a = c.args in
+    effects_step a.size a.effects.now a.undecided.at _ c.requires.below c.effect_at-e.ensures) _
           (rw (by.lacking, by.apart)) c.minus-missing.ensures) c.requires.held,
     )
 
@@ -35,10 +35,11 @@ pub skip_decided-s-requires : goal.skip_decided-s-requires
 skip_decided-s-requires t c =
     record {
       size_in_bounds = c.requires.effects_room;
-      carried = past_part _ _ _ _ ((let a = c.args in
-    effects_step a.size a.effects.now a.undecided.at _ c.requires.below c.effect_at-e.ensures)) _ _ c.requires.carried _ c.minus-missing.ensures
-          ((subst (λ (e : Effect). Splits e.condition c.args.piece)
-    (sym c.effect_at-e.ensures) c.requires.splits)).apart c.loop-t.t c.loop-t-test.true c.loop-t.invariant.0 _ _
+      carried = past_part _ _ _ _ (let a = c.args in
+    effects_step a.size a.effects.now a.undecided.at _ c.requires.below c.effect_at-e.ensures) _ _ c.requires.carried _
+        c.minus-missing.ensures
+          (subst (λ (e : Effect). Splits e.condition c.args.piece)
+    (sym c.effect_at-e.ensures) c.requires.splits).apart c.loop-t.t c.loop-t-test.true c.loop-t.invariant.0 _ _
           c.part-p.ensures c.carried.ensures;
     }
 
@@ -58,8 +59,8 @@ split-requires t c =
 
 pub returns-in_default : goal.returns-in_default
 returns-in_default t c =
-    going_full _ c.loop-t.invariant.1 ((parts_turn _ _ _ _ _ c.loop-t.t _ c.loop-t-test.true
-    c.loop-t.invariant.0 refl _ c.part-p.ensures))
+    going_full _ c.loop-t.invariant.1 (parts_turn _ _ _ _ _ c.loop-t.t _ c.loop-t-test.true
+    c.loop-t.invariant.0 refl _ c.part-p.ensures)
     (settles_puts _ _ _ _ c.skip_decided-s.ensures.0 _ _ _ _ _ _ c.split.ensures)
     c.in_default.is
 
@@ -69,11 +70,11 @@ offer_by_newest-requires t c = held_own
 
 pub returns-in_default-offer_by_newest : goal.returns-in_default-offer_by_newest
 returns-in_default-offer_by_newest t c =
-    going_full _ c.loop-t.invariant.1 ((parts_turn _ _ _ _ _ c.loop-t.t _ c.loop-t-test.true
-    c.loop-t.invariant.0 refl _ c.part-p.ensures))
+    going_full _ c.loop-t.invariant.1 (parts_turn _ _ _ _ _ c.loop-t.t _ c.loop-t-test.true
+    c.loop-t.invariant.0 refl _ c.part-p.ensures)
     (settles_leaf _ _ _ _ c.skip_decided-s.ensures.0
-    ((let a = c.args in
-    effects_end a.size a.effects.now c.skip_decided-s.result.at c.if-s-size.false)) _
+    (let a = c.args in
+    effects_end a.size a.effects.now c.skip_decided-s.result.at c.if-s-size.false) _
     c.replace.ensures _ _ _ _ _ _ c.offer_by_newest.ensures) c.in_default-offer_by_newest.is
 
 pub overflow_add-t : goal.overflow_add-t
@@ -89,13 +90,15 @@ pub loop-t-preserved : goal.loop-t-preserved
 loop-t-preserved t c =
     let skipped = c.skip_decided-s.ensures.0 in (
       turn_on _ c.loop-t.t _ c.next-t.ensures,
-      going_on _ c.loop-t.invariant.1 ((parts_turn _ _ _ _ _ c.loop-t.t _ c.loop-t-test.true
-    c.loop-t.invariant.0 c.next-t.ensures _ c.part-p.ensures))
+      going_on _ c.loop-t.invariant.1 (parts_turn _ _ _ _ _ c.loop-t.t _ c.loop-t-test.true
+    c.loop-t.invariant.0 c.next-t.ensures _ c.part-p.ensures)
           (elim c.if-s-size.branch [
             then-s-size+in-To w ↦ puts_later w.to_trues-is w.to_falses-is (ap grown.To w.filled-is ∙ sym w.in-To.is)
                 (settles_puts _ _ _ _ skipped _ _ _ _ _ _ w.split.ensures)
-            | else-s-size+in-To-offer_by_newest w ↦ puts_later w.to_trues-is w.to_falses-is (ap grown.To w.filled-is ∙ sym w.in-To-offer_by_newest.is)
-                (settles_leaf _ _ _ _ skipped (let a = c.args in effects_end a.size a.effects.now c.skip_decided-s.result.at w.if-s-size.false) _
+            | else-s-size+in-To-offer_by_newest w ↦ puts_later w.to_trues-is w.to_falses-is
+                (ap grown.To w.filled-is ∙ sym w.in-To-offer_by_newest.is)
+                (settles_leaf _ _ _ _ skipped (let a = c.args in effects_end a.size a.effects.now c.skip_decided-s.result.at
+                    w.if-s-size.false) _
                 w.replace.ensures _ _ _ _ _ _ w.offer_by_newest.ensures)
           ]) refl,
     )

@@ -24,8 +24,10 @@ decreases-split l = l.size - l.undecided.at
 
 abbrev pub invariant-loop-t : goal.invariant-loop-t
 invariant-loop-t l = Turn l.missing l.t
-    × Going (map (image (effects_at l.size l.effects)) (pieces (drop l.at (effects_at l.size l.effects)) l.piece)) l.count l.initial.to_trues l.initial.to_falses
-    (parts_from (effects_at l.size l.effects) (drop l.next (effects_at l.size l.effects)) l.condition l.piece l.missing l.t) l.filled l.to_trues l.to_falses
+    × Going (map (image (effects_at l.size l.effects)) (pieces (drop l.at (effects_at l.size l.effects)) l.piece)) l.count
+        l.initial.to_trues l.initial.to_falses
+    (parts_from (effects_at l.size l.effects) (drop l.next (effects_at l.size l.effects)) l.condition l.piece l.missing l.t) l.filled
+        l.to_trues l.to_falses
 
 
 abbrev pub decreases-loop-t : goal.decreases-loop-t

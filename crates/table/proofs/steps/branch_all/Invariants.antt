@@ -20,9 +20,11 @@ use Rattle.table.proofs.steps.branch_all.Given as goal
 
 abbrev pub invariant-loop-i : goal.invariant-loop-i
 invariant-loop-i l = (l.i ≤ l.count)
-    × Going (map (image (effects_at l.size l.effects)) (collect (pieces (effects_at l.size l.effects)) (entries_of l.count l.trues l.falses))) 0 l.initial.to_trues
+    × Going (map (image (effects_at l.size l.effects)) (collect (pieces (effects_at l.size l.effects))
+        (entries_of l.count l.trues l.falses))) 0 l.initial.to_trues
     l.initial.to_falses
-    (map (image (effects_at l.size l.effects)) (collect (pieces (effects_at l.size l.effects)) (drop l.i (entries_of l.count l.trues l.falses)))) l.filled
+    (map (image (effects_at l.size l.effects)) (collect (pieces (effects_at l.size l.effects))
+        (drop l.i (entries_of l.count l.trues l.falses)))) l.filled
     l.to_trues l.to_falses
 
 

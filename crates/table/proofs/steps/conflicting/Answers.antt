@@ -16,14 +16,14 @@ pub loop-i-init : goal.loop-i-init
 loop-i-init c = refl
 
 pub returns-then-opposes : goal.returns-then-opposes
-returns-then-opposes c = sym (( let a = c.args in
+returns-then-opposes c = sym (let a = c.args in
     c.loop-i.invariant
     ∙ pairs_turn _ (entries_of a.count a.trues.now a.falses.now) _ _ _ _
     (effects_step a.size a.effects.now c.loop-i.i _ c.loop-i-test.true c.effect_at-e.ensures)
-    c.opposes.ensures c.if-opposes.true))
+    c.opposes.ensures c.if-opposes.true)
 
 pub loop-i-preserved : goal.loop-i-preserved
-loop-i-preserved c = ( let a = c.args in
+loop-i-preserved c = (let a = c.args in
     c.loop-i.invariant
     ∙ pairs_turn _ (entries_of a.count a.trues.now a.falses.now) _ _ _ _
     (effects_step a.size a.effects.now c.loop-i.i _ c.loop-i-test.true c.effect_at-e.ensures)

@@ -21,13 +21,14 @@ loop-j-init c = refl
 
 pub returns-then-opposed : goal.returns-then-opposed
 returns-then-opposed c =
-    any_stop _ _ _ _ _ (( let a = c.args in
-    effects_step a.size a.effects.now c.loop-j.j _ c.loop-j-test.true c.effect_at.ensures)) c.opposed.ensures c.if-opposed.true ∙ sym c.loop-j.invariant
+    any_stop _ _ _ _ _ (let a = c.args in
+    effects_step a.size a.effects.now c.loop-j.j _ c.loop-j-test.true c.effect_at.ensures) c.opposed.ensures c.if-opposed.true ∙ sym
+        c.loop-j.invariant
 
 pub loop-j-preserved : goal.loop-j-preserved
 loop-j-preserved c =
-    c.loop-j.invariant ∙ any_on _ _ _ _ _ (( let a = c.args in
-    effects_step a.size a.effects.now c.loop-j.j _ c.loop-j-test.true c.effect_at.ensures)) c.opposed.ensures c.if-opposed.false
+    c.loop-j.invariant ∙ any_on _ _ _ _ _ (let a = c.args in
+    effects_step a.size a.effects.now c.loop-j.j _ c.loop-j-test.true c.effect_at.ensures) c.opposed.ensures c.if-opposed.false
 
 pub returns : goal.returns
 returns c =

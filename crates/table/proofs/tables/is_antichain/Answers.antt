@@ -27,7 +27,7 @@ loop-j-init c =
     )
 
 pub loop-j-preserved : goal.loop-j-preserved
-loop-j-preserved c = (omega arith, c.loop-j.invariant.1, ( let a = c.args in
+loop-j-preserved c = (omega arith, c.loop-j.invariant.1, (let a = c.args in
     let es = entries_of a.count a.trues.now a.falses.now in
     let e = c.entry_at-a.result in
     c.loop-j.invariant.2
@@ -58,7 +58,7 @@ returns-after-pairs c =
     ∙ ap antichain (entries_done a.count a.trues.now a.falses.now c.pairs.i c.pairs-test.false))
 
 pub returns-then-nested : goal.returns-then-nested
-returns-then-nested c = sym (( let a = c.args in
+returns-then-nested c = sym (let a = c.args in
     let es = entries_of a.count a.trues.now a.falses.now in
     let e = c.entry_at-a.result in
     c.loop-j.invariant.2
@@ -66,4 +66,4 @@ returns-then-nested c = sym (( let a = c.args in
     (apart_turn _ _ _
     (entries_next a.count a.trues.now a.falses.now c.loop-j.j c.entry_at.result
     c.loop-j-test.true c.entry_at.ensures) e
-    ∙ ap (λ (b : Bool). not b && apartOf e (drop (c.loop-j.j + 1) es)) (sym c.nested.ensures ∙ c.if-nested.true))))
+    ∙ ap (λ (b : Bool). not b && apartOf e (drop (c.loop-j.j + 1) es)) (sym c.nested.ensures ∙ c.if-nested.true)))

@@ -22,7 +22,8 @@ decreases-loop-j l = l.count - l.j
 
 
 abbrev pub invariant-pairs : goal.invariant-pairs
-invariant-pairs l = (l.i ≤ l.count) × (l.apart ≡ true) × (antichain (entries_of l.count l.trues l.falses) ≡ antichain (drop l.i (entries_of l.count l.trues l.falses)))
+invariant-pairs l = (l.i ≤ l.count) × (l.apart ≡ true) × (antichain (entries_of l.count l.trues l.falses) ≡ antichain
+    (drop l.i (entries_of l.count l.trues l.falses)))
 
 
 abbrev pub decreases-pairs : goal.decreases-pairs
