@@ -24,7 +24,7 @@ pub const REPORT_LENGTH: usize = 8192;
 const OWN_MEMORY: usize = 2064;
 
 // What a run says of a place: the place, the entries of its table and the clauses of its picture.
-#[derive(Drop)]
+#[derive(Clone, Copy, Drop)]
 pub struct Row {
     pub place: usize,
     pub entries: usize,
@@ -32,7 +32,7 @@ pub struct Row {
 }
 
 // How a run ends; a place counts the moves, a number is document 01's.
-#[derive(Drop)]
+#[derive(Clone, Copy, Drop)]
 pub enum Verdict {
     Reached,
     Short,
@@ -49,7 +49,7 @@ pub struct RunAnswer {
 }
 
 // How a search ends.
-#[derive(Drop)]
+#[derive(Clone, Copy, Drop)]
 pub enum Kind {
     Reached,
     Full(usize),
@@ -58,7 +58,7 @@ pub enum Kind {
 }
 
 // The answer, and the plan: its moves in the first bytes, zeros after its length.
-#[derive(Drop)]
+#[derive(Clone, Copy, Drop)]
 pub struct SearchAnswer {
     pub kind: Kind,
     pub plan: [u8; 8],
@@ -66,7 +66,7 @@ pub struct SearchAnswer {
 }
 
 // The rows of a run as plain numbers: for each of the first count places, its entries and its clauses; zeros after them.
-#[derive(Drop)]
+#[derive(Clone, Copy, Drop)]
 pub struct Counts {
     pub count: usize,
     pub entries: [usize; PLACES],
@@ -74,7 +74,7 @@ pub struct Counts {
 }
 
 // What a run over lent arrays leaves beside them: its verdict, how many entries the last table has, and how many rows there are.
-#[derive(Drop)]
+#[derive(Clone, Copy, Drop)]
 pub struct RunRecord {
     pub verdict: Verdict,
     pub count: usize,

@@ -22,7 +22,7 @@ use table::starts::{Started, first_into};
 use table::steps::{Stepped, step_at};
 
 // Where the search stands: how many moves there are to choose from, how many are taken, how many are left.
-#[derive(Drop)]
+#[derive(Clone, Copy, Drop)]
 pub struct Depth {
     pub moves: usize,
     pub at: usize,
