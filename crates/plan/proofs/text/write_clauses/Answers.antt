@@ -19,6 +19,6 @@ unfolding clauses_text
 returns c =
     let w = c.write_number in
     record {
-      wrote = rw (ne_eqb _ 257 c.if-clauses-eq-FULL_PICTURE.false) w.ensures.0;
-      upper_bound = w.ensures.1;
+      wrote = rw (ne_eqb _ 257 c.if-clauses-eq-FULL_PICTURE.false) w.ensures.wrote;
+      upper_bound = w.ensures.upper_bound;
     }

@@ -23,7 +23,7 @@ loop-i-preserved c =
       omega arith,
       omega arith,
       w.auto.out ∙ c.loop-i.invariant.2,
-      wrote_row rows c.loop-i.i c.row_at.ensures c.loop-i.invariant.3 (omega arith) w.ensures.wrote,
+      wrote_row rows c.loop-i.i c.row_at-row.ensures c.loop-i.invariant.3 (omega arith) w.ensures.wrote,
     )
 
 pub shape_of-out : goal.shape_of-out

@@ -13,5 +13,5 @@ pub returns : goal.returns
 returns c =
     let p = c.requires in
     whole_text _ _ (sym c.is_refused.ensures ∙ c.if-is_refused.false)
-    (wrote_then c.write_bytes-a.ensures (omega (arith, p.1)) c.write_row_lines-b.ensures.wrote)
-    (omega (arith, p.0, p.1)) c.write_verdict-2.ensures
+    (wrote_then c.write_bytes-a.ensures (omega (arith, p.report_length_in_bounds)) c.write_row_lines-b.ensures.wrote)
+    (omega (arith, p.rows_le_most_places, p.report_length_in_bounds)) c.write_verdict-2.ensures
