@@ -1,4 +1,5 @@
--- The count of bytes lies within `out`; the measure is what is left of the line.
+-- `cases::decode` meets its contract: the count of bytes lies within `out`. The measure is what is left of the line.
+-- Assumes nothing.
 use Rattle.std.proofs.Common.{◌≤◌, ◌-◌, length}
 use Rattle.cases.proofs.decode.Given as goal
 

@@ -1,4 +1,5 @@
--- The count of bytes lies within `out`; the measure is what is left of its room.
+-- `check_main::read_full` meets its contract: the count of bytes lies within `out`. The measure is what is left of its room.
+-- Assumes nothing.
 use Rattle.std.proofs.Common.{◌≤◌, ◌-◌, length}
 use Rattle.check_main.proofs.read_full.Given as goal
 

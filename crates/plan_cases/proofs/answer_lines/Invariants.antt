@@ -1,4 +1,4 @@
--- The measure is what is left of the text.
+-- `plan_cases::answer_lines` is safe and ends. The measure is what is left of the text. Assumes nothing.
 use Rattle.std.proofs.Common.{◌≡◌, ◌-◌, length}
 use Rattle.cases.specs.Counts.{IsPrefixLen}
 use Rattle.plan_cases.proofs.answer_lines.Given as goal

@@ -1,4 +1,4 @@
--- The count stays below the modulus.
+-- `table_cases::count_worlds` is safe: the count stays below the modulus. Assumes nothing.
 use Rattle.std.proofs.Common.{◌<◌}
 use Rattle.table_cases.proofs.count_worlds.Given as goal
 
