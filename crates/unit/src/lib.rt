@@ -14,7 +14,7 @@ use sheet::limits::{ENTRIES, PLACES};
 mod numbers;
 
 // What a call answers in numbers: the answer byte, and the four numbers of info.
-#[derive(Drop)]
+#[derive(Clone, Copy, Drop)]
 pub struct Reply {
     pub answer: u8,
     pub position: u64,

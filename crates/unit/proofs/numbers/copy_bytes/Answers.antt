@@ -1,0 +1,19 @@
+-- `numbers::copy_bytes` meets its contract. The invariant: the members below i are copied. Assumes nothing.
+use Prim.Native.Nat.{◌-◌}
+use native.Mathlib.Omega.{arith}
+use lib.ListN.{length}
+use Rattle.sheet.proofs.laws.base.Copying.{Copied, copied_start}
+use Rattle.unit.proofs.StoredNumbers.{front_step, front_end}
+use Rattle.unit.proofs.numbers.copy_bytes.Goals as goal
+
+pub loop-i-init : goal.loop-i-init
+loop-i-init c = copied_start _ 0 _
+
+pub loop-i-preserved : goal.loop-i-preserved
+loop-i-preserved c = front_step _ _ _ _ c.loop-i.invariant c.requires c.loop-i-test.true
+
+pub shape_of-to : goal.shape_of-to
+shape_of-to c = c.loop-i.invariant.long
+
+pub returns : goal.returns
+returns c = front_end _ _ _ _ c.loop-i.invariant c.loop-i-test.false
