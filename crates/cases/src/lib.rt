@@ -2,11 +2,13 @@
 // A line that starts with '#' is a heading, which is written as it is; any other is bytes in hexadecimal, two digits for each byte,
 // one space between bytes.
 #![tactic(auto)]
-ghost use Rattle.std.specs.Prelude.{◌≡◌, ◌≤◌, ◌<◌, length};
-ghost use Rattle.io.specs.Counts.{IsPrefixLen};
 
-use libc::STDOUT_FILENO;
+ghost use Rattle.std.specs.Prelude.{◌≡◌, ◌≤◌, ◌<◌, length, IfOk};
+ghost use Rattle.cases.specs.Counts.{IsPrefixLen};
+
 use sheet::Answer;
+use std::io;
+use std::io::{Read, Write};
 
 // A line that was read: where the next one starts, whether it is a heading, and how many bytes it has (a heading has none).
 #[derive(Drop)]
@@ -39,19 +41,32 @@ pub fn room() -> [u8; 8192]
     [0; 8192]
 }
 
+// Reads until `out` is full or the input ends: how many bytes it put at the start of `out`.
+pub fn read_full(from: &mut impl Read, out: &mut [u8]) -> io::Result<usize>
+    ensures { IfOk result (λ n. IsPrefixLen n out.new) }
+{
+    let mut done: usize = 0;
+    while done < out.len() {
+        let n = from.read(&mut out[done..])?;
+        if n == 0 {
+            break;
+        }
+        done += n;
+    }
+    Ok(done)
+}
+
 // Where the line that starts at `from` ends: at its line feed, or at the end of the text.
 fn line_end(text: &[u8], from: usize) -> usize
     requires { from ≤ length text.now }
     ensures { (from ≤ result) × (result ≤ length text.now) }
 {
-    let mut end = from;
-    while end < text.len() {
+    for end in from..text.len() {
         if text[end] == b'\n' {
             return end;
         }
-        end += 1;
     }
-    end
+    text.len()
 }
 
 // The value of a hexadecimal digit, and 0 for any other byte.
@@ -97,26 +112,26 @@ fn is_heading(line: &[u8]) -> bool {
 }
 
 // The line that starts at `at`, read: a heading is written, the bytes of any other are put into `bytes`.
-pub fn next_line(text: &[u8], at: usize, bytes: &mut [u8]) -> Line
+pub fn next_line(to: &mut impl Write, text: &[u8], at: usize, bytes: &mut [u8]) -> io::Result<Line>
     requires { at < length text.now }
-    ensures { (at < result.next) × IsPrefixLen result.count bytes.new }
+    ensures { IfOk result (λ line. (at < line.next) × IsPrefixLen line.count bytes.new) }
 {
     let end = line_end(text, at);
     let line = &text[at..end];
     if is_heading(line) {
-        write_line(line);
-        return Line {
+        write_line(to, line)?;
+        return Ok(Line {
             next: end + 1,
             heading: true,
             count: 0,
-        };
+        });
     }
     let count = decode(line, bytes);
-    Line {
+    Ok(Line {
         next: end + 1,
         heading: false,
         count,
-    }
+    })
 }
 
 // The first `count` bytes but the very first, kept as the current sheet: its length.
@@ -124,37 +139,42 @@ fn keep(bytes: &[u8], count: usize, sheet: &mut [u8]) -> usize
     requires { count ≤ length bytes.now }
     ensures { IsPrefixLen result sheet.new }
 {
-    let mut n: usize = 0;
-    while n < sheet.len() {
+    for n in 0..sheet.len() {
         let from = n + 1;
         if count <= from {
             return n;
         }
         sheet[n] = bytes[from];
-        n += 1;
     }
-    n
+    sheet.len()
 }
 
 // The line that starts at `at`, read, where a first byte 0 says that the current sheet follows: that sheet is kept.
-pub fn next_case(text: &[u8], at: usize, sheet: &mut [u8], size: usize, bytes: &mut [u8]) -> Case
+pub fn next_case(
+    to: &mut impl Write,
+    text: &[u8],
+    at: usize,
+    sheet: &mut [u8],
+    size: usize,
+    bytes: &mut [u8],
+) -> io::Result<Case>
     requires { (at < length text.now) × IsPrefixLen size sheet.old }
-    ensures { (at < result.next) × IsPrefixLen result.size sheet.new × IsPrefixLen result.count bytes.new }
+    ensures { IfOk result (λ case. (at < case.next) × IsPrefixLen case.size sheet.new × IsPrefixLen case.count bytes.new) }
 {
-    let line = next_line(text, at, bytes);
+    let line = next_line(to, text, at, bytes)?;
     let next = line.next;
     let count = line.count;
     if 0 < count {
         if bytes[0] == 0 {
             let kept = keep(bytes, count, sheet);
-            return Case {
+            return Ok(Case {
                 next,
                 size: kept,
                 count: 0,
-            };
+            });
         }
     }
-    Case { next, size, count }
+    Ok(Case { next, size, count })
 }
 
 // The number in the `size` bytes from `at` on, high byte first; bytes past the end are 0.
@@ -162,60 +182,70 @@ pub fn number(bytes: &[u8], at: usize, size: usize) -> u64
     requires { (at < 4096) × (size ≤ 8) }
 {
     let mut value: u64 = 0;
-    let mut i: usize = 0;
-    while i < size {
+    for i in 0..size {
         let from = at + i;
         let mut b: u64 = 0;
         if from < bytes.len() {
             b = wide(bytes[from]);
         }
         value = value % 72057594037927936 * 256 + b % 256;
-        i += 1;
     }
     value
 }
 
 // A line as it is.
-pub fn write_line(line: &[u8]) {
-    io::write_all(STDOUT_FILENO, line);
-    io::write_all(STDOUT_FILENO, b"\n");
+pub fn write_line(to: &mut impl Write, line: &[u8]) -> io::Result<()> {
+    to.write_all(line)?;
+    to.write_all(b"\n")
 }
 
 // A word with a number, as a line.
-pub fn write_number(word: &[u8], number: u64) {
-    io::write_all(STDOUT_FILENO, word);
-    io::print_decimal(STDOUT_FILENO, number);
-    io::write_all(STDOUT_FILENO, b"\n");
+pub fn write_number(to: &mut impl Write, word: &[u8], number: u64) -> io::Result<()> {
+    to.write_all(word)?;
+    write!(to, "{number}")?;
+    to.write_all(b"\n")
 }
 
 // Two words, each with a number, as a line.
-pub fn write_pair(first: &[u8], a: u64, second: &[u8], b: u64) {
-    io::write_all(STDOUT_FILENO, first);
-    io::print_decimal(STDOUT_FILENO, a);
-    write_number(second, b);
+pub fn write_pair(
+    to: &mut impl Write,
+    first: &[u8],
+    a: u64,
+    second: &[u8],
+    b: u64,
+) -> io::Result<()> {
+    to.write_all(first)?;
+    write!(to, "{a}")?;
+    write_number(to, second, b)
 }
 
 // `refused N at P`, as a line.
-pub fn write_refusal(number: u8, position: usize) {
-    write_pair(b"refused ", number as u64, b" at ", position as u64);
+pub fn write_refusal(to: &mut impl Write, number: u8, position: usize) -> io::Result<()> {
+    write_pair(to, b"refused ", number as u64, b" at ", position as u64)
 }
 
 // An answer, as a line.
-pub fn write_answer(answer: Answer) {
+pub fn write_answer(to: &mut impl Write, answer: Answer) -> io::Result<()> {
     match answer {
-        Answer::Accepted => write_line(b"accepted"),
-        Answer::Refused(number, position) => write_refusal(number, position),
+        Answer::Accepted => write_line(to, b"accepted"),
+        Answer::Refused(number, position) => write_refusal(to, number, position),
     }
 }
 
 // How many entries a table has, and a digest of all its slots, as a line.
-pub fn write_table<'a>(count: usize, trues: &'a [u32; 128], falses: &'a [u32; 128]) {
+pub fn write_table<'a>(
+    to: &mut impl Write,
+    count: usize,
+    trues: &'a [u32; 128],
+    falses: &'a [u32; 128],
+) -> io::Result<()> {
     write_pair(
+        to,
         b"count ",
         count as u64,
         b" slots ",
         digest_slots(trues, falses),
-    );
+    )
 }
 
 // A byte as a wider number.
@@ -238,10 +268,8 @@ fn mixed_masks(digest: u64, trues: u32, falses: u32) -> u64 {
 // A digest of some bytes.
 pub fn digest_bytes(bytes: &[u8]) -> u64 {
     let mut value: u64 = 0;
-    let mut i: usize = 0;
-    while i < bytes.len() {
-        value = mixed(value, wide(bytes[i]));
-        i += 1;
+    for b in bytes {
+        value = mixed(value, wide(*b));
     }
     value
 }
@@ -249,10 +277,8 @@ pub fn digest_bytes(bytes: &[u8]) -> u64 {
 // A digest of all slots of a table.
 fn digest_slots<'a>(trues: &'a [u32; 128], falses: &'a [u32; 128]) -> u64 {
     let mut value: u64 = 0;
-    let mut i: usize = 0;
-    while i < 128 {
+    for i in 0..128 {
         value = mixed_masks(value, trues[i], falses[i]);
-        i += 1;
     }
     value
 }

@@ -10,13 +10,15 @@
 // rows (for 02: of those written; for 03: 65) and a digest of them; for 04 how the search ends, the length of the plan and a digest of
 // its eight bytes.
 #![tactic(auto)]
+
 ghost use Rattle.std.specs.Prelude.{◌≡◌, replicate};
 ghost use Rattle.sheet.specs.Format.{sheet_of};
 ghost use Rattle.plan.specs.Calls.{run_of, rows_after};
 ghost use Rattle.plan_cases.specs.Rows.{no_row};
 
-use libc::{STDIN_FILENO, STDOUT_FILENO};
 use plan::{Counts, Kind, Row, RunAnswer, Verdict};
+use std::io;
+use std::io::Write;
 
 // A run with rows of its own, by value.
 #[derive(Drop)]
@@ -26,70 +28,67 @@ pub struct RanRows {
 }
 
 // How a run ends, as a line.
-fn write_verdict(verdict: Verdict) {
+fn write_verdict(to: &mut impl Write, verdict: Verdict) -> io::Result<()> {
     match verdict {
-        Verdict::Reached => cases::write_line(b"reached"),
-        Verdict::Short => cases::write_line(b"short"),
+        Verdict::Reached => cases::write_line(to, b"reached"),
+        Verdict::Short => cases::write_line(to, b"short"),
         Verdict::Stopped(place, number) => {
-            cases::write_pair(b"stopped ", number as u64, b" at ", place as u64)
+            cases::write_pair(to, b"stopped ", number as u64, b" at ", place as u64)
         }
-        Verdict::Full(place) => cases::write_number(b"full at ", place as u64),
-        Verdict::Refused(number, position) => cases::write_refusal(number, position),
+        Verdict::Full(place) => cases::write_number(to, b"full at ", place as u64),
+        Verdict::Refused(number, position) => cases::write_refusal(to, number, position),
     }
 }
 
 // The verdict, and the table that came back.
-fn write_ran(ran: RunAnswer) {
+fn write_ran(to: &mut impl Write, ran: RunAnswer) -> io::Result<()> {
     let verdict = ran.verdict;
-    write_verdict(verdict);
+    write_verdict(to, verdict)?;
     let t = ran.table;
-    cases::write_table(t.count, &t.trues, &t.falses);
+    cases::write_table(to, t.count, &t.trues, &t.falses)
 }
 
 // A digest of the numbers of all rows.
 fn digest_counts(c: Counts) -> u64 {
     let mut value: u64 = 0;
-    let mut i: usize = 0;
-    while i < 65 {
+    for i in 0..65 {
         value = cases::mixed(value, c.entries[i] as u64);
         value = cases::mixed(value, c.clauses[i] as u64);
-        i += 1;
     }
     value
 }
 
 // A digest of 65 rows.
-fn digest_rows(r: RanRows) -> u64 {
+fn digest_rows(r: &RanRows) -> u64 {
     let mut value: u64 = 0;
-    let mut i: usize = 0;
-    while i < 65 {
+    for i in 0..65 {
         let row = r.rows[i];
         value = cases::mixed(value, row.place as u64);
         value = cases::mixed(value, row.entries as u64);
         value = cases::mixed(value, row.clauses as u64);
-        i += 1;
     }
     value
 }
 
 // What the program `check` prints for a sheet.
-fn show_report(sheet: &[u8]) {
+fn show_report(to: &mut impl Write, sheet: &[u8]) -> io::Result<()> {
     let mut text = cases::room();
     let n = plan::report(sheet, &mut text);
-    io::write_all(STDOUT_FILENO, &text[..n]);
+    to.write_all(&text[..n])
 }
 
 // The run of a sheet with so many rows lent.
-fn show_course(sheet: &[u8], lent: usize) {
+fn show_course(to: &mut impl Write, sheet: &[u8], lent: usize) -> io::Result<()> {
     let c = plan::runs::course(sheet, lent);
-    write_ran(c.ran);
+    write_ran(to, c.ran)?;
     let counts = c.counts;
     cases::write_pair(
+        to,
         b"rows ",
         counts.count as u64,
         b" numbers ",
         digest_counts(counts),
-    );
+    )
 }
 
 // The run of a sheet with 65 rows of its own, lent to the call.
@@ -107,68 +106,71 @@ fn run_here(bytes: &[u8]) -> RanRows
 }
 
 // The run of a sheet with 65 rows.
-fn show_run(sheet: &[u8]) {
+fn show_run(to: &mut impl Write, sheet: &[u8]) -> io::Result<()> {
     let r = run_here(sheet);
-    write_ran(r.ran);
-    cases::write_pair(b"rows ", 65, b" numbers ", digest_rows(r));
+    let digest = digest_rows(&r);
+    write_ran(to, r.ran)?;
+    cases::write_pair(to, b"rows ", 65, b" numbers ", digest)
 }
 
 // How a search ends, as a line.
-fn write_kind(kind: Kind) {
+fn write_kind(to: &mut impl Write, kind: Kind) -> io::Result<()> {
     match kind {
-        Kind::Reached => cases::write_line(b"reached"),
-        Kind::Full(place) => cases::write_number(b"full at ", place as u64),
-        Kind::Nothing => cases::write_line(b"none"),
-        Kind::Refused(number, position) => cases::write_refusal(number, position),
+        Kind::Reached => cases::write_line(to, b"reached"),
+        Kind::Full(place) => cases::write_number(to, b"full at ", place as u64),
+        Kind::Nothing => cases::write_line(to, b"none"),
+        Kind::Refused(number, position) => cases::write_refusal(to, number, position),
     }
 }
 
 // The search on a sheet.
-fn show_search(sheet: &[u8], limit: usize) {
+fn show_search(to: &mut impl Write, sheet: &[u8], limit: usize) -> io::Result<()> {
     let s = plan::search(sheet, limit);
     let kind = s.kind;
-    write_kind(kind);
+    write_kind(to, kind)?;
     let moves = s.plan;
     cases::write_pair(
+        to,
         b"length ",
         s.length as u64,
         b" plan ",
         cases::digest_bytes(&moves),
-    );
+    )
 }
 
 // What a case says, done for the current sheet. No bytes are no case.
-fn act(sheet: &[u8], bytes: &[u8]) {
+fn act(to: &mut impl Write, sheet: &[u8], bytes: &[u8]) -> io::Result<()> {
     if bytes.len() == 0 {
-        return;
+        return Ok(());
     }
     let what = bytes[0];
     let wide = cases::number(bytes, 1, 8);
     match what {
-        1 => show_report(sheet),
-        2 => show_course(sheet, wide as usize),
-        3 => show_run(sheet),
-        _ => show_search(sheet, wide as usize),
+        1 => show_report(to, sheet),
+        2 => show_course(to, sheet, wide as usize),
+        3 => show_run(to, sheet),
+        _ => show_search(to, sheet, wide as usize),
     }
 }
 
 // The lines in turn, with the current sheet.
-fn answer_lines(text: &[u8]) {
+fn answer_lines(to: &mut impl Write, text: &[u8]) -> io::Result<()> {
     let mut sheet = cases::room();
     let mut bytes = cases::room();
     let mut size: usize = 0;
     let mut at: usize = 0;
     while at < text.len() {
-        let case = cases::next_case(text, at, &mut sheet, size, &mut bytes);
+        let case = cases::next_case(to, text, at, &mut sheet, size, &mut bytes)?;
         size = case.size;
         let count = case.count;
-        act(&sheet[..size], &bytes[..count]);
+        act(to, &sheet[..size], &bytes[..count])?;
         at = case.next;
     }
+    Ok(())
 }
 
-fn main() {
+fn main(rt: HostRuntime) -> io::Result<()> {
     let mut text = cases::input();
-    let n = io::read_full(STDIN_FILENO, &mut text);
-    answer_lines(&text[..n]);
+    let n = cases::read_full(&mut rt.stdin(), &mut text)?;
+    answer_lines(&mut rt.stdout(), &text[..n])
 }

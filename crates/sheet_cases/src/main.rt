@@ -2,24 +2,27 @@
 // A line that starts with '#' is a heading. Any other line is the bytes of a sheet in hexadecimal; an empty line is a sheet of none.
 // Written: the answer of each sheet.
 #![tactic(auto)]
-use libc::STDIN_FILENO;
+
+use std::io;
+use std::io::Write;
 
 // The lines in turn.
-fn answer_lines(text: &[u8]) {
+fn answer_lines(to: &mut impl Write, text: &[u8]) -> io::Result<()> {
     let mut bytes = cases::room();
     let mut at: usize = 0;
     while at < text.len() {
-        let line = cases::next_line(text, at, &mut bytes);
+        let line = cases::next_line(to, text, at, &mut bytes)?;
         let count = line.count;
         if !line.heading {
-            cases::write_answer(sheet::judge(&bytes[..count]));
+            cases::write_answer(to, sheet::judge(&bytes[..count]))?;
         }
         at = line.next;
     }
+    Ok(())
 }
 
-fn main() {
+fn main(rt: HostRuntime) -> io::Result<()> {
     let mut text = cases::input();
-    let n = io::read_full(STDIN_FILENO, &mut text);
-    answer_lines(&text[..n]);
+    let n = cases::read_full(&mut rt.stdin(), &mut text)?;
+    answer_lines(&mut rt.stdout(), &text[..n])
 }

@@ -9,9 +9,11 @@
 // Written: the answer; for 01 and 02 the count and a digest of all slots of the table that comes back and, where it is accepted and n
 // is at most 10, how many worlds the table stands for; for 04 the number of clauses and a digest of the buffer.
 #![tactic(auto)]
+
 ghost use Rattle.std.specs.Prelude.{◌≡◌, ◌≤◌, length};
 
-use libc::STDIN_FILENO;
+use std::io;
+use std::io::Write;
 use table::{Table, TableAnswer};
 
 // A table with no entries.
@@ -24,60 +26,54 @@ fn empty_table() -> Table {
 }
 
 // The world w has the literals of some entry.
-fn covered(t: Table, w: u32) -> bool {
+fn covered(t: &Table, w: u32) -> bool {
     let count = t.count;
-    let mut i: usize = 0;
-    while i < 128 {
+    for i in 0..128 {
         if i < count && t.trues[i] & !w == 0 && t.falses[i] & w == 0 {
             return true;
         }
-        i += 1;
     }
     false
 }
 
 // How many worlds of n propositions a table stands for, counted one by one.
-fn count_worlds(t: Table, n: u8) -> u64
+fn count_worlds(t: &Table, n: u8) -> u64
     requires { n ≤ 10 }
 {
     let mut found: u64 = 0;
     let limit = 1u32 << n;
-    let mut w: u32 = 0;
-    while w < limit {
+    for w in 0..limit {
         if covered(t, w) {
             found = (found + 1) % 2048;
         }
-        w += 1;
     }
     found
 }
 
 // What a call on tables gave, written; the table that came back.
-fn show_table(sheet: &[u8], r: TableAnswer) -> Table {
+fn show_table(to: &mut impl Write, sheet: &[u8], r: TableAnswer) -> io::Result<Table> {
     let answer = r.answer;
-    cases::write_answer(answer);
+    cases::write_answer(to, answer)?;
     let t = r.table;
-    cases::write_table(t.count, &t.trues, &t.falses);
+    cases::write_table(to, t.count, &t.trues, &t.falses)?;
     if let sheet::Answer::Accepted = answer {
         if 0 < sheet.len() {
             let n = sheet[0];
             if n <= 10 {
-                cases::write_number(b"worlds ", count_worlds(t, n));
+                cases::write_number(to, b"worlds ", count_worlds(&t, n))?;
             }
         }
     }
-    t
+    Ok(t)
 }
 
 // The table of a line.
 fn table_of(bytes: &[u8]) -> Table {
     let mut t = empty_table();
     t.count = cases::number(bytes, 1, 8) as usize;
-    let mut i: usize = 0;
-    while i < 128 {
+    for i in 0..128 {
         t.trues[i] = (cases::number(bytes, 9 + 8 * i, 4) % 4294967296) as u32;
         t.falses[i] = (cases::number(bytes, 13 + 8 * i, 4) % 4294967296) as u32;
-        i += 1;
     }
     t
 }
@@ -90,24 +86,30 @@ fn picture_room() -> [u8; 4096]
 }
 
 // The picture in a buffer, its answer and a digest of the buffer written.
-fn show_picture_in(sheet: &[u8], t: Table, buffer: &mut [u8]) {
+fn show_picture_in(
+    to: &mut impl Write,
+    sheet: &[u8],
+    t: Table,
+    buffer: &mut [u8],
+) -> io::Result<()> {
     let r = table::picture(sheet, t, buffer);
     let answer = r.answer;
-    cases::write_answer(answer);
+    cases::write_answer(to, answer)?;
     cases::write_pair(
+        to,
         b"clauses ",
         r.clauses as u64,
         b" buffer ",
         cases::digest_bytes(buffer),
-    );
+    )
 }
 
 // The picture in a buffer of so many bytes.
-fn show_picture(sheet: &[u8], t: Table, size: usize)
+fn show_picture(to: &mut impl Write, sheet: &[u8], t: Table, size: usize) -> io::Result<()>
     requires { size ≤ 4096 }
 {
     let mut room = picture_room();
-    show_picture_in(sheet, t, &mut room[..size]);
+    show_picture_in(to, sheet, t, &mut room[..size])
 }
 
 // The size of a buffer, in two bytes.
@@ -117,44 +119,55 @@ fn buffer_size(bytes: &[u8]) -> usize
     (cases::number(bytes, 1, 2) % 4097) as usize
 }
 
+// The same table once more.
+fn same_table(t: &Table) -> Table {
+    Table {
+        count: t.count,
+        trues: t.trues,
+        falses: t.falses,
+    }
+}
+
 // What a case says, done: the current table from then on. No bytes are no case.
-fn act(sheet: &[u8], t: Table, bytes: &[u8]) -> Table {
+fn act(to: &mut impl Write, sheet: &[u8], t: Table, bytes: &[u8]) -> io::Result<Table> {
     if bytes.len() == 0 {
-        return t;
+        return Ok(t);
     }
     let what = bytes[0];
     match what {
-        1 => show_table(sheet, table::start(sheet)),
+        1 => show_table(to, sheet, table::start(sheet)),
         2 => show_table(
+            to,
             sheet,
             table::step(sheet, t, cases::number(bytes, 1, 8) as usize),
         ),
-        3 => table_of(bytes),
+        3 => Ok(table_of(bytes)),
         _ => {
-            show_picture(sheet, t, buffer_size(bytes));
-            t
+            show_picture(to, sheet, same_table(&t), buffer_size(bytes))?;
+            Ok(t)
         }
     }
 }
 
 // The lines in turn, with the current sheet and the current table.
-fn answer_lines(text: &[u8]) {
+fn answer_lines(to: &mut impl Write, text: &[u8]) -> io::Result<()> {
     let mut sheet = cases::room();
     let mut bytes = cases::room();
     let mut size: usize = 0;
     let mut t = empty_table();
     let mut at: usize = 0;
     while at < text.len() {
-        let case = cases::next_case(text, at, &mut sheet, size, &mut bytes);
+        let case = cases::next_case(to, text, at, &mut sheet, size, &mut bytes)?;
         size = case.size;
         let count = case.count;
-        t = act(&sheet[..size], t, &bytes[..count]);
+        t = act(to, &sheet[..size], t, &bytes[..count])?;
         at = case.next;
     }
+    Ok(())
 }
 
-fn main() {
+fn main(rt: HostRuntime) -> io::Result<()> {
     let mut text = cases::input();
-    let n = io::read_full(STDIN_FILENO, &mut text);
-    answer_lines(&text[..n]);
+    let n = cases::read_full(&mut rt.stdin(), &mut text)?;
+    answer_lines(&mut rt.stdout(), &text[..n])
 }

@@ -1,0 +1,15 @@
+-- `plan_cases::show_report` is safe and ends: the text lies within its room. Assumes nothing.
+use mathlib.Core.Path.{sym}
+use lib.Seq.{length-take-le}
+use Rattle.plan.proofs.laws.text.Reports.{report_within}
+use Rattle.plan_cases.proofs.show_report.Goals as goal
+
+pub slice_bounds-text-end : goal.slice_bounds-text-end
+slice_bounds-text-end g c =
+    let w = c.report-n in
+    report_within _ _ _ _ w.ensures.value w.ensures.out_after
+
+pub slice_bounds-write_all-end : goal.slice_bounds-write_all-end
+slice_bounds-write_all-end g c =
+    let w = c.report-n in
+    sym (length-take-le w.result w.new.out (report_within _ _ _ _ w.ensures.value w.ensures.out_after))
