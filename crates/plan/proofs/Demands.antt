@@ -138,8 +138,12 @@ back s = record {
   refused_search_lem = unfound.search_back s;
   nothing_found = searches.search_no_plan s;
   eight_bytes = searches.search_bytes s;
-  unread = λ t u e. (unread.step_unread t u e (sheet_of s), unread.picture_unread t u e (sheet_of s), unread.buffer_unread t u e
-      (sheet_of s));
+  unread = λ t u e. (
+    unread.step_unread t u e (sheet_of s),
+    unread.picture_unread t u e (sheet_of s),
+    unread.buffer_unread t u e
+        (sheet_of s),
+  );
 }
 
 -- ---- the groups of demand 2

@@ -1,5 +1,6 @@
 // Plans: the run of a plan, the search for one, and the text of the program.
 #![tactic(auto)]
+
 ghost use Rattle.std.specs.Prelude.{◌≡◌, length};
 ghost use Rattle.sheet.specs.Format.{sheet_of};
 ghost use Rattle.plan.specs.Calls.{run_of, rows_after, search_of};

@@ -130,7 +130,7 @@ unfound t c e = scan.found_none (λ e. within e c) t Nothing (sym e) refl
 pub last_within_lem : (t : List Literals) (c : Literals) (i : ℕ)
     → (last_within t c ≡ At i)
     ↔ ((i < length t) × T (within (get_or t i no_literal) c) ×
-        ((j : ℕ) → i < j → j < length t → T (not (within (get_or t j no_literal) c))))
+    ((j : ℕ) → i < j → j < length t → T (not (within (get_or t j no_literal) c))))
 last_within_lem t c = scan.last_at (λ e. within e c) t
 
 pub last_none : (t : List Literals) (c : Literals) → (last_within t c ≡ Nothing) ↔ All (λ e. T (not (within e c))) t

@@ -1,11 +1,9 @@
 -- The entries of a table: lists of literal sets in two arrays of masks, true and false ones, and the struct `Table` of such a list.
-use Rattle.std.specs.Prelude.{List, [], ◌∷◌, map, ℕ, ◌-◌, length}
+use Rattle.std.specs.Prelude.{List, [], ◌∷◌, map, ℕ, length}
 use Rattle.sheet.specs.Limits.{most_entries}
 use Rattle.sheet.specs.declared.Literals.{Literals}
 use Rattle.sheet.specs.Lists.{pad}
 use Rattle.table.specs.declared.Table.{Table}
-use Rattle.table.specs.declared.slots.Grown.TheVariants as grown
-use Rattle.table.specs.declared.steps.Stepped.TheVariants as stepped
 
 -- two lists of masks side by side
 unfoldable pub pairs : List ℕ → List ℕ → List Literals

@@ -7,7 +7,6 @@ use Rattle.table.specs.declared.slots.Found.{Found}
 use Rattle.table.specs.declared.slots.Found.TheVariants.{At, Nothing}
 use Rattle.table.specs.declared.slots.Fate.{Fate}
 use Rattle.table.specs.declared.slots.Fate.TheVariants.{Dropped, Added, Full}
-use Rattle.table.specs.declared.slots.Grown.TheVariants as grown
 
 -- one place further, or at place 0 if b
 unfoldable pub shifted : Bool → Found → Found

@@ -1,5 +1,6 @@
 // Belief states as tables of entries: the first table of a sheet, the step of a move, and pictures.
 #![tactic(auto)]
+
 ghost use Rattle.std.specs.Prelude.{◌≡◌, length};
 ghost use Rattle.sheet.specs.Format.{sheet_of};
 ghost use Rattle.table.specs.Calls.{start_of, step_of};

@@ -119,7 +119,7 @@ module _ {b : Bool} (enough : b ≡ false) (s : List ℕ) (limit : ℕ) (r : Sea
       → after ≡ cond b plan ((search_of (sheet_of s) limit).plan ++ drop 8 plan)
   search_plan plan after e =
       second plan ((search_of (sheet_of s) limit).plan ++ drop 8 plan) after enough
-          (e ∙ ap (λ (x : SearchAnswer). x.plan ++ drop 8 plan) is)
+      (e ∙ ap (λ (x : SearchAnswer). x.plan ++ drop 8 plan) is)
 
   pub search_info : (info after : List ℕ) → after ≡ info_of (kind_reply r.kind r.length) info
       → after ≡ cond b info (info_of (search_reply s limit) info)

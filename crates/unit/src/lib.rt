@@ -1,5 +1,6 @@
 // The calls for C: sheets, tables, rows and plans as numbers in slices that the caller lends.
 #![tactic(auto)]
+
 ghost use Rattle.std.specs.Prelude.{◌≡◌, true, cond, ◌++◌, ltb, length, drop};
 ghost use Rattle.sheet.specs.Format.{sheet_of};
 ghost use Rattle.table.specs.Calls.{start_of, step_of};

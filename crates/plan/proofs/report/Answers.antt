@@ -1,5 +1,4 @@
 -- `report` meets its contract. Assumes nothing.
-use borrow.Author.Rules.{rules}
 use Rattle.plan.proofs.laws.text.Reports.{few_rows, reports, no_report}
 use Rattle.plan.proofs.report.Goals as goal
 
@@ -17,4 +16,4 @@ write_text-requires c =
 pub returns : goal.returns
 returns c =
     let both = reports _ _ c.course_into-ran.ensures _ _ _ c.if-out-lt-REPORT_LENGTH.false c.write_text.ensures in record
-        { value = both.0; out_after = both.1 }
+    { value = both.0; out_after = both.1 }

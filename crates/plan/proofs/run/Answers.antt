@@ -1,6 +1,5 @@
 -- `plan::run` meets its contract: the run by its numbers, and then the rows written into those that are lent. Assumes nothing.
-use Rattle.std.proofs.Common.{◌≡◌, ◌≤◌, ◌++◌, length, drop, sym, ap, ◌∙◌, subst}
-use Rattle.sheet.specs.Format.{sheet_of}
+use Rattle.std.proofs.Common.{◌≤◌, ◌++◌, length, drop, sym, ap, ◌∙◌, subst}
 use Rattle.plan.specs.declared.Course.{Course}
 use Rattle.plan.specs.inner.Course.{course_of}
 use Rattle.plan.specs.inner.Rows.{rows_in}

@@ -4,12 +4,10 @@ use Rattle.std.specs.Prelude.{◌≡◌, List, ℕ, cond}
 use Rattle.std.proofs.Math.Option.{Option, none, some}
 use Rattle.sheet.specs.declared.Literals.{Literals}
 use Rattle.sheet.specs.Problem.{Action}
-use Rattle.table.specs.Minimal.{table}
 use Rattle.table.specs.Picture.{picture, picture_bytes}
 use Rattle.table.specs.Worlds.{and_then}
 use Rattle.table.specs.Entries.{entries}
 use Rattle.plan.specs.declared.RunAnswer.{RunAnswer}
-use Rattle.plan.specs.declared.Verdict as case
 use Rattle.plan.specs.Run.{Verdict, reached, short, stopped, full}
 use Rattle.plan.specs.Meaning.{Ends, Inside, Outside, Every, Some, StopsAt}
 use Rattle.plan.specs.Demand3.{run_refused, Class, is_stopped, class_of}

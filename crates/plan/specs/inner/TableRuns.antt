@@ -5,7 +5,6 @@ use Rattle.sheet.specs.declared.Literals.{Literals}
 use Rattle.sheet.specs.Problem.{Action}
 use Rattle.table.specs.Minimal.{Outcome, refused, table}
 use Rattle.table.specs.Step.{step_table}
-use Rattle.plan.specs.declared.Verdict as case
 
 abbrev pub then_table : Outcome → (List Literals → Option (List Literals)) → Option (List Literals)
 then_table (refused number) next = none

@@ -1,5 +1,4 @@
 -- `table::picture` meets its contract. Assumes nothing.
-use borrow.Author.Rules.{rules}
 use Rattle.sheet.specs.inner.Decoded.{problem_in, statement_in}
 use Rattle.sheet.proofs.laws.reader.ReadSheets.{refused_says, accepted_says}
 use Rattle.table.proofs.laws.pictures.PictureCall.{sheet_refused, sheet_accepted}

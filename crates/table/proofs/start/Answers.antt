@@ -1,6 +1,5 @@
 -- `table::start` meets its contract. Assumes nothing.
 use Rattle.table.proofs.laws.starts.StartCall.{start_by, start_refusal}
-use borrow.Author.Rules.{rules}
 use Rattle.table.proofs.start.Goals as goal
 
 pub returns-in-To : goal.returns-in-To

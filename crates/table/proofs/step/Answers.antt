@@ -1,6 +1,5 @@
 -- `table::step` meets its contract. Assumes nothing.
 use Rattle.table.proofs.laws.steps.StepCall.{step_by}
-use borrow.Author.Rules.{rules}
 use Rattle.table.proofs.step.Goals as goal
 
 pub returns-in-To : goal.returns-in-To

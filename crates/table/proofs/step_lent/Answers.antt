@@ -1,6 +1,5 @@
 -- `table::step_lent` meets its contract. Assumes nothing.
 use mathlib.Core.Path.{sym, ◌∙◌}
-use borrow.Author.Tests.{not-true, not-false}
 use Rattle.table.specs.Entries.{entries}
 use Rattle.table.proofs.laws.steps.StepCall.{call_fault, off_sheet, undescribed, its_move, its_room, known_step}
 use borrow.Author.Rules.{rules}

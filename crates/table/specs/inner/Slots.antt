@@ -1,17 +1,15 @@
 -- Lists of literal sets in two arrays of masks, over any capacity: what contracts ask of the arrays, and what putting candidates leaves
 -- there.
-use Rattle.std.specs.Prelude.{◌≡◌, Bool, ◌||◌, List, ℕ, ◌+◌, ◌-◌, ◌≤◌, length, replicate, get_or}
+use Rattle.std.specs.Prelude.{◌≡◌, Bool, ◌||◌, List, ℕ, ◌+◌, ◌≤◌, length, replicate, get_or}
 use Rattle.std.proofs.Math.Option.{Option, none, some}
 use Rattle.sheet.specs.Limits.{most_entries}
 use Rattle.sheet.specs.declared.Literals.{Literals}
 use Rattle.sheet.specs.Literals.{within}
 use Rattle.sheet.specs.Lists.{pad}
-use Rattle.table.specs.declared.slots.Fate.TheVariants.{Full}
 use Rattle.table.specs.declared.slots.Grown.{Grown}
 use Rattle.table.specs.declared.slots.Grown.TheVariants as grown
 use Rattle.table.specs.Minimal.{put, put_all}
 use Rattle.table.specs.Entries.{trues_of, falses_of, entries_of}
-use Rattle.table.specs.declared.steps.Stepped.TheVariants as stepped
 
 -- ---- what contracts ask of two arrays
 -- so many slots or more

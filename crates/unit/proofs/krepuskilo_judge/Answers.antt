@@ -1,5 +1,4 @@
 -- `krepuskilo_judge` meets its contract: the answer of `judge` in numbers, or 255. Assumes nothing.
-use borrow.Author.Rules.{rules}
 use borrow.Author.Tests.{lt-ltb, le-ltb}
 use Rattle.sheet.proofs.laws.base.Bools.{cond_true}
 use Rattle.unit.proofs.ReplyCases.{byte, numbers, judge_told}

@@ -1,6 +1,5 @@
 -- `krepuskilo_picture` meets its contract: the answer of `picture` in numbers and its buffer, or 255. Assumes nothing.
 use mathlib.Core.Path.{ap, ◌∙◌}
-use borrow.Author.Rules.{rules}
 use Rattle.sheet.specs.Limits.{table_numbers}
 use Rattle.sheet.specs.Format.{sheet_of}
 use Rattle.table.specs.declared.Table.{Table}
@@ -26,12 +25,11 @@ returns-then-table-lt-TABLE_NUMBERS c =
     let a = c.args in
     let both =
     unwritten (lacks_first table_numbers a.table.now a.info.now c.if-table-lt-TABLE_NUMBERS.true) _ _ _ in record
-        { value = both.0; buffer_after = both.1.0; info_after = both.1.1 }
+    { value = both.0; buffer_after = both.1.0; info_after = both.1.1 }
 
 pub returns-then-info-lt4 : goal.returns-then-info-lt4
 returns-then-info-lt4 c =
     let a = c.args in
     let both =
     unwritten (lacks_info table_numbers a.table.now a.info.now c.if-table-lt-TABLE_NUMBERS.false c.if-info-lt4.true) _ _ _ in record
-        { value = both.0; buffer_after = both.1.0; info_after = both.1.1 }
-
+    { value = both.0; buffer_after = both.1.0; info_after = both.1.1 }

@@ -4,7 +4,6 @@ use Rattle.sheet.proofs.laws.base.Bools.{cond_true}
 use Rattle.unit.proofs.ReplyCases.{second, lacks_first, lacks_info, lacks_none, byte, tables, numbers, run_told, run_table_lem}
 use Rattle.unit.proofs.TableSizes.{run_fits}
 use Rattle.unit.proofs.RowNumbers.{rows_room, rows_out_lem}
-use borrow.Author.Rules.{rules}
 use Rattle.unit.proofs.krepuskilo_run.Goals as goal
 
 pub returns-then-table-lt-TABLE_NUMBERS : goal.returns-then-table-lt-TABLE_NUMBERS
@@ -48,4 +47,3 @@ returns c =
       table_after = tables e _ _ _ _ (run_table_lem _ a.rows.now _ d.ensures) c.write_entries.ensures;
       info_after = numbers e _ _ same _ _ c.write_info.ensures;
     }
-

@@ -1,5 +1,4 @@
 -- `krepuskilo_search` meets its contract: the answer of `search` in numbers and its plan, or 255. Assumes nothing.
-use borrow.Author.Rules.{rules}
 use Rattle.unit.proofs.ReplyCases.{lacks_first, lacks_info, lacks_none, search_byte, search_plan, search_info, unwritten}
 use Rattle.unit.proofs.krepuskilo_search.Goals as goal
 
@@ -20,12 +19,11 @@ returns-then-plan-lt8 c =
     let a = c.args in
     let both =
     unwritten (lacks_first 8 a.plan.now a.info.now c.if-plan-lt8.true) _ _ _ in record
-        { value = both.0; plan_after = both.1.0; info_after = both.1.1 }
+    { value = both.0; plan_after = both.1.0; info_after = both.1.1 }
 
 pub returns-then-info-lt4 : goal.returns-then-info-lt4
 returns-then-info-lt4 c =
     let a = c.args in
     let both =
     unwritten (lacks_info 8 a.plan.now a.info.now c.if-plan-lt8.false c.if-info-lt4.true) _ _ _ in record
-        { value = both.0; plan_after = both.1.0; info_after = both.1.1 }
-
+    { value = both.0; plan_after = both.1.0; info_after = both.1.1 }

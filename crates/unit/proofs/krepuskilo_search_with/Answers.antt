@@ -1,7 +1,6 @@
 -- `krepuskilo_search_with` meets its contract: the answer of `search_with` in numbers and its plan, or 255. Assumes nothing.
 use mathlib.Core.Path.{refl, sym, ◌∙◌}
 use mathlib.Core.Bool.{true≢false}
-use borrow.Author.Rules.{rules}
 use Rattle.sheet.proofs.laws.base.Bools.{cond_true}
 use Rattle.unit.proofs.ReplyCases.{lacks_first, lacks_info, lacks_none, search_byte, search_plan, search_info}
 use Rattle.unit.proofs.krepuskilo_search_with.Goals as goal
@@ -39,4 +38,3 @@ returns c =
       info_after = search_info e _ _ _ is _ _ k.info_after;
       memory_unchanged = λ h. absurd (true≢false (sym h ∙ e));
     }
-

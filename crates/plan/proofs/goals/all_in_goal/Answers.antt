@@ -1,16 +1,10 @@
 -- `plan::goals::all_in_goal` meets its contract. The invariant: the entries from i on decide. Assumes nothing.
-use mathlib.Core.Path.{◌≡◌, refl, sym, ap, ◌∙◌}
-use Prim.Native.Nat.{◌≤◌, ◌-◌, ◌+◌}
+use mathlib.Core.Path.{refl, sym, ap, ◌∙◌}
 use native.Mathlib.Omega.{arith}
-use borrow.Author.Rules.{rules}
-use borrow.Author.Tests.{not-true, not-false}
-use lib.ListN.{drop}
 use Rattle.sheet.specs.Lists.{all_of}
 use Rattle.sheet.specs.inner.Packed.{sets_in}
-use Rattle.table.specs.Entries.{entries_of}
 use Rattle.table.proofs.laws.arrays.EntryLoops.{all_stop, all_on, entries_next, entries_done}
 use Rattle.plan.specs.Run.{in_goal}
-use mathlib.Core.List.{◌∷◌}
 use Rattle.plan.proofs.goals.all_in_goal.Goals as goal
 
 pub returns-then-not-in_goal : goal.returns-then-not-in_goal

@@ -1,9 +1,6 @@
 -- `plan::goals::in_goal` meets its contract. The invariant: the clauses from i on decide. Assumes nothing.
-use mathlib.Core.Path.{◌≡◌, refl, sym, ap, ◌∙◌}
-use Prim.Native.Nat.{◌-◌, ◌+◌}
+use mathlib.Core.Path.{refl, sym, ap, ◌∙◌}
 use native.Mathlib.Omega.{arith}
-use borrow.Author.Rules.{rules}
-use borrow.Author.Tests.{not-true, not-false}
 use lib.ListN.{drop, get_or}
 use Rattle.sheet.specs.Literals.{meets}
 use Rattle.sheet.specs.Lists.{all_of}
@@ -11,7 +8,6 @@ use Rattle.sheet.specs.inner.Packed.{sets_in}
 use Rattle.sheet.proofs.laws.reader.PackedParts.{sets_step, sets_end}
 use Rattle.table.proofs.laws.arrays.EntryLoops.{all_stop, all_on}
 use Rattle.plan.specs.Run.{in_goal}
-use mathlib.Core.List.{◌∷◌}
 use Rattle.plan.proofs.goals.in_goal.Goals as goal
 
 pub count_of-count-requires : goal.count_of-count-requires
@@ -35,15 +31,14 @@ returns-then-not-shares c =
 
 pub loop-i-preserved : goal.loop-i-preserved
 unfolding sets_in in_goal
-loop-i-preserved c =
-    (
-      c.loop-i.invariant.0,
-      c.loop-i.invariant.1
-          ∙ all_on (λ x. meets x c.args.d) _ _ _ _ (let goal = c.args.goal.now in
-    sets_step (get_or goal 0 0) (drop 1 goal) c.loop-i.i _ (omega (arith, c.loop-i.invariant.0, c.loop-i-test.true))
-    c.set_at-c.ensures) c.shares.ensures
-          c.if-not-shares.false,
-    )
+loop-i-preserved c = (
+  c.loop-i.invariant.0,
+  c.loop-i.invariant.1
+      ∙ all_on (λ x. meets x c.args.d) _ _ _ _ (let goal = c.args.goal.now in
+      sets_step (get_or goal 0 0) (drop 1 goal) c.loop-i.i _ (omega (arith, c.loop-i.invariant.0, c.loop-i-test.true))
+      c.set_at-c.ensures) c.shares.ensures
+      c.if-not-shares.false,
+)
 
 pub returns : goal.returns
 unfolding sets_in in_goal

@@ -1,23 +1,13 @@
 -- `plan::goals::in_goal` meets its contract. The invariant: the clauses from i on decide. Assumes nothing.
-use mathlib.Core.Path.{◌≡◌, refl, sym, ap, ◌∙◌}
-use Prim.Native.Nat.{◌-◌, ◌+◌}
-use native.Mathlib.Omega.{arith}
-use borrow.Author.Rules.{rules}
-use borrow.Author.Tests.{not-true, not-false}
+use mathlib.Core.Path.{◌≡◌}
+use Prim.Native.Nat.{◌-◌}
 use lib.ListN.{drop, get_or}
-use Rattle.sheet.specs.Literals.{meets}
-use Rattle.sheet.specs.Lists.{all_of}
 use Rattle.sheet.specs.inner.Packed.{sets_in}
-use Rattle.sheet.proofs.laws.reader.PackedParts.{sets_step, sets_end}
-use Rattle.table.proofs.laws.arrays.EntryLoops.{all_stop, all_on}
 use Rattle.plan.specs.Run.{in_goal}
-use mathlib.Core.List.{◌∷◌}
 use Rattle.plan.proofs.goals.in_goal.Given as goal
 
 abbrev pub invariant-loop-i : goal.invariant-loop-i
 invariant-loop-i l = (l.count ≡ get_or l.goal 0 0) × (in_goal (sets_in l.goal) l.d ≡ in_goal (drop l.i (sets_in l.goal)) l.d)
 
-
 abbrev pub decreases-loop-i : goal.decreases-loop-i
 decreases-loop-i l = l.count - l.i
-

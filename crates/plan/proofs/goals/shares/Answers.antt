@@ -1,6 +1,5 @@
 -- `plan::goals::shares` meets its contract. Assumes nothing.
 use mathlib.Core.Path.{ap, ◌∙◌}
-use borrow.Author.Rules.{rules}
 use Rattle.sheet.specs.declared.Literals.{Literals}
 use Rattle.sheet.specs.Literals.{clash, meets}
 use Rattle.plan.proofs.goals.shares.Goals as goal

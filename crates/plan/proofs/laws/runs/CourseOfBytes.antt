@@ -11,7 +11,7 @@ use Rattle.sheet.specs.Problem.{Statement}
 use Rattle.sheet.specs.Format.{Judgement, accepted, refused as faulty, sheet_of}
 use Rattle.table.specs.Minimal.{Outcome}
 use Rattle.table.specs.Start.{start_table}
-use Rattle.table.specs.Entries.{entries, lent}
+use Rattle.table.specs.Entries.{lent}
 use Rattle.table.specs.inner.Slots.{Fresh}
 use Rattle.plan.specs.declared.Course.{Course}
 use Rattle.plan.specs.Calls.{refused_run, planned, run_of, planned_rows, rows_of}

@@ -11,7 +11,7 @@ use Rattle.sheet.specs.Encoding.{ProperProblem}
 use Rattle.sheet.proofs.laws.reader.ReadSheets.{not_both}
 use Rattle.table.specs.declared.Table.{Table}
 use Rattle.table.specs.declared.TableAnswer.{TableAnswer}
-use Rattle.table.specs.Minimal.{Described, described, Outcome, refused, table}
+use Rattle.table.specs.Minimal.{Described, Outcome, refused, table}
 use Rattle.table.specs.Start.{start_table}
 use Rattle.table.specs.Entries.{entries, table_of}
 use Rattle.table.specs.Calls.{or_given}

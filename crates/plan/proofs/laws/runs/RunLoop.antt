@@ -13,7 +13,6 @@ use Rattle.sheet.specs.Lists.{all_of, pad}
 use Rattle.sheet.specs.Problem.{Action}
 use Rattle.sheet.specs.inner.Decoded.{plan_in}
 use Rattle.sheet.specs.inner.Packed.{sets_in, goal_in, moves_in, action_of}
-use Rattle.sheet.specs.declared.Answer.TheVariants.{Refused}
 use Rattle.sheet.specs.declared.Literals.{Literals}
 use Rattle.sheet.proofs.laws.base.ListFacts.{all_at}
 use Rattle.sheet.proofs.laws.base.Prefixes.{part_step, part_end}

@@ -24,7 +24,7 @@ use Rattle.table.specs.declared.Table.{Table}
 use Rattle.table.specs.declared.TableAnswer.{TableAnswer}
 use Rattle.table.specs.declared.PictureAnswer.{PictureAnswer}
 use Rattle.table.specs.Worlds.{and_then, InGoal}
-use Rattle.table.specs.Minimal.{In, Described, described, Outcome}
+use Rattle.table.specs.Minimal.{In, Described, Outcome}
 use Rattle.table.specs.Start.{start_table}
 use Rattle.table.specs.Step.{step_table}
 use Rattle.table.specs.Picture.{picture, size_of}
@@ -352,7 +352,7 @@ module _ (s : List ℕ) (x : Statement) (says : Says s x) where
     -- the clauses of a row, by the picture call
     row_clauses : (u : List Literals) → Described 128 p.n u
         → clauses_or (picture_of (sheet_of s) (table_of u) 2050).answer (picture_of (sheet_of s) (table_of u) 2050).clauses ≡ size_of
-            (picture u)
+        (picture u)
     row_clauses u d = ap (λ (r : PictureAnswer). clauses_or r.answer r.clauses) call ∙ go (picture u) refl
       where
         call : picture_of (sheet_of s) (table_of u) 2050 ≡ pictured.given (picture u) 2050

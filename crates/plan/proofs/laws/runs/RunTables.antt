@@ -157,7 +157,7 @@ module _ (cap : ℕ) where
       go : (o : Outcome) → step_table cap a t ≡ o
           → ((v : List Literals) → (i ≤ moves_taken cap plan v) ↔ ((u : List Literals) × (table_at cap i plan v ≡ some u)))
           → (suc i ≤ count_or o (λ v. moves_taken cap plan v)) ↔
-              ((u : List Literals) × (then_table o (λ v. table_at cap i plan v) ≡ some u))
+          ((u : List Literals) × (then_table o (λ v. table_at cap i plan v) ≡ some u))
       go (refused N) e ih = (λ h. absurd (omega arith), λ x. absurd (none-ne-some x.0 x.1))
       go (table v) e ih = (λ h. (ih v).0 (le_of_suc-le-suc h), λ x. omega (arith, (ih v).1 x))
 

@@ -7,7 +7,6 @@ use Prim.Native.Nat.{ℕ, ◌≤◌}
 use native.Mathlib.Omega.{arith}
 use Rattle.sheet.specs.declared.Literals.{Literals}
 use Rattle.sheet.specs.Problem.{Problem}
-use Rattle.sheet.specs.Format.{refused}
 use Rattle.table.specs.Minimal.{Outcome}
 use Rattle.table.specs.Start.{start_table}
 use Rattle.table.proofs.Demands.{start_kind}

@@ -134,7 +134,7 @@ module _ (goal : List Literals) (f : ℕ → Action) (k : ℕ) (at : ℕ) (t : L
   module _ (m n : ℕ) where
     by_step : (o : Outcome) → step_table 128 (f m) t ≡ o
         → first_by goal f k at t n m ≡ consed m (first_of (λ p. onward o (suc at) (λ u. run_from 128 goal (suc at) (map f p) u))
-            (plans_of k n))
+        (plans_of k n))
     by_step o e =
         first_map (ran_from goal f at t) m (plans_of k n)
         ∙ ap (λ (x : Outcome). consed m (first_of (λ p. onward x (suc at) (λ u. run_from 128 goal (suc at) (map f p) u)) (plans_of k n))) e

@@ -33,7 +33,7 @@ fails_place goal (x ∷ plan) t a b h = go (step_table 128 x t) (λ u. fails_pla
 
     go : (o : Outcome) → ((u : List Literals) → Fails (run_from 128 goal (suc a) plan u) → Fails (run_from 128 goal (suc b) plan u))
         → Fails (onward o (suc a) (λ u. run_from 128 goal (suc a) plan u)) → Fails
-            (onward o (suc b) (λ u. run_from 128 goal (suc b) plan u))
+        (onward o (suc b) (λ u. run_from 128 goal (suc b) plan u))
     go (refused N) ih k = by (eqb N 21) N k
     go (table u) ih k = ih u k
 
@@ -43,7 +43,7 @@ module _ (goal : List Literals) (f : ℕ → Action) (k at : ℕ) (t : List Lite
     quiet_after l q i s =
         fails_place goal (map f q) u (suc at) (at + 1)
         (subst (λ (o : Outcome). Fails (onward o (suc at) (λ v. run_from 128 goal (suc at) (map f q) v))) e
-            (h (m ∷ q) (l, i) (omega arith)))
+        (h (m ∷ q) (l, i) (omega arith)))
 
     pub unchanged : u ≡ t → first_by goal f k at t n m ≡ nothing
     unchanged z =

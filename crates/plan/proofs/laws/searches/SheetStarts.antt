@@ -26,7 +26,6 @@ use Rattle.table.specs.Calls.{or_given, action_at}
 use Rattle.table.specs.declared.starts.Started.{Started}
 use Rattle.table.specs.declared.starts.Started.TheVariants as started
 use Rattle.table.specs.inner.Starts.{start_answer}
-use Rattle.table.specs.Minimal.{table}
 use Rattle.table.proofs.laws.steps.StepWorlds.{at_proper}
 use Rattle.plan.specs.Run.{actions_of, run_from}
 use Rattle.plan.specs.Search.{plans_up_to}

@@ -28,7 +28,7 @@ use Rattle.plan.proofs.laws.searches.ArrayMoves.{came, ready_after, refused_by_l
 module _ {packed : List ℕ} {depth : Depth} {m n : ℕ} {ts fs memory : List ℕ} (h : MoveUnderway packed depth m (lent n ts fs) memory)
     (r : Stepped) (us gs : List ℕ)
     (told : step_answer (lent n ts fs) r us gs ≡ or_given (lent n ts fs)
-        (step_table 128 (action_of (moves_in packed) m) (entries_of n ts fs)))
+    (step_table 128 (action_of (moves_in packed) m) (entries_of n ts fs)))
   where
     abbrev t : Table
     t = lent n ts fs

@@ -1,10 +1,9 @@
 -- `memory::fill` meets its contract. The invariant: mark, count and the first i entries are written. Assumes nothing.
 use mathlib.Core.Path.{sym, ◌∙◌}
-use Prim.Native.Nat.{◌≤◌, ◌-◌, ◌+◌}
+use Prim.Native.Nat.{◌+◌}
 use lib.ListN.{get_or, length-set}
 use native.Mathlib.Omega.{arith}
-use borrow.Author.Rules.{rules}
-use Rattle.plan.proofs.laws.searches.MemorySlots.{Laid, laid_none, laid_next, laid_table}
+use Rattle.plan.proofs.laws.searches.MemorySlots.{laid_none, laid_next, laid_table}
 use Rattle.plan.proofs.memory.fill.Goals as goal
 
 pub loop-i-init : goal.loop-i-init
@@ -19,8 +18,7 @@ bounds-slot-i-in-loop-i c =
 
 pub loop-i-preserved : goal.loop-i-preserved
 loop-i-preserved c =
-    let g = c.loop-i in
-    (
+    let g = c.loop-i in (
       laid_next {slot = g.slot} {ts = c.args.trues.now} {fs = c.args.falses.now} {n = c.args.count} {mark = c.args.mark}
           {i = g.i} g.invariant.0 (omega (arith, c.requires.storable.most)),
       omega arith,

@@ -1,8 +1,6 @@
 -- `memory::place` meets its contract. Assumes nothing.
-use Prim.Native.Nat.{◌≤◌, ◌-◌}
 use native.Mathlib.Nat.{mod-lt}
 use native.Mathlib.Omega.{arith}
-use borrow.Author.Rules.{rules}
 use Rattle.plan.proofs.memory.place.Goals as goal
 
 pub returns : goal.returns

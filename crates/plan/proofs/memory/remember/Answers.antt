@@ -1,7 +1,6 @@
 -- `memory::remember` meets its contract. Assumes nothing.
 use Rattle.table.specs.Entries.{entries_of}
 use Rattle.plan.proofs.laws.searches.MemorySlots.{kept_by, known_in}
-use borrow.Author.Rules.{rules}
 use Rattle.plan.proofs.memory.remember.Goals as goal
 
 pub returns : goal.returns

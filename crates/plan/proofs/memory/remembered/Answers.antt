@@ -4,7 +4,6 @@ use mathlib.Core.Bool.{true≢false}
 use lib.ListN.{length}
 use Rattle.table.specs.Entries.{entries_of}
 use Rattle.plan.proofs.laws.searches.MemorySlots.{recalled, slots_room}
-use borrow.Author.Rules.{rules}
 use Rattle.plan.proofs.memory.remembered.Goals as goal
 
 pub returns-then-slots-eq0 : goal.returns-then-slots-eq0

@@ -1,5 +1,5 @@
 -- `plan::rows::write_rows` meets its contract: each turn stores the row of its place. Assumes nothing.
-use Rattle.std.proofs.Common.{◌≡◌, ℕ, ◌≤◌, List, length, set, refl, sym, ap, ◌∙◌, subst, add-one, arith}
+use Rattle.std.proofs.Common.{◌≡◌, ℕ, List, set, refl, sym, ap, ◌∙◌, add-one, arith}
 use Rattle.plan.specs.declared.Row.{Row}
 use Rattle.plan.specs.inner.Rows.{row_at}
 use Rattle.plan.proofs.laws.rows.WrittenRows.{written, written_is}

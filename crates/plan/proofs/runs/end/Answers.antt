@@ -1,7 +1,6 @@
 -- `plan::runs::end` meets its contract. Assumes nothing.
 use mathlib.Core.Path.{sym, ap, ◌∙◌}
 use mathlib.Core.Bool.{Bool}
-use borrow.Author.Rules.{rules}
 use Rattle.plan.specs.Run.{ended_in}
 use Rattle.plan.specs.Calls.{verdict_of}
 use Rattle.plan.proofs.runs.end.Goals as goal

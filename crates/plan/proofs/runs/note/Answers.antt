@@ -5,7 +5,6 @@ use lib.ListN.{length, set}
 use Rattle.table.specs.Entries.{entries_of}
 use Rattle.table.proofs.laws.arrays.HeldLists.{length_entries_of}
 use Rattle.plan.specs.inner.Course.{noted}
-use borrow.Author.Rules.{rules}
 use Rattle.plan.proofs.runs.note.Goals as goal
 
 pub returns : goal.returns

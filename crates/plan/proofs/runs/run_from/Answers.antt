@@ -1,16 +1,12 @@
 -- `plan::runs::run_from` meets its contract. The invariant: what is left of the plan, after the rows so far, gives the whole. Assumes
 use mathlib.Core.Path.{◌≡◌}
-use mathlib.Core.List.{[]}
-use Prim.Native.Nat.{◌-◌, ◌<◌}
 use native.Mathlib.Omega.{arith}
 use borrow.Author.Rules.{rules}
-use lib.ListN.{length, get_or}
+use lib.ListN.{length}
 use Rattle.sheet.proofs.laws.base.Prefixes.{length_mapped}
-use Rattle.sheet.specs.inner.Packed.{goal_in, sets_in}
-use Rattle.table.specs.Entries.{entries as tableEntries, lent}
-use Rattle.plan.specs.inner.Course.{counts_in, course_from}
+use Rattle.table.specs.Entries.{entries as tableEntries}
 use Rattle.plan.proofs.laws.searches.ArrayMoves.{slots_room, move_fits}
-use Rattle.plan.proofs.laws.runs.RunLoop.{left, Going, going_start, going_room, going_end, number_below, going_on, going_halt}
+use Rattle.plan.proofs.laws.runs.RunLoop.{going_start, going_room, going_end, number_below, going_on, going_halt}
 use Rattle.plan.proofs.laws.runs.RunLoop.{no_rows, going_note}
 use Rattle.plan.proofs.runs.run_from.Goals as goal
 
@@ -32,8 +28,11 @@ pub bounds-plan-i : goal.bounds-plan-i
 bounds-plan-i c = omega (arith, c.loop-i.invariant.can.most, c.loop-i-test.true)
 
 pub overflow_cast-index : goal.overflow_cast-index
-overflow_cast-index c = omega (arith, (let v = c.loop-i.invariant in number_below v.can v.long c.loop-i-test.true),
-    c.loop-i.invariant.can.fits.most)
+overflow_cast-index c = omega (
+  arith,
+  (let v = c.loop-i.invariant in number_below v.can v.long c.loop-i-test.true),
+  c.loop-i.invariant.can.fits.most,
+)
 
 pub step_here-requires : goal.step_here-requires
 step_here-requires c = move_fits c.loop-i.invariant.can.fits (let v = c.loop-i.invariant in number_below v.can v.long c.loop-i-test.true)

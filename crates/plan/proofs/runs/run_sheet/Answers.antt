@@ -3,7 +3,6 @@ use mathlib.Core.Path.{refl, ◌∙◌}
 use Rattle.table.specs.Entries.{entries}
 use Rattle.plan.proofs.laws.runs.CourseOfBytes.{in_zeros}
 use Rattle.plan.proofs.laws.searches.SheetStarts.{can_run, run_is, run_stops}
-use borrow.Author.Rules.{rules}
 use Rattle.plan.proofs.runs.run_sheet.Goals as goal
 
 pub first_into-requires : goal.first_into-requires

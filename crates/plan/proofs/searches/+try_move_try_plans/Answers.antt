@@ -1,13 +1,13 @@
 -- The cycle {try_move, try_plans}: a move leads to a table whose plans are tried; the plans of a table are those of its moves in turn.
 -- Assumes nothing.
-use mathlib.Core.Path.{◌≡◌, refl, sym, ◌∙◌}
-use Prim.Native.Nat.{◌*◌, ◌-◌, ◌≤◌, ℕ, ◌<◌}
+use mathlib.Core.Path.{refl, sym, ◌∙◌}
+use Prim.Native.Nat.{◌-◌}
 use native.Mathlib.Omega.{arith}
 use borrow.Author.Rules.{rules}
 use Rattle.sheet.specs.inner.Packed.{goal_in, moves_in, sets_in, action_of}
-use Rattle.table.specs.Entries.{entries_of, entries, lent}
+use Rattle.table.specs.Entries.{entries_of, entries}
 use Rattle.plan.proofs.laws.searches.SearchReturns.{no_answer, at_goal, at_short, not_yet, found_now, none_at_all}
-use Rattle.plan.proofs.laws.searches.ArrayMoves.{trues_long, falses_long, slots_room, storable, move_fits}
+use Rattle.plan.proofs.laws.searches.ArrayMoves.{slots_room, storable, move_fits}
 use Rattle.plan.proofs.laws.searches.MemorySlots.{skip, entered, tried}
 use Rattle.plan.proofs.laws.searches.TriedMoves.{can_after, none_after, tried_same, tried_ended, tried_not, tried_full, tried_stopped}
 use Rattle.plan.proofs.searches.+try_move_try_plans.Goals as goal

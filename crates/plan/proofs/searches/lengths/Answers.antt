@@ -1,19 +1,14 @@
 -- `plan::searches::lengths` meets its contract. The loop's invariant: no plan that is shorter has an answer, and what the memory says is
-use mathlib.Core.Path.{◌≡◌, refl, sym, ◌∙◌}
-use Prim.Native.Nat.{◌+◌, ◌-◌, ◌≤◌}
+use mathlib.Core.Path.{refl, sym, ◌∙◌}
 use native.Mathlib.Omega.{arith}
 use borrow.Author.Rules.{rules}
 use Rattle.sheet.specs.inner.Packed.{goal_in, moves_in, sets_in}
 use Rattle.table.specs.Entries.{entries_of, entries}
-use Rattle.plan.specs.Search.{nothing}
 use Rattle.sheet.specs.inner.Packed.{action_of}
-use Rattle.plan.specs.inner.Searches.{first_from}
-use Rattle.plan.proofs.laws.searches.FirstByMove.{first_below}
 use Rattle.plan.proofs.laws.searches.NoShorterPlans.{quiet_lengths}
 use Rattle.plan.proofs.laws.searches.SearchReturns.{length_found, length_next, length_none}
-use lib.ListN as N
-use Rattle.plan.specs.inner.Memory.{Remembers}
 use Rattle.plan.proofs.searches.lengths.Goals as goal
+
 -- so. Assumes nothing.
 
 pub loop-length-init : goal.loop-length-init

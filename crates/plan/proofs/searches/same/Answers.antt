@@ -1,13 +1,11 @@
 -- `plan::searches::same` meets its contract. The invariant: the slots passed agree. Assumes nothing.
 use mathlib.Core.Path.{◌≡◌, sym}
 use mathlib.Core.Bool.{true≢false}
-use Prim.Native.Nat.{◌-◌, ◌≤◌}
 use native.Mathlib.Nat.{not-suc-le-zero}
 use native.Mathlib.Omega.{arith}
-use borrow.Author.Rules.{rules}
 use borrow.Author.Count.{below_more}
 use lib.ListN.{get_or}
-use Rattle.plan.proofs.laws.searches.SameEntries.{Agree, agree_entries}
+use Rattle.plan.proofs.laws.searches.SameEntries.{agree_entries}
 use Rattle.plan.proofs.searches.same.Goals as goal
 
 pub returns-then-count-others : goal.returns-then-count-others

@@ -1,8 +1,5 @@
 -- `plan::searches::search_sheet` meets its contract. Assumes nothing.
 use mathlib.Core.Path.{◌∙◌, refl, sym}
-use borrow.Author.Rules.{rules}
-use Rattle.table.specs.Entries.{lent}
-use Rattle.plan.specs.inner.Searches.{Searchable}
 use Rattle.plan.proofs.laws.searches.SheetStarts.{can_search, search_is, search_stops}
 use Rattle.plan.proofs.laws.searches.ArrayMoves.{trues_long, falses_long}
 use Rattle.plan.proofs.searches.search_sheet.Goals as goal

@@ -1,6 +1,5 @@
 -- `text::is_refused` meets its contract. Assumes nothing.
 use mathlib.Core.Path.{sym, ap}
-use borrow.Author.Rules.{rules}
 use Rattle.plan.specs.Demand3.{refused_verdict}
 use Rattle.plan.proofs.text.is_refused.Goals as goal
 

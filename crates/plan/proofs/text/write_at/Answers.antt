@@ -2,7 +2,6 @@
 use native.Mathlib.Omega.{arith}
 use Rattle.plan.specs.Text.{number_at}
 use Rattle.plan.proofs.laws.text.TextBytes.{wrote_then}
-use borrow.Author.Rules.{rules}
 use Rattle.plan.proofs.text.write_at.Goals as goal
 
 pub returns : goal.returns

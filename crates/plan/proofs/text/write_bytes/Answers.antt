@@ -1,10 +1,10 @@
 -- `text::write_bytes` meets its contract. The invariant: the first i bytes are copied. Assumes nothing.
-use mathlib.Core.Path.{◌≡◌, refl, sym, ap, ◌∙◌}
+use mathlib.Core.Path.{refl, sym, ap, ◌∙◌}
 use mathlib.Core.List.{List}
-use Prim.Native.Nat.{ℕ, ◌+◌, ◌-◌, ◌≤◌}
+use Prim.Native.Nat.{ℕ, ◌+◌}
 use native.Mathlib.Numerals.{add-one}
 use native.Mathlib.Omega.{arith}
-use lib.ListN.{length, set, get_or, length-set}
+use lib.ListN.{set, get_or, length-set}
 use lib.Seq.{paste, paste-zero, paste-suc}
 use Rattle.plan.proofs.laws.text.TextBytes.{wrote_copy}
 use Rattle.plan.proofs.text.write_bytes.Goals as goal

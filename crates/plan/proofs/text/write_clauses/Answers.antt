@@ -2,7 +2,6 @@
 use native.Mathlib.Omega.{arith}
 use borrow.Author.Tests.{eq-eqb, ne_eqb}
 use Rattle.plan.specs.Text.{clauses_text}
-use borrow.Author.Rules.{rules}
 use Rattle.plan.proofs.text.write_clauses.Goals as goal
 
 pub returns-then-clauses-eq-FULL_PICTURE : goal.returns-then-clauses-eq-FULL_PICTURE

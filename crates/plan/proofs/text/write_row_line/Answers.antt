@@ -2,7 +2,6 @@
 use native.Mathlib.Omega.{arith}
 use Rattle.plan.specs.Text.{row_text}
 use Rattle.plan.proofs.laws.text.TextBytes.{wrote_then}
-use borrow.Author.Rules.{rules}
 use Rattle.plan.proofs.text.write_row_line.Goals as goal
 
 pub returns : goal.returns

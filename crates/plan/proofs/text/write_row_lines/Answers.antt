@@ -1,9 +1,7 @@
 -- `text::write_row_lines` meets its contract. The invariant: the rows below i are written. Assumes nothing.
 use mathlib.Core.Path.{◌≡◌, refl, subst, ◌∙◌}
-use Prim.Native.Nat.{ℕ, ◌+◌, ◌*◌, ◌-◌, ◌≤◌}
+use Prim.Native.Nat.{ℕ}
 use native.Mathlib.Omega.{arith}
-use lib.ListN.{length}
-use borrow.Author.Rules.{rules}
 use Rattle.plan.specs.inner.Course.{counts_in}
 use Rattle.plan.specs.inner.Rows.{rows_below}
 use Rattle.plan.specs.Text.{rows_text}

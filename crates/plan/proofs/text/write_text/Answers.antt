@@ -1,7 +1,6 @@
 -- `text::write_text` meets its contract: the header, the rows and the last line one after the other. Assumes nothing.
 use mathlib.Core.Path.{sym, ◌∙◌}
 use native.Mathlib.Omega.{arith}
-use borrow.Author.Rules.{rules}
 use Rattle.plan.proofs.laws.text.TextBytes.{wrote_then, refused_text, whole_text}
 use Rattle.plan.proofs.text.write_text.Goals as goal
 

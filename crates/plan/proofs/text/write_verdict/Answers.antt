@@ -2,7 +2,6 @@
 use native.Mathlib.Omega.{arith}
 use Rattle.plan.specs.Text.{last_line}
 use Rattle.plan.proofs.laws.text.TextBytes.{wrote_then}
-use borrow.Author.Rules.{rules}
 use Rattle.plan.proofs.text.write_verdict.Goals as goal
 
 -- a verdict of one piece: its line, by what the verdict is

@@ -21,7 +21,7 @@ read_then s (byte rule next) f at = go (byte_at s rule at) (λ b rest. read_then
   where
     go : (r : Read ℕ) → ((b rest : ℕ) → read s (next b >>= f) rest ≡ then_read (read s (next b) rest) (λ a n. read s (f a) n))
         → then_read r (λ b rest. read s (next b >>= f) rest) ≡ then_read (then_read r (λ b rest. read s (next b) rest))
-            (λ a n. read s (f a) n)
+        (λ a n. read s (f a) n)
     go (item b rest) ih = ih b rest
     go (fault k p) ih = refl
 

@@ -160,7 +160,7 @@ short_open s p e t k q f = omega (arith, before)
     before l =
         let start : due sheet (take q s) ≡ some r.form = rw (take-append-le q s t (omega arith)) at r.before in
         let rest = sym (due_append sheet (take q s) (get_or s q 0 ∷ drop (suc q) s) start) ∙ ap (due sheet) (sym (split_at s q 0 l)) ∙ all
-            in
+        in
         let number = rw (drop-append-le q s t (omega arith), drop-cons s q 0 l) at r.number in
         r.wrong (sym number ∙ due_fine r.form (get_or s q 0) (drop (suc q) s) (drop (suc q) s ++ t) rest)
 
@@ -169,7 +169,7 @@ short_open s p e t k q f = omega (arith, before)
 pub prefix : (s : List ℕ) (x : Statement) → sheet_of s ≡ accepted x → (i : ℕ) → i < length s → sheet_of (take i s) ≡ refused 1 i
 prefix s x e i h =
     let d = due_prefix sheet (take i s) (get_or s i 0) (drop (suc i) s) (ap (due sheet) (sym (split_at s i 0 h)) ∙ (accepted_iff s x).0 e)
-        in
+    in
     rw (append-nil, length-take-le i s (omega arith)) at (refused_at (take i s) [] (byte d.0 d.1) 1 d.2 refl (λ z. omega arith))
 
 pub longer : (s : List ℕ) (x : Statement) → sheet_of s ≡ accepted x → (c : ℕ) (t : List ℕ) → sheet_of (s ++ (c ∷ t)) ≡ refused 6 (length s)

@@ -126,7 +126,7 @@ returns c =
             oneofs = after-clauses-at2.clauses_at-oneofs.result.value;
           }))
           (facts_read (section_read _ _ (oneofs_left after-mark-ors.before.before.before.before.before.before)
-              after-clauses-at2.clauses_at-oneofs.ensures
+          after-clauses-at2.clauses_at-oneofs.ensures
           after-mark-oneofs.in-At-mark_oneofs.is)),
       n_most counted,
     )

@@ -149,7 +149,7 @@ returns-in_default-mark_goal c =
     let z = c in
     refused_so _ _ _ c.refuse_at-in_default-mark_goal.ensures
     (sheet_refused _ _ (goal_left (after_mark_moves z.before.before.before.before)) same z.sets_at-mark_goal.ensures
-        c.in_default-mark_goal.is)
+    c.in_default-mark_goal.is)
 
 plan_at-plan-requires : tie.Need-plan_at-plan-requires
 plan_at-plan-requires c κs =

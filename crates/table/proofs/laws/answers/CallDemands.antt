@@ -221,7 +221,7 @@ module _ (s : List ℕ) (x : Statement) (says : Says s x) (t : Table) (m : ℕ) 
         go : (o ≡ Outcome.refused 24) ⊎
             ((o ≡ Outcome.refused 25) ⊎ ((o ≡ Outcome.refused 21) ⊎ ((u : List Literals) × (o ≡ Outcome.table u))))
             → ((step_of (sheet_of s) t m).answer ≡ Accepted) ⊎
-                (((step_of (sheet_of s) t m).answer ≡ Refused 21 0) × (put_images x t m ≡ none))
+            (((step_of (sheet_of s) t m).answer ≡ Refused 21 0) × (put_images x t m ≡ none))
         go (inl e) = absurd (f (step_undefined.0 (inl ((number 24 (inl refl)).1 (on, fits, e)))))
         go (inr (inl e)) = absurd (f (step_undefined.0 (inr ((number 25 (inr (inl refl))).1 (on, fits, e)))))
         go (inr (inr (inl e))) = inr ((number 21 (inr (inr refl))).1 (on, fits, e), (filled.0 e).2)

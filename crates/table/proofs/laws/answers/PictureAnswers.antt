@@ -25,7 +25,7 @@ use Rattle.table.proofs.laws.slots.DescribedTables.{described_iff}
 -- a fault of the sheet comes first
 pub picture_fault : (s : List ℕ) (t : Table) (buffer : List ℕ) (k p : ℕ) → sheet_of s ≡ refused k p
     → (picture_of (sheet_of s) t (length buffer) ≡ record { answer = Refused k p; clauses = 0 }) ×
-        (buffer_of (sheet_of s) t buffer ≡ buffer)
+    (buffer_of (sheet_of s) t buffer ≡ buffer)
 unfolding picture_of buffer_of refusal
 picture_fault s t buffer k p e = (rw e, rw e)
 

@@ -109,7 +109,7 @@ module _ (f : Literals → Bool) (n : ℕ) (ts₀ fs₀ : List ℕ) (held : Held
         → Moved f n ts₀ fs₀ (set ts i 0) (set fs i 0) k (i + 1)
     moved_gone lt t =
         let s : keep f (take (i + 1) (entries_of n ts₀ fs₀)) ≡ kept = keep_less f (entries_of n ts₀ fs₀) i _ (inside lt) (moved_read lt) t
-            in
+        in
         record {
           upto = omega arith;
           behind = omega (arith, m.behind);

@@ -56,7 +56,7 @@ get_d_entries_of n ts fs i h =
 pub take_entries_of : (i n : ℕ) (ts fs : List ℕ) → i ≤ n → take i (entries_of n ts fs) ≡ entries_of i ts fs
 take_entries_of i n ts fs le =
     let long : length (take i (entries_of n ts fs)) ≡ i = length-take-le i (entries_of n ts fs) (omega (arith, length_entries_of n ts fs))
-        in
+    in
     ext_get_or no_literal (take i (entries_of n ts fs)) (entries_of i ts fs) (long ∙ sym (length_entries_of i ts fs))
     (λ j h.
     let lt : j < i = omega (arith, long) in

@@ -100,7 +100,7 @@ module _ (count : ℕ) (xs ys : List ℕ) where
       folds_full q = (
         (λ k. record { full = true; count = 0; trues = sym (pad_nil 256 0) k; falses = sym (pad_nil 256 0) k })
             ∙ ap clause_slots (sym (ap (λ (o : Option (List Literals)). and_then o
-                (λ y. fold 256 y (drop (i + 1) (entries_of count xs ys))))
+            (λ y. fold 256 y (drop (i + 1) (entries_of count xs ys))))
             (told Full q)) ∙ cut),
         omega arith,
       )

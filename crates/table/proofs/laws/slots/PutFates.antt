@@ -123,7 +123,7 @@ module _ (cap n : ℕ) (ts fs : List ℕ) (l : Literals) (held : Held cap n ts f
           ap₂ (λ (x y : ℕ). Added (x - y) (y + 1)) d c ∙ sym (fate_added cap (entries_of n ts fs) l s q),
           at_length _ _ _ _ _ _ (holds_push removed lt l)
               (after_is cap (entries_of n ts fs) l (left (entries_of n ts fs) l ++ l ∷ []) _ (put_added cap (entries_of n ts fs) l s q)
-                  refl),
+              refl),
         )
 
     -- no more are left than there were

@@ -7,7 +7,6 @@ use Rattle.sheet.specs.Format.{refused as faulty, sheet_of}
 use Rattle.table.specs.declared.starts.Started.{Started}
 use Rattle.table.specs.declared.starts.Started.TheVariants as started
 use Rattle.table.specs.declared.TableAnswer.{TableAnswer}
-use Rattle.table.specs.Minimal.{table}
 use Rattle.table.specs.Entries.{table_of}
 use Rattle.table.specs.inner.Starts.{start_answer}
 use Rattle.table.specs.Calls.{start_of}

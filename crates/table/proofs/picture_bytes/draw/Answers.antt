@@ -1,9 +1,7 @@
 -- `table::picture_bytes::draw` meets its contract. Assumes nothing.
 use mathlib.Core.Path.{sym, ◌∙◌}
 use native.Mathlib.Omega.{arith}
-use borrow.Author.Tests.{not-true, not-false}
 use Rattle.table.proofs.laws.pictures.PictureCall.{described_count, not_described, too_many, too_short_lem, all_written}
-use borrow.Author.Rules.{rules}
 use Rattle.table.proofs.picture_bytes.draw.Goals as goal
 
 pub returns-then-not-described : goal.returns-then-not-described
@@ -23,7 +21,7 @@ pub returns-then-sorted : goal.returns-then-sorted
 returns-then-sorted c =
     let both = too_many _ _ _ (sym c.described.ensures ∙ c.if-not-described.false) _
     (c.sorted_clauses-sorted.ensures.value, c.sorted_clauses-sorted.ensures.count_le_most_clauses) c.if-sorted.true _
-        c.refuse_picture-then-sorted.ensures in record { value = both.0; buffer_after = both.1 }
+    c.refuse_picture-then-sorted.ensures in record { value = both.0; buffer_after = both.1 }
 
 pub overflow_mul-clauses : goal.overflow_mul-clauses
 overflow_mul-clauses c = omega (arith, c.sorted_clauses-sorted.ensures.count_le_most_clauses)
@@ -35,11 +33,11 @@ pub returns-then-buffer-clauses : goal.returns-then-buffer-clauses
 returns-then-buffer-clauses c =
     let both = too_short_lem _ _ _ (sym c.described.ensures ∙ c.if-not-described.false) _
     (c.sorted_clauses-sorted.ensures.value, c.sorted_clauses-sorted.ensures.count_le_most_clauses) c.if-sorted.false
-        c.if-buffer-clauses.true _ c.refuse_picture-then-buffer-clauses.ensures in record { value = both.0; buffer_after = both.1 }
+    c.if-buffer-clauses.true _ c.refuse_picture-then-buffer-clauses.ensures in record { value = both.0; buffer_after = both.1 }
 
 pub returns : goal.returns
 returns c =
     let both = all_written _ _ _ (sym c.described.ensures ∙ c.if-not-described.false) _
     (c.sorted_clauses-sorted.ensures.value, c.sorted_clauses-sorted.ensures.count_le_most_clauses) c.if-sorted.false _
-        c.if-buffer-clauses.false
+    c.if-buffer-clauses.false
     c.write_picture.ensures in record { value = both.0; buffer_after = both.1 }

@@ -1,17 +1,20 @@
 -- `table::picture_bytes::write_picture` meets its contract. The invariant: the clauses below i are written. Assumes nothing.
 use mathlib.Core.Path.{sym, ◌∙◌}
-use Prim.Native.Nat.{◌+◌, ◌*◌, ◌≤◌, ◌<◌, ◌-◌}
+use Prim.Native.Nat.{◌<◌}
 use native.Mathlib.Omega.{arith}
 use lib.ListN.{length, length-set}
 use Rattle.table.specs.Entries.{entries_of}
 use Rattle.table.proofs.laws.arrays.HeldLists.{length_entries_of, get_d_entries_of}
-use Rattle.table.proofs.laws.pictures.MaskBytes.{Wrote, wrote_start, wrote_step, wrote_end}
+use Rattle.table.proofs.laws.pictures.MaskBytes.{wrote_start, wrote_step, wrote_end}
 use Rattle.table.proofs.picture_bytes.write_picture.Goals as goal
 
 pub loop-i-init : goal.loop-i-init
-loop-i-init c =
-    (simp length-set c.requires.picture_room.long, omega arith, wrote_start _ _
-        (simp (length-set, length_entries_of) c.requires.picture_room.long))
+loop-i-init c = (
+  simp length-set c.requires.picture_room.long,
+  omega arith,
+  wrote_start _ _
+      (simp (length-set, length_entries_of) c.requires.picture_room.long),
+)
 
 pub write_mask-requires-in-loop-i : goal.write_mask-requires-in-loop-i
 write_mask-requires-in-loop-i c = omega (arith, c.write_mask.auto.buffer)

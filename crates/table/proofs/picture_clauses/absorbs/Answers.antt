@@ -6,7 +6,6 @@ use Rattle.sheet.specs.Literals.{within}
 use Rattle.sheet.proofs.laws.base.Bools.{true_T}
 use Rattle.sheet.proofs.laws.base.ListFacts.{any_test}
 use Rattle.table.specs.Entries.{entries_of}
-use borrow.Author.Rules.{rules}
 use Rattle.table.proofs.picture_clauses.absorbs.Goals as goal
 
 pub returns-then-room-count : goal.returns-then-room-count

@@ -1,6 +1,5 @@
 -- `table::picture_clauses::clause_count` meets its contract. Assumes nothing.
 use Rattle.table.proofs.laws.pictures.HandedClauses.{size_full, size_some}
-use borrow.Author.Rules.{rules}
 use Rattle.table.proofs.picture_clauses.clause_count.Goals as goal
 
 pub returns-then-clauses : goal.returns-then-clauses

@@ -1,13 +1,9 @@
 -- `table::picture_clauses::clauses_of` meets its contract. The invariant: the entries from `at` on give the whole. Assumes nothing.
 use mathlib.Core.Path.{refl, sym}
-use Prim.Native.Nat.{◌-◌}
 use native.Mathlib.Omega.{arith}
 use lib.ListN.{replicate}
-use Rattle.table.specs.Picture.{primes}
-use Rattle.table.specs.Entries.{entries_of}
 use Rattle.table.proofs.laws.arrays.HeldLists.{fresh}
-use Rattle.table.proofs.laws.pictures.JoinedClauses.{Folds, folds_start, folds_on, folds_full, folds_end}
-use borrow.Author.Rules.{rules}
+use Rattle.table.proofs.laws.pictures.JoinedClauses.{folds_start, folds_on, folds_full, folds_end}
 use Rattle.table.proofs.picture_clauses.clauses_of.Goals as goal
 
 pub units-filled-requires : goal.units-filled-requires
@@ -48,4 +44,4 @@ loop-at-preserved c =
 pub returns : goal.returns
 returns c =
     let both = folds_end _ _ _ _ _ _ _ _ c.loop-at.invariant c.loop-at-test.false in record
-        { value = both.0; count_le_most_clauses = both.1 }
+    { value = both.0; count_le_most_clauses = both.1 }

@@ -3,7 +3,6 @@ use mathlib.Core.Path.{sym}
 use Rattle.table.specs.Entries.{entries_of}
 use Rattle.table.proofs.laws.arrays.HeldLists.{length_entries_of}
 use Rattle.table.proofs.laws.slots.AbsorbedCandidates.{puts_alone}
-use borrow.Author.Rules.{rules}
 use Rattle.table.proofs.picture_clauses.distribute.Goals as goal
 
 pub returns-then-absorbs : goal.returns-then-absorbs

@@ -2,7 +2,6 @@
 use native.Mathlib.Omega.{arith}
 use Rattle.table.proofs.laws.arrays.HeldLists.{holds_trues_long, holds_falses_long, fresh}
 use Rattle.table.proofs.laws.pictures.JoinedClauses.{folded}
-use borrow.Author.Rules.{rules}
 use Rattle.table.proofs.picture_clauses.fold.Goals as goal
 
 pub units-others-requires : goal.units-others-requires

@@ -1,14 +1,9 @@
 -- `table::picture_clauses::join_lists` meets its contract. The invariant: the clauses from i on are still to be joined. Assumes nothing.
 use mathlib.Core.Path.{refl, ◌∙◌}
-use Prim.Native.Nat.{◌≤◌, ◌-◌}
 use native.Mathlib.Omega.{arith}
-use lib.ListN.{drop}
-use Rattle.table.specs.Picture.{unions}
-use Rattle.table.specs.Entries.{entries_of}
 use Rattle.table.proofs.laws.arrays.HeldLists.{held_own}
-use Rattle.table.proofs.laws.slots.PutLoops.{Going, going_start, going_on, going_full, going_trues_long, going_falses_long, going_end}
+use Rattle.table.proofs.laws.slots.PutLoops.{going_start, going_on, going_full, going_trues_long, going_falses_long, going_end}
 use Rattle.table.proofs.laws.pictures.JoinedClauses.{unions_step, unions_end}
-use borrow.Author.Rules.{rules}
 use Rattle.table.proofs.picture_clauses.join_lists.Goals as goal
 
 pub loop-i-init : goal.loop-i-init
@@ -36,12 +31,11 @@ returns-in_default c =
     c.distribute.ensures c.in_default.is
 
 pub loop-i-preserved : goal.loop-i-preserved
-loop-i-preserved c =
-    (
-      omega (arith, c.loop-i-test.true),
-      going_on _ c.loop-i.invariant.1 (unions_step _ _ _ _ _ c.loop-i-test.true)
-          c.distribute.ensures c.in-To.is,
-    )
+loop-i-preserved c = (
+  omega (arith, c.loop-i-test.true),
+  going_on _ c.loop-i.invariant.1 (unions_step _ _ _ _ _ c.loop-i-test.true)
+      c.distribute.ensures c.in-To.is,
+)
 
 pub shape_of-to_trues : goal.shape_of-to_trues
 shape_of-to_trues c = going_trues_long c.loop-i.invariant.1

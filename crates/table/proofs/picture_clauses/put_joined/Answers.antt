@@ -1,16 +1,9 @@
 -- `table::picture_clauses::put_joined` meets its contract. The invariant: the clauses from i on are still to be joined. Assumes nothing.
 use mathlib.Core.Path.{refl, ◌∙◌}
-use mathlib.Core.List.{map}
-use Prim.Native.Nat.{◌≤◌, ◌-◌}
 use native.Mathlib.Omega.{arith}
-use lib.ListN.{drop}
-use Rattle.sheet.specs.Literals.{join, consistent}
-use Rattle.sheet.specs.Lists.{keep}
-use Rattle.table.specs.Entries.{entries_of}
 use Rattle.table.proofs.laws.arrays.HeldLists.{held_own}
-use Rattle.table.proofs.laws.slots.PutLoops.{Going, going_start, going_on, going_full, going_trues_long, going_falses_long, going_end}
+use Rattle.table.proofs.laws.slots.PutLoops.{going_start, going_on, going_full, going_trues_long, going_falses_long, going_end}
 use Rattle.table.proofs.laws.slots.ConsistentCandidates.{joined_entry, joined_none}
-use borrow.Author.Rules.{rules}
 use Rattle.table.proofs.picture_clauses.put_joined.Goals as goal
 
 pub loop-i-init : goal.loop-i-init
@@ -35,13 +28,12 @@ returns-in_default c =
     c.in_default.is
 
 pub loop-i-preserved : goal.loop-i-preserved
-loop-i-preserved c =
-    (
-      omega (arith, c.loop-i-test.true),
-      going_on _ c.loop-i.invariant.1
-          (joined_entry _ _ _ _ _ _ c.loop-i-test.true c.join.ensures) c.admit.ensures
-          c.in-To.is,
-    )
+loop-i-preserved c = (
+  omega (arith, c.loop-i-test.true),
+  going_on _ c.loop-i.invariant.1
+      (joined_entry _ _ _ _ _ _ c.loop-i-test.true c.join.ensures) c.admit.ensures
+      c.in-To.is,
+)
 
 pub shape_of-to_trues : goal.shape_of-to_trues
 shape_of-to_trues c = going_trues_long c.loop-i.invariant.1

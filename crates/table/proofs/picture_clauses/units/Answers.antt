@@ -1,11 +1,8 @@
 -- `table::picture_clauses::units` meets its contract. The invariant: the literals before l stand in the slots. Assumes nothing.
 use mathlib.Core.Path.{sym, ◌∙◌}
-use Prim.Native.Nat.{◌-◌}
 use native.Mathlib.Omega.{arith}
-use lib.ListN.{length}
 use Rattle.table.proofs.laws.arrays.HeldLists.{holds_falses_long}
-use Rattle.table.proofs.laws.pictures.UnitClauses.{Listed, listed_start, listed_on, listed_less, listed_end}
-use borrow.Author.Rules.{rules}
+use Rattle.table.proofs.laws.pictures.UnitClauses.{listed_start, listed_on, listed_less, listed_end}
 use Rattle.table.proofs.picture_clauses.units.Goals as goal
 
 pub loop-l-init : goal.loop-l-init

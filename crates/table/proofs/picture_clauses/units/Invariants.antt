@@ -1,17 +1,11 @@
 -- `table::picture_clauses::units` meets its contract. The invariant: the literals before l stand in the slots. Assumes nothing.
-use mathlib.Core.Path.{sym, ◌∙◌}
 use Prim.Native.Nat.{◌-◌}
-use native.Mathlib.Omega.{arith}
 use lib.ListN.{length}
-use Rattle.table.proofs.laws.arrays.HeldLists.{holds_falses_long}
-use Rattle.table.proofs.laws.pictures.UnitClauses.{Listed, listed_start, listed_on, listed_less, listed_end}
-use borrow.Author.Rules.{rules}
+use Rattle.table.proofs.laws.pictures.UnitClauses.{Listed}
 use Rattle.table.proofs.picture_clauses.units.Given as goal
 
 abbrev pub invariant-loop-l : goal.invariant-loop-l
 invariant-loop-l l = Listed (length l.initial.to_trues) l.entry l.l l.filled l.to_trues l.to_falses
 
-
 abbrev pub decreases-loop-l : goal.decreases-loop-l
 decreases-loop-l l = 64 - l.l
-

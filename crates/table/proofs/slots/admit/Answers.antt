@@ -1,6 +1,5 @@
 -- `table::slots::admit` meets its contract. Assumes nothing.
 use mathlib.Core.Path.{sym, ◌∙◌}
-use borrow.Author.Rules.{rules}
 use Rattle.table.proofs.laws.slots.PutLoops.{nothing_put, puts_is}
 use Rattle.table.proofs.laws.slots.ConsistentCandidates.{kept_one, left_out}
 use Rattle.table.proofs.slots.admit.Goals as goal

@@ -1,8 +1,5 @@
 -- `numbers::copy_masks` meets its contract. The invariant: the members below i are copied. Assumes nothing.
-use Prim.Native.Nat.{◌-◌}
-use native.Mathlib.Omega.{arith}
-use lib.ListN.{length}
-use Rattle.sheet.proofs.laws.base.Copying.{Copied, copied_start, copied_step, copied_end}
+use Rattle.sheet.proofs.laws.base.Copying.{copied_start, copied_step, copied_end}
 use Rattle.table.proofs.slots.copy_masks.Goals as goal
 
 pub loop-i-init : goal.loop-i-init

@@ -1,9 +1,8 @@
 -- `table::slots::first_above` meets its contract. The invariant: none of the first i entries contains l. Assumes nothing.
 use mathlib.Core.Path.{◌≡◌, refl, sym, ap, ◌∙◌}
-use Prim.Native.Nat.{ℕ, ◌-◌, ◌≤◌}
+use Prim.Native.Nat.{ℕ}
 use native.Mathlib.Numerals.{add-one}
 use native.Mathlib.Omega.{arith}
-use borrow.Author.Rules.{rules}
 use Rattle.sheet.specs.Literals.{within}
 use Rattle.table.specs.declared.slots.Found.TheVariants.{Nothing}
 use Rattle.table.specs.Fates.{last_of}

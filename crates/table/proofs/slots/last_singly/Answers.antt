@@ -1,11 +1,8 @@
 -- `slots::last_singly` meets its contract. The invariant: what the first i entries give is what all give. Assumes nothing.
-use mathlib.Core.Path.{◌≡◌, refl, sym, ◌∙◌}
-use Prim.Native.Nat.{◌≤◌, ◌-◌}
+use mathlib.Core.Path.{refl, sym, ◌∙◌}
+use Prim.Native.Nat.{◌-◌}
 use native.Mathlib.Omega.{arith}
-use borrow.Author.Rules.{rules}
 use Rattle.sheet.specs.Literals.{within}
-use Rattle.table.specs.Fates.{last_within}
-use Rattle.table.specs.Entries.{entries_of}
 use Rattle.table.proofs.laws.slots.LastWithin.{shown, hit, missed, none_left}
 use Rattle.table.proofs.slots.last_singly.Goals as goal
 

@@ -1,5 +1,4 @@
 -- `slots::offer` meets its contract. Assumes nothing.
-use borrow.Author.Rules.{rules}
 use Rattle.table.proofs.laws.slots.PutFates.{offered}
 use Rattle.table.proofs.slots.offer.Goals as goal
 

@@ -2,7 +2,6 @@
 use mathlib.Core.Path.{refl, sym}
 use Prim.Native.Nat.{◌-◌}
 use native.Mathlib.Omega.{arith}
-use borrow.Author.Rules.{rules}
 use Rattle.sheet.specs.Literals.{within}
 use Rattle.table.proofs.laws.arrays.HeldLists.{holds_room}
 use Rattle.table.proofs.laws.slots.LastWithin.{shown, hit, found_some}

@@ -1,11 +1,6 @@
 -- `slots::put` meets its contract. Assumes nothing.
-use mathlib.Core.Path.{◌≡◌, sym, ◌∙◌}
-use mathlib.Core.Bool.{false}
-use Rattle.sheet.specs.Literals.{within}
-use Rattle.sheet.specs.Lists.{any_of}
-use Rattle.table.specs.Entries.{entries_of}
+use mathlib.Core.Path.{sym, ◌∙◌}
 use native.Mathlib.Omega.{arith}
-use borrow.Author.Rules.{rules}
 use Rattle.table.proofs.laws.arrays.HeldLists.{holds_trues_long, holds_falses_long, holds_room}
 use Rattle.table.proofs.laws.slots.LastWithin.{found_some, found_none}
 use Rattle.table.proofs.laws.slots.PutFates.{dropped, full, placed, fewer}
@@ -31,7 +26,7 @@ overflow_sub-result c =
 pub returns-in-At : goal.returns-in-At
 returns-in-At c =
     let both = dropped _ _ _ _ _ c.requires (found_some _ _ _ _ c.last_within.ensures c.in-At.is) in record
-        { value = both.0; holds = both.1 }
+    { value = both.0; holds = both.1 }
 
 pub returns-else-remaining-trues : goal.returns-else-remaining-trues
 returns-else-remaining-trues c =

@@ -2,18 +2,14 @@
 use mathlib.Core.Path.{sym, ap, subst, ◌∙◌}
 use mathlib.Core.Bool.{not}
 use mathlib.Core.List.{List}
-use mathlib.Core.Logic.{⊎_elim}
-use Prim.Native.Nat.{◌-◌}
 use native.Mathlib.Omega.{arith}
 use lib.ListN.{length, length-set}
-use borrow.Author.Rules.{rules}
-use borrow.Author.Tests.{not-true}
 use Rattle.sheet.specs.declared.Literals.{Literals}
 use Rattle.sheet.specs.Literals.{within}
 use Rattle.table.specs.inner.Slots.{Holds}
 use Rattle.table.proofs.laws.arrays.HeldLists.{holds_falses_long, holds_room}
 use Rattle.table.proofs.laws.arrays.KeptMembers.{none_goes}
-use Rattle.table.proofs.laws.arrays.Compaction.{Moved, moved_is, moved_start, moved_gone, moved_kept, moved_end}
+use Rattle.table.proofs.laws.arrays.Compaction.{moved_is, moved_start, moved_gone, moved_kept, moved_end}
 use Rattle.table.proofs.slots.remove.Goals as goal
 use Rattle.table.proofs.slots.remove.Goals.{else-not-within, then-not-within}
 
@@ -41,7 +37,7 @@ loop-i-preserved c =
     let g = c.loop-i.invariant in
     let w = c.within.ensures in
     elim c.if-not-within.branch [
-      then-not-within v ↦ moved_is _ _ _ _ _ _ _ _ _ _ _ v.trues-is v.falses-is v.filled-is
+      | then-not-within v ↦ moved_is _ _ _ _ _ _ _ _ _ _ _ v.trues-is v.falses-is v.filled-is
           (moved_kept _ _ _ _ h _ _ _ _ g (omega arith) (ap not (sym w ∙ v.if-not-within.true)))
       | else-not-within v ↦ moved_is _ _ _ _ _ _ _ _ _ _ _ v.trues-is v.falses-is v.filled-is
           (moved_gone _ _ _ _ h _ _ _ _ g (omega arith) (ap not (sym w ∙ v.if-not-within.false)))

@@ -1,12 +1,8 @@
 -- `slots::some_above` meets its contract. The invariant: what was found, or the entries from i on decide. Assumes nothing.
 use mathlib.Core.Path.{refl}
-use mathlib.Core.Logic.{⊎_elim}
-use Prim.Native.Nat.{◌-◌}
 use native.Mathlib.Omega.{arith}
-use borrow.Author.Rules.{rules}
-use Rattle.sheet.specs.Literals.{within}
 use Rattle.table.specs.inner.Slots.{slot}
-use Rattle.table.proofs.laws.arrays.EntryLoops.{AnyFrom, any_start, any_hit, any_missed, any_told}
+use Rattle.table.proofs.laws.arrays.EntryLoops.{any_start, any_hit, any_missed, any_told}
 use Rattle.table.proofs.slots.some_above.Goals as goal
 use Rattle.table.proofs.slots.some_above.Goals.{else-within, then-within}
 
@@ -15,7 +11,7 @@ unfolding slot
 loop-i-preserved c =
     let g = c.loop-i.invariant in
     elim c.if-within.branch [
-      then-within v ↦ any_hit g (omega arith) refl c.within.ensures v.if-within.true v.found-is
+      | then-within v ↦ any_hit g (omega arith) refl c.within.ensures v.if-within.true v.found-is
       | else-within v ↦ any_missed g (omega arith) refl c.within.ensures v.if-within.false v.found-is
     ]
 

@@ -1,18 +1,11 @@
 -- `slots::some_above` meets its contract. The invariant: what was found, or the entries from i on decide. Assumes nothing.
-use mathlib.Core.Path.{refl}
-use mathlib.Core.Logic.{⊎_elim}
 use Prim.Native.Nat.{◌-◌}
-use native.Mathlib.Omega.{arith}
-use borrow.Author.Rules.{rules}
 use Rattle.sheet.specs.Literals.{within}
-use Rattle.table.specs.inner.Slots.{slot}
-use Rattle.table.proofs.laws.arrays.EntryLoops.{AnyFrom, any_start, any_hit, any_missed, any_told}
+use Rattle.table.proofs.laws.arrays.EntryLoops.{AnyFrom}
 use Rattle.table.proofs.slots.some_above.Given as goal
 
 abbrev pub invariant-loop-i : goal.invariant-loop-i
 invariant-loop-i l = AnyFrom (λ e. within l.candidate e) l.count l.trues l.falses l.found l.i
 
-
 abbrev pub decreases-loop-i : goal.decreases-loop-i
 decreases-loop-i l = l.count - l.i
-

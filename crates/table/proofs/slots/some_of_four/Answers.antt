@@ -2,7 +2,6 @@
 use mathlib.Core.Path.{ap₂}
 use mathlib.Core.Bool.{Bool, ◌||◌}
 use Rattle.table.proofs.laws.slots.LastWithin.{tested}
-use borrow.Author.Rules.{rules}
 use Rattle.table.proofs.slots.some_of_four.Goals as goal
 
 pub returns : goal.returns

@@ -1,10 +1,6 @@
 -- `slots::some_within` meets its contract. The invariant: what was found, or the entries from i on decide. Assumes nothing.
-use mathlib.Core.Logic.{⊎_elim}
-use Prim.Native.Nat.{◌-◌}
 use native.Mathlib.Omega.{arith}
-use borrow.Author.Rules.{rules}
-use Rattle.sheet.specs.Literals.{within}
-use Rattle.table.proofs.laws.arrays.EntryLoops.{AnyFrom, any_start, any_hit, any_missed, any_told}
+use Rattle.table.proofs.laws.arrays.EntryLoops.{any_start, any_hit, any_missed, any_told}
 use Rattle.table.proofs.slots.some_within.Goals as goal
 use Rattle.table.proofs.slots.some_within.Goals.{else-within, then-within}
 
@@ -12,7 +8,7 @@ pub loop-i-preserved : goal.loop-i-preserved
 loop-i-preserved c =
     let g = c.loop-i.invariant in
     elim c.if-within.branch [
-      then-within v ↦ any_hit g (omega arith) c.entry_at-e.ensures c.within.ensures v.if-within.true v.some-is
+      | then-within v ↦ any_hit g (omega arith) c.entry_at-e.ensures c.within.ensures v.if-within.true v.some-is
       | else-within v ↦ any_missed g (omega arith) c.entry_at-e.ensures c.within.ensures v.if-within.false v.some-is
     ]
 

@@ -10,17 +10,14 @@ use Rattle.table.specs.Entries.{table_of}
 use Rattle.table.specs.Calls.{or_given}
 use Rattle.table.proofs.laws.starts.PackedClauses.{ors_fit, oneofs_fit}
 use Rattle.table.proofs.laws.starts.StartArrays.{first_held, first_grown, first_on, first_refused}
-use borrow.Author.Rules.{rules}
 use Rattle.table.proofs.starts.first_into.Goals as goal
 
 -- the clauses of a sheet's two sections
 
 abbrev ors_of : Sheet → List ℕ → List Clause
-
 ors_of x packed = map or_of (clauses_at x.ors (ors_in packed))
 
 abbrev oneofs_of : Sheet → List ℕ → List Clause
-
 oneofs_of x packed = map one_of (clauses_at x.oneofs (oneofs_in packed))
 
 pub grow_all-requires : goal.grow_all-requires

@@ -2,7 +2,6 @@
 use mathlib.Core.List.{[]}
 use Rattle.table.proofs.laws.arrays.HeldLists.{fresh, holds_room}
 use Rattle.table.proofs.laws.starts.StartArrays.{right_refused, right_table, grown_full, grown_empty, grown_table}
-use borrow.Author.Rules.{rules}
 use Rattle.table.proofs.starts.grow.Goals as goal
 
 pub widen_all-requires : goal.widen_all-requires

@@ -1,16 +1,8 @@
 -- `table::starts::grow_all` meets its contract. The invariant: the clauses from i on give the whole. Assumes nothing.
 use mathlib.Core.Path.{refl}
-use mathlib.Core.List.{map}
-use Prim.Native.Nat.{◌≤◌, ◌-◌}
 use native.Mathlib.Omega.{arith}
-use lib.ListN.{drop}
-use borrow.Author.Rules.{rules}
-use Rattle.sheet.specs.inner.Packed.{clauses_at}
-use Rattle.table.specs.Start.{grow_all}
-use Rattle.table.specs.Entries.{entries_of}
-use Rattle.table.specs.inner.Starts.{clause_of}
 use Rattle.table.proofs.laws.starts.PackedClauses.{clause_fits, clauses_step, clauses_end}
-use Rattle.table.proofs.laws.starts.StartArrays.{Sections, sections_on, sections_refused, sections_end}
+use Rattle.table.proofs.laws.starts.StartArrays.{sections_on, sections_refused, sections_end}
 use Rattle.table.proofs.starts.grow_all.Goals as goal
 
 pub loop-i-init : goal.loop-i-init
@@ -30,13 +22,12 @@ returns-in-Refused c =
     c.grow.ensures _ _ c.in-Refused.is
 
 pub loop-i-preserved : goal.loop-i-preserved
-loop-i-preserved c =
-    (
-      omega arith,
-      sections_on c.loop-i.invariant.1
-          (clauses_step c.args.exclusive _ _ _ c.loop-i-test.true) _ _ _
-          c.grow.ensures _ c.in-To.is,
-    )
+loop-i-preserved c = (
+  omega arith,
+  sections_on c.loop-i.invariant.1
+      (clauses_step c.args.exclusive _ _ _ c.loop-i-test.true) _ _ _
+      c.grow.ensures _ c.in-To.is,
+)
 
 pub returns : goal.returns
 returns c = sections_end c.loop-i.invariant.1 (clauses_end c.args.exclusive _ _ _ c.loop-i-test.false)

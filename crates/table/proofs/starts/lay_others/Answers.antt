@@ -1,13 +1,9 @@
 -- `table::starts::lay_others` meets its contract. The invariant: the others below j are laid out. Assumes nothing.
-use mathlib.Core.Path.{◌≡◌, refl, sym, ◌∙◌}
-use mathlib.Core.Logic.{⊎_elim}
-use Prim.Native.Nat.{◌≤◌, ◌-◌}
+use mathlib.Core.Path.{refl, sym, ◌∙◌}
 use native.Mathlib.Omega.{arith}
-use borrow.Author.Rules.{rules}
-use lib.ListN.{length, length-set}
-use Rattle.sheet.specs.inner.Packed.{sets_in}
+use lib.ListN.{length-set}
 use Rattle.table.proofs.laws.starts.PackedClauses.{alts_step, alts_end}
-use Rattle.table.proofs.laws.starts.OtherAlternatives.{Laying, laying_start, laying_one, laying_none, laying_end}
+use Rattle.table.proofs.laws.starts.OtherAlternatives.{laying_start, laying_one, laying_none, laying_end}
 use Rattle.table.proofs.starts.lay_others.Goals as goal
 use Rattle.table.proofs.starts.lay_others.Goals.{else-j-i, then-j-i}
 
@@ -21,18 +17,18 @@ loop-j-preserved c =
     let w = c.loop-j.invariant in
     let e = c.count_of-size.ensures in
     elim c.if-j-i.branch [
-      then-j-i v ↦ rw (v.laid-is, v.filled-is) (
-      omega arith,
-      simp length-set w.1,
-      laying_one _ _ _ _ _ _ w.2
-          (alts_step _ e c.loop-j-test.true v.set_at-a.ensures) v.if-j-i.true (omega (arith, w.2.few)),
-    )
+      | then-j-i v ↦ rw (v.laid-is, v.filled-is) (
+        omega arith,
+        simp length-set w.1,
+        laying_one _ _ _ _ _ _ w.2
+            (alts_step _ e c.loop-j-test.true v.set_at-a.ensures) v.if-j-i.true (omega (arith, w.2.few)),
+      )
       | else-j-i v ↦ rw (v.laid-is, v.filled-is) (
-      omega arith,
-      w.1,
-      laying_none _ _ _ _ _ _ w.2 (alts_step _ e c.loop-j-test.true refl)
-          v.if-j-i.false,
-    )
+        omega arith,
+        w.1,
+        laying_none _ _ _ _ _ _ w.2 (alts_step _ e c.loop-j-test.true refl)
+            v.if-j-i.false,
+      )
     ]
 
 pub shape_of-laid : goal.shape_of-laid

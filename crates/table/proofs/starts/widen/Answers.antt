@@ -12,7 +12,6 @@ use Rattle.sheet.specs.inner.Packed.{sets_in}
 use Rattle.table.specs.Start.{candidates}
 use Rattle.table.specs.inner.Starts.{clause_of}
 use Rattle.table.proofs.laws.slots.PutLoops.{puts_is}
-use borrow.Author.Rules.{rules}
 use Rattle.table.proofs.starts.widen.Goals as goal
 
 -- the candidates of a clause of the kind v, where v is what was asked
@@ -20,7 +19,6 @@ use Rattle.table.proofs.starts.widen.Goals as goal
 of_kind : (alts : List ℕ) (entry : Literals) {b v : Bool} {k : ℕ} {ts fs : List ℕ} {r : Grown} {us gs : List ℕ} → b ≡ v
     → Puts (keep L.consistent (candidates (clause_of v (sets_in alts)) entry)) k ts fs r us gs
     → Puts (keep L.consistent (candidates (clause_of b (sets_in alts)) entry)) k ts fs r us gs
-
 of_kind alts entry e w = puts_is (sym (ap (λ (x : Bool). keep L.consistent (candidates (clause_of x (sets_in alts)) entry)) e)) w
 
 pub returns-then-exclusive : goal.returns-then-exclusive

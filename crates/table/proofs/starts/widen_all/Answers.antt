@@ -1,18 +1,9 @@
 -- `table::starts::widen_all` meets its contract. The invariant: the entries from i on give the whole. Assumes nothing.
 use mathlib.Core.Path.{refl}
-use Prim.Native.Nat.{◌≤◌, ◌-◌}
 use native.Mathlib.Omega.{arith}
-use lib.ListN.{drop}
-use borrow.Author.Rules.{rules}
-use Rattle.sheet.specs.Lists.{collect, keep}
-use Rattle.sheet.specs.Literals as L
-use Rattle.sheet.specs.inner.Packed.{sets_in}
-use Rattle.table.specs.Entries.{entries_of}
-use Rattle.table.specs.Start.{candidates}
-use Rattle.table.specs.inner.Starts.{clause_of}
 use Rattle.table.proofs.laws.arrays.HeldLists.{held_own}
 use Rattle.table.proofs.laws.slots.ConsistentCandidates.{collect_entry, collect_none}
-use Rattle.table.proofs.laws.slots.PutLoops.{Going, going_start, going_on, going_full, going_end}
+use Rattle.table.proofs.laws.slots.PutLoops.{going_start, going_on, going_full, going_end}
 use Rattle.table.proofs.starts.widen_all.Goals as goal
 
 pub loop-i-init : goal.loop-i-init
@@ -28,12 +19,11 @@ returns-in_default c =
     c.widen.ensures c.in_default.is
 
 pub loop-i-preserved : goal.loop-i-preserved
-loop-i-preserved c =
-    (
-      omega arith,
-      going_on _ c.loop-i.invariant.1 (collect_entry _ _ _ _ _ c.loop-i-test.true)
-          c.widen.ensures c.in-To.is,
-    )
+loop-i-preserved c = (
+  omega arith,
+  going_on _ c.loop-i.invariant.1 (collect_entry _ _ _ _ _ c.loop-i-test.true)
+      c.widen.ensures c.in-To.is,
+)
 
 pub returns : goal.returns
 returns c = going_end c.loop-i.invariant.1 (collect_none _ _ _ _ _ c.loop-i-test.false)

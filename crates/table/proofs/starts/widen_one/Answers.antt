@@ -3,7 +3,6 @@ use mathlib.Core.Path.{◌≡◌, sym, ap, ap₂, ◌∙◌}
 use mathlib.Core.List.{List}
 use Prim.Native.Nat.{ℕ, ◌<◌, ◌*◌}
 use lib.ListN.{get_or, drop}
-use borrow.Author.Tests.{not-true, not-false}
 use Rattle.sheet.specs.declared.Literals.{Literals}
 use Rattle.sheet.specs.Literals as L
 use Rattle.sheet.specs.Lists.{keep}
@@ -13,14 +12,12 @@ use Rattle.table.specs.inner.Starts.{others}
 use Rattle.table.proofs.laws.starts.PackedClauses.{alt_at}
 use Rattle.table.proofs.laws.slots.PutLoops.{nothing_put, puts_is}
 use Rattle.table.proofs.laws.starts.FalsifiedAlternatives.{cut}
-use borrow.Author.Rules.{rules}
 use Rattle.table.proofs.starts.widen_one.Goals as goal
 
 -- the alternative is read in its slot
 
 picked : (laid : List ℕ) (i : ℕ) (d a w : Literals) → i < get_or laid 0 0 → a ≡ set_from (drop 1 laid) (2 * i) → w ≡ L.join d a
     → w ≡ L.join d (get_or (sets_in laid) i L.no_literal)
-
 picked laid i d a w h q e = e ∙ ap (L.join d) (sym (alt_at laid i a h q))
 
 pub returns-then-not-consistent : goal.returns-then-not-consistent

@@ -1,17 +1,10 @@
 -- `table::starts::widen_or` meets its contract. The invariant: the alternatives from i on give the whole. Assumes nothing.
 use mathlib.Core.Path.{refl}
-use mathlib.Core.List.{map}
-use Prim.Native.Nat.{◌≤◌, ◌-◌}
 use native.Mathlib.Omega.{arith}
-use lib.ListN.{drop}
-use borrow.Author.Rules.{rules}
-use Rattle.sheet.specs.Literals as L
-use Rattle.sheet.specs.Lists.{keep}
-use Rattle.sheet.specs.inner.Packed.{sets_in}
 use Rattle.table.proofs.laws.starts.PackedClauses.{alts_step, alts_end}
 use Rattle.table.proofs.laws.slots.ConsistentCandidates.{joined_step, joined_end}
 use Rattle.table.proofs.laws.arrays.HeldLists.{held_own}
-use Rattle.table.proofs.laws.slots.PutLoops.{Going, going_start, going_on, going_full, going_end}
+use Rattle.table.proofs.laws.slots.PutLoops.{going_start, going_on, going_full, going_end}
 use Rattle.table.proofs.starts.widen_or.Goals as goal
 
 pub loop-i-init : goal.loop-i-init
@@ -27,14 +20,13 @@ returns-in_default c =
     c.set_at-a.ensures) c.join.ensures) c.admit.ensures c.in_default.is
 
 pub loop-i-preserved : goal.loop-i-preserved
-loop-i-preserved c =
-    (
-      omega arith,
-      going_on _ c.loop-i.invariant.1
-          (joined_step _ _ _ _ _ (alts_step _ c.count_of-size.ensures c.loop-i-test.true
-          c.set_at-a.ensures) c.join.ensures) c.admit.ensures
-          c.in-To.is,
-    )
+loop-i-preserved c = (
+  omega arith,
+  going_on _ c.loop-i.invariant.1
+      (joined_step _ _ _ _ _ (alts_step _ c.count_of-size.ensures c.loop-i-test.true
+      c.set_at-a.ensures) c.join.ensures) c.admit.ensures
+      c.in-To.is,
+)
 
 pub returns : goal.returns
 returns c = going_end c.loop-i.invariant.1 (joined_end _ _ (alts_end _ c.count_of-size.ensures c.loop-i-test.false))

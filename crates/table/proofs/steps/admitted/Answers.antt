@@ -1,11 +1,8 @@
 -- `steps::admitted` meets its contract. The invariant: what was found, or the entries from i on decide. Assumes nothing.
 use mathlib.Core.Path.{ap, ◌∙◌}
-use mathlib.Core.Logic.{⊎_elim}
-use Prim.Native.Nat.{◌-◌}
 use native.Mathlib.Omega.{arith}
-use borrow.Author.Rules.{rules}
-use Rattle.sheet.specs.Literals.{join, consistent}
-use Rattle.table.proofs.laws.arrays.EntryLoops.{AnyFrom, any_start, any_hit, any_missed, any_told}
+use Rattle.sheet.specs.Literals.{consistent}
+use Rattle.table.proofs.laws.arrays.EntryLoops.{any_start, any_hit, any_missed, any_told}
 use Rattle.table.proofs.steps.admitted.Goals as goal
 use Rattle.table.proofs.steps.admitted.Goals.{else-consistent, then-consistent}
 
@@ -14,7 +11,7 @@ loop-i-preserved c =
     let g = c.loop-i.invariant in
     let w = c.consistent.ensures ∙ ap consistent c.join.ensures in
     elim c.if-consistent.branch [
-      then-consistent v ↦ any_hit g (omega arith) c.entry_at.ensures w v.if-consistent.true v.found-is
+      | then-consistent v ↦ any_hit g (omega arith) c.entry_at.ensures w v.if-consistent.true v.found-is
       | else-consistent v ↦ any_missed g (omega arith) c.entry_at.ensures w v.if-consistent.false v.found-is
     ]
 

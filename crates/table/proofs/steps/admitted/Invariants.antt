@@ -1,17 +1,11 @@
 -- `steps::admitted` meets its contract. The invariant: what was found, or the entries from i on decide. Assumes nothing.
-use mathlib.Core.Path.{ap, ◌∙◌}
-use mathlib.Core.Logic.{⊎_elim}
 use Prim.Native.Nat.{◌-◌}
-use native.Mathlib.Omega.{arith}
-use borrow.Author.Rules.{rules}
 use Rattle.sheet.specs.Literals.{join, consistent}
-use Rattle.table.proofs.laws.arrays.EntryLoops.{AnyFrom, any_start, any_hit, any_missed, any_told}
+use Rattle.table.proofs.laws.arrays.EntryLoops.{AnyFrom}
 use Rattle.table.proofs.steps.admitted.Given as goal
 
 abbrev pub invariant-loop-i : goal.invariant-loop-i
 invariant-loop-i l = AnyFrom (λ d. consistent (join d l.c)) l.count l.trues l.falses l.found l.i
 
-
 abbrev pub decreases-loop-i : goal.decreases-loop-i
 decreases-loop-i l = l.count - l.i
-

@@ -3,7 +3,6 @@ use Prim.Native.Nat.{◌<◌}
 use native.Mathlib.Omega.{arith}
 use Rattle.table.proofs.laws.steps.CarriedResults.{carried_start, settles_puts, settles_leaf}
 use Rattle.sheet.proofs.laws.reader.PackedParts.{effects_end}
-use borrow.Author.Rules.{rules}
 use Rattle.table.proofs.steps.branch.Goals as goal
 
 pub skip_decided-s-requires : goal.skip_decided-s-requires

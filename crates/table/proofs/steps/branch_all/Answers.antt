@@ -1,18 +1,11 @@
 -- `table::steps::branch_all` meets its contract. The invariant: the entries from i on give what is left. Assumes nothing.
 use mathlib.Core.Path.{◌≡◌, refl}
 use mathlib.Core.Bool.{true}
-use mathlib.Core.List.{map}
-use Prim.Native.Nat.{◌≤◌, ◌-◌}
 use native.Mathlib.Omega.{arith}
-use borrow.Author.Rules.{rules}
-use lib.ListN.{drop}
 use Rattle.sheet.specs.Literals.{consistent}
-use Rattle.sheet.specs.Lists.{collect}
-use Rattle.table.specs.Step.{pieces, image}
-use Rattle.table.specs.Entries.{entries_of}
 use Rattle.sheet.specs.inner.Packed.{effects_at}
 use Rattle.table.proofs.laws.arrays.HeldLists.{held_own}
-use Rattle.table.proofs.laws.slots.PutLoops.{Going, going_start, going_on, going_full, going_end}
+use Rattle.table.proofs.laws.slots.PutLoops.{going_start, going_on, going_full, going_end}
 use Rattle.table.proofs.laws.steps.CarriedResults.{all_here}
 use Rattle.table.proofs.laws.arrays.EntryLoops.{entries_next}
 use Rattle.table.proofs.laws.steps.PieceWalk.{images_step, images_end}

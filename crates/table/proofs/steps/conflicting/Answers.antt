@@ -1,13 +1,6 @@
 -- `steps::conflicting` meets its contract. The invariant: the effects from i on decide. Assumes nothing.
-use mathlib.Core.Path.{◌≡◌, refl, sym, ◌∙◌}
-use mathlib.Core.Bool.{Bool, true, false, ◌||◌}
-use Prim.Native.Nat.{◌+◌, ◌-◌}
-use borrow.Author.Rules.{rules}
-use lib.ListN.{drop}
-use Rattle.sheet.specs.Lists.{any_of}
-use Rattle.sheet.specs.inner.Packed.{effects_at}
+use mathlib.Core.Path.{refl, sym, ◌∙◌}
 use Rattle.sheet.proofs.laws.reader.PackedParts.{effects_step, effects_end}
-use Rattle.table.specs.inner.Pairs.{contradicts}
 use Rattle.table.specs.Entries.{entries_of}
 use Rattle.table.proofs.laws.steps.PairScan.{pairs_turn, pairs_end}
 use Rattle.table.proofs.steps.conflicting.Goals as goal

@@ -1,6 +1,5 @@
 -- `steps::opposed` meets its contract. Assumes nothing.
 use mathlib.Core.Path.{sym, ◌∙◌}
-use borrow.Author.Rules.{rules}
 use Rattle.table.specs.Entries.{entries_of}
 use Rattle.table.proofs.laws.steps.PairScan.{clashing, agreeing}
 use Rattle.table.proofs.steps.opposed.Goals as goal

@@ -1,15 +1,6 @@
 -- `steps::opposes` meets its contract. The invariant: the effects from j on decide. Assumes nothing.
-use mathlib.Core.Path.{◌≡◌, refl, sym, ap, ◌∙◌}
-use mathlib.Core.Bool.{Bool}
-use mathlib.Core.List.{List, ◌∷◌}
-use Prim.Native.Nat.{◌+◌, ◌-◌}
-use borrow.Author.Rules.{rules}
-use lib.ListN.{drop}
-use Rattle.sheet.specs.declared.Literals.{Literals}
-use Rattle.sheet.specs.declared.Effect.{Effect}
+use mathlib.Core.Path.{refl, sym, ap, ◌∙◌}
 use Rattle.sheet.specs.Lists.{any_of}
-use Rattle.sheet.specs.inner.Packed.{effects_at}
-use Rattle.table.specs.inner.Pairs.{opposed as opposedBy}
 use Rattle.table.specs.Entries.{entries_of}
 use Rattle.table.proofs.laws.arrays.EntryLoops.{any_stop, any_on}
 use Rattle.sheet.proofs.laws.reader.PackedParts.{effects_step, effects_end}
@@ -23,7 +14,7 @@ pub returns-then-opposed : goal.returns-then-opposed
 returns-then-opposed c =
     any_stop _ _ _ _ _ (let a = c.args in
     effects_step a.size a.effects.now c.loop-j.j _ c.loop-j-test.true c.effect_at.ensures) c.opposed.ensures c.if-opposed.true ∙ sym
-        c.loop-j.invariant
+    c.loop-j.invariant
 
 pub loop-j-preserved : goal.loop-j-preserved
 loop-j-preserved c =

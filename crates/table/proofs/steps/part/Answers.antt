@@ -2,26 +2,19 @@
 use mathlib.Core.Path.{◌≡◌, refl, ap, ◌∙◌}
 use Prim.Native.Nat.{ℕ, zero, suc, ◌+◌}
 use native.Mathlib.Omega.{arith}
-use borrow.Author.Rules.{rules}
 use Rattle.sheet.specs.declared.Literals.{Literals}
 use Rattle.sheet.specs.Literals.{join, flip, literal}
 use Rattle.table.specs.inner.Carry.{part_at}
 use Rattle.table.proofs.steps.part.Goals as goal
 
 first : (d c : Literals) (t : ℕ) → t ≡ 0 → join d c ≡ part_at d c t
-
 unfolding part_at
-
 first d c zero e = refl
-
 first d c (suc l) e = absurd (omega (arith, e))
 
 later : (d c : Literals) (t l : ℕ) → t ≡ l + 1 → join d (flip (literal l)) ≡ part_at d c t
-
 unfolding part_at
-
 later d c zero l h = absurd (omega (arith, h))
-
 later d c (suc m) l h = let k : l ≡ m = omega (arith, h) in ap (λ (x : ℕ). join d (flip (literal x))) k
 
 pub returns-then-t-eq0 : goal.returns-then-t-eq0

@@ -1,9 +1,5 @@
 -- `table::steps::sure` meets its contract. The invariant: the entries from i on decide. Assumes nothing.
-use Prim.Native.Nat.{◌-◌}
-use borrow.Author.Rules.{rules}
-use borrow.Author.Tests.{not-true, not-false}
-use Rattle.sheet.specs.Literals.{within}
-use Rattle.table.proofs.laws.arrays.EntryLoops.{AllFrom, all_start, all_fails, all_passed, all_pass}
+use Rattle.table.proofs.laws.arrays.EntryLoops.{all_start, all_fails, all_passed, all_pass}
 use Rattle.table.proofs.steps.sure.Goals as goal
 
 pub returns-then-not-within : goal.returns-then-not-within

@@ -1,6 +1,5 @@
 -- `table::steps::without` meets its contract. Assumes nothing.
 use mathlib.Core.Path.{ap, ◌∙◌}
-use borrow.Author.Rules.{rules}
 use Rattle.sheet.specs.Literals.{join, flip}
 use Rattle.table.proofs.steps.without.Goals as goal
 

@@ -1,9 +1,5 @@
 -- `table::tables::all_proper` meets its contract. The invariant: the entries from i on decide. Assumes nothing.
-use Prim.Native.Nat.{◌-◌}
-use borrow.Author.Rules.{rules}
-use borrow.Author.Tests.{not-true, not-false}
-use Rattle.table.specs.Minimal.{proper}
-use Rattle.table.proofs.laws.arrays.EntryLoops.{AllFrom, all_start, all_fails, all_passed, all_pass}
+use Rattle.table.proofs.laws.arrays.EntryLoops.{all_start, all_fails, all_passed, all_pass}
 use Rattle.table.proofs.tables.all_proper.Goals as goal
 
 pub returns-then-not-proper : goal.returns-then-not-proper

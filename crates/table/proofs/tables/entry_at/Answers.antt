@@ -1,6 +1,5 @@
 -- `table::tables::entry_at` meets its contract. Assumes nothing.
 use mathlib.Core.Path.{refl}
-use borrow.Author.Rules.{rules}
 use Rattle.table.specs.inner.Slots.{slot}
 use Rattle.table.proofs.tables.entry_at.Goals as goal
 

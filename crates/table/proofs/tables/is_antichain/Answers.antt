@@ -1,9 +1,8 @@
 -- `table::tables::is_antichain` meets its contract. The invariants: the entries from i on, and those from j on with entry i, decide.
-use Prim.Native.Nat.{◌+◌, ◌≤◌, ◌-◌}
-use mathlib.Core.Path.{◌≡◌, refl, sym, ap, ◌∙◌}
-use mathlib.Core.Bool.{Bool, true, not, ◌&&◌, false}
+use Prim.Native.Nat.{◌+◌}
+use mathlib.Core.Path.{refl, sym, ap, ◌∙◌}
+use mathlib.Core.Bool.{Bool, not, ◌&&◌}
 use native.Mathlib.Omega.{arith}
-use borrow.Author.Rules.{rules}
 use lib.ListN.{drop}
 use Rattle.table.specs.Minimal.{apart as apartOf, antichain}
 use Rattle.table.specs.Entries.{entries_of}
@@ -27,15 +26,19 @@ loop-j-init c =
     )
 
 pub loop-j-preserved : goal.loop-j-preserved
-loop-j-preserved c = (omega arith, c.loop-j.invariant.1, (let a = c.args in
-    let es = entries_of a.count a.trues.now a.falses.now in
-    let e = c.entry_at-a.result in
-    c.loop-j.invariant.2
-    ∙ ap (λ (b : Bool). b && antichain (drop (c.pairs.i + 1) es))
-    (apart_turn _ _ _
-    (entries_next a.count a.trues.now a.falses.now c.loop-j.j c.entry_at.result
-    c.loop-j-test.true c.entry_at.ensures) e
-    ∙ ap (λ (b : Bool). not b && apartOf e (drop (c.loop-j.j + 1) es)) (sym c.nested.ensures ∙ c.if-nested.false))))
+loop-j-preserved c = (
+  omega arith,
+  c.loop-j.invariant.1,
+  (let a = c.args in
+      let es = entries_of a.count a.trues.now a.falses.now in
+      let e = c.entry_at-a.result in
+      c.loop-j.invariant.2
+      ∙ ap (λ (b : Bool). b && antichain (drop (c.pairs.i + 1) es))
+      (apart_turn _ _ _
+      (entries_next a.count a.trues.now a.falses.now c.loop-j.j c.entry_at.result
+      c.loop-j-test.true c.entry_at.ensures) e
+      ∙ ap (λ (b : Bool). not b && apartOf e (drop (c.loop-j.j + 1) es)) (sym c.nested.ensures ∙ c.if-nested.false))),
+)
 
 pub pairs-preserved : goal.pairs-preserved
 unfolding apartOf

@@ -1,7 +1,6 @@
 -- `table::tables::nested` meets its contract. Assumes nothing.
 use mathlib.Core.Path.{sym, ap, ◌∙◌}
 use mathlib.Core.Bool.{Bool, ◌||◌}
-use borrow.Author.Rules.{rules}
 use Rattle.sheet.specs.Literals.{within}
 use Rattle.table.proofs.tables.nested.Goals as goal
 

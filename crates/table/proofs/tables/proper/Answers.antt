@@ -1,7 +1,6 @@
 -- `table::tables::proper` meets its contract. Assumes nothing.
 use mathlib.Core.Path.{sym, ap, ◌∙◌}
 use mathlib.Core.Bool.{Bool, ◌&&◌}
-use borrow.Author.Rules.{rules}
 use Rattle.sheet.specs.Literals.{below}
 use Rattle.sheet.proofs.laws.base.Bools.{kept}
 use Rattle.table.specs.Minimal.{proper}

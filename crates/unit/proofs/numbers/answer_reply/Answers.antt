@@ -1,6 +1,5 @@
 -- `unit::numbers::answer_reply` meets its contract: case by case. Assumes nothing.
 use mathlib.Core.Path.{ap, sym}
-use borrow.Author.Rules.{rules}
 use Rattle.sheet.specs.declared.Answer.{Answer}
 use Rattle.sheet.specs.Calls.{number_of, position_of}
 use Rattle.unit.specs.Numbers.{if_accepted, answer_reply}

@@ -1,8 +1,5 @@
 -- `numbers::copy_bytes` meets its contract. The invariant: the members below i are copied. Assumes nothing.
-use Prim.Native.Nat.{◌-◌}
-use native.Mathlib.Omega.{arith}
-use lib.ListN.{length}
-use Rattle.sheet.proofs.laws.base.Copying.{Copied, copied_start}
+use Rattle.sheet.proofs.laws.base.Copying.{copied_start}
 use Rattle.unit.proofs.StoredNumbers.{front_step, front_end}
 use Rattle.unit.proofs.numbers.copy_bytes.Goals as goal
 

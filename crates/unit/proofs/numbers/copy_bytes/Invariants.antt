@@ -1,15 +1,11 @@
 -- `numbers::copy_bytes` meets its contract. The invariant: the members below i are copied. Assumes nothing.
 use Prim.Native.Nat.{◌-◌}
-use native.Mathlib.Omega.{arith}
 use lib.ListN.{length}
-use Rattle.sheet.proofs.laws.base.Copying.{Copied, copied_start}
-use Rattle.unit.proofs.StoredNumbers.{front_step, front_end}
+use Rattle.sheet.proofs.laws.base.Copying.{Copied}
 use Rattle.unit.proofs.numbers.copy_bytes.Given as goal
 
 abbrev pub invariant-loop-i : goal.invariant-loop-i
 invariant-loop-i l = Copied l.initial.to 0 l.from l.i l.to
 
-
 abbrev pub decreases-loop-i : goal.decreases-loop-i
 decreases-loop-i l = length l.from - l.i
-

@@ -1,6 +1,5 @@
 -- `numbers::told_kind` meets its contract: case by case. Assumes nothing.
 use mathlib.Core.Path.{ap, sym}
-use borrow.Author.Rules.{rules}
 use Rattle.sheet.specs.Calls.{number_of, position_of}
 use Rattle.plan.specs.declared.Kind.{Kind}
 use Rattle.plan.specs.Cases.{kind_answer, kind_place}

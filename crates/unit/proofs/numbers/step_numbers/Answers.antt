@@ -1,5 +1,4 @@
 -- `unit::numbers::step_numbers` meets its contract. Assumes nothing.
-use borrow.Author.Rules.{rules}
 use Rattle.unit.proofs.StoredNumbers.{numbers_step}
 use Rattle.unit.proofs.numbers.step_numbers.Goals as goal
 

@@ -3,7 +3,6 @@ use mathlib.Core.Path.{sym}
 use Prim.Native.Nat.{◌≤◌}
 use native.Mathlib.Omega.{arith}
 use lib.ListN.{length, length-take, length-drop}
-use borrow.Author.Rules.{rules}
 use Rattle.sheet.specs.Limits.{table_numbers}
 use Rattle.sheet.proofs.laws.base.Copying.{whole}
 use Rattle.unit.proofs.StoredNumbers.{table_read}

@@ -1,6 +1,5 @@
 -- `numbers::told_verdict` meets its contract: case by case. Assumes nothing.
 use mathlib.Core.Path.{ap, sym}
-use borrow.Author.Rules.{rules}
 use Rattle.sheet.specs.Calls.{number_of, position_of}
 use Rattle.plan.specs.Cases.{verdict_answer, verdict_place, verdict_number}
 use Rattle.unit.specs.Numbers.{verdict_kind, verdict_reply}

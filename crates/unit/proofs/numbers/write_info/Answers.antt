@@ -1,7 +1,6 @@
 -- `numbers::write_info` meets its contract: four stores. Assumes nothing.
 use native.Mathlib.Omega.{arith}
 use lib.ListN.{length-set}
-use borrow.Author.Rules.{rules}
 use Rattle.unit.proofs.StoredNumbers.{info_stores}
 use Rattle.unit.proofs.numbers.write_info.Goals as goal
 

@@ -1,9 +1,7 @@
 -- `unit::numbers::write_row_numbers` meets its contract. The invariant: the rows below i are written. Assumes nothing.
-use Prim.Native.Nat.{◌-◌}
 use native.Mathlib.Omega.{arith}
 use lib.ListN.{length-set}
-use Rattle.plan.specs.inner.Course.{counts_in}
-use Rattle.unit.proofs.RowNumbers.{Rowed, rowed_start, rowed_step, rowed_end}
+use Rattle.unit.proofs.RowNumbers.{rowed_start, rowed_step, rowed_end}
 use Rattle.unit.proofs.numbers.write_row_numbers.Goals as goal
 
 pub loop-i-init : goal.loop-i-init

@@ -17,4 +17,3 @@ returns c =
       plan_after = c.copy_bytes.ensures ∙ ap (λ (i : ℕ). a.searched.plan ++ drop i a.plan.now) n;
       info_after = c.write_info.ensures ∙ ap (λ (x : Reply). info_of x a.info.now) told;
     }
-

@@ -6,16 +6,14 @@ use Rattle.table.specs.declared.starts.Started.{Started}
 use Rattle.table.specs.inner.Starts.{start_answer}
 use Rattle.unit.specs.Numbers.{table_out}
 use Rattle.unit.proofs.StoredNumbers.{answer_by, table_by, count_by, zeros_table}
-use borrow.Author.Rules.{rules}
 use Rattle.unit.proofs.numbers.write_start.Goals as goal
 
 pub write_entries-requires : goal.write_entries-requires
-write_entries-requires c =
-    (
-      c.requires.0,
-      count_by (λ (x : Started). start_answer x c.args.trues.now c.args.falses.now) c.in-To.is
-          c.requires.1,
-    )
+write_entries-requires c = (
+  c.requires.0,
+  count_by (λ (x : Started). start_answer x c.args.trues.now c.args.falses.now) c.in-To.is
+      c.requires.1,
+)
 
 pub write_entries-requires-in-Refused : goal.write_entries-requires-in-Refused
 write_entries-requires-in-Refused c =
