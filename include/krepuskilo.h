@@ -1,7 +1,7 @@
 /* Krepuskilo for C: sheets, tables, rows and plans as numbers in slices that the caller lends.
  *
  * The functions are those of crates/unit, proved there to do what their contracts say: the calls of the scope document (document 01),
- * their values laid out as numbers. Link target/staticlib/libunit.a, which `rt staticlib unit` writes (x86-64, Linux).
+ * their values laid out as numbers. Link libunit.a, which `rt lib`, called in crates/unit, writes into crates/unit/out (x86-64, Linux).
  *
  * Every function answers
  *   0                     the call is accepted,
@@ -60,7 +60,7 @@ extern "C" {
 #define KREPUSKILO_FULL_PICTURE 257
 
 /* The stack that each call takes, in bytes, the frames of all that it calls among it. Measured, not proved, and rounded up to a kibibyte:
- * tests/stack.c runs the calls on sheets that take them as deep as they go, built for x86-64 as `rt staticlib unit` does. */
+ * tests/stack.c runs the calls on sheets that take them as deep as they go, built for x86-64 as `rt lib` does. */
 #define KREPUSKILO_STACK_JUDGE 7168
 #define KREPUSKILO_STACK_START 10240
 #define KREPUSKILO_STACK_STEP 9216

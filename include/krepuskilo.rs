@@ -1,5 +1,5 @@
-//! Krepuskilo for Rust: the seven calls of target/staticlib/libunit.a over slices. krepuskilo.h says what each takes, answers and writes. A
-//! program takes this file as a module and is compiled with `-L target/staticlib`.
+//! Krepuskilo for Rust: the seven calls of libunit.a over slices. krepuskilo.h says what each takes, answers and writes, and where the
+//! archive comes from. A program takes this file as a module and is compiled with `-L` and the folder of the archive.
 
 #[link(name = "unit", kind = "static")]
 extern "C" {

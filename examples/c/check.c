@@ -1,8 +1,8 @@
 /* The program `check` in C: runs the plan of the sheet on the standard input, writes its rows and its verdict.
  *
- *     rt staticlib unit
- *     cc -O2 -Iinclude examples/c/check.c target/staticlib/libunit.a -o target/check_c
- *     target/check_c < examples/bench.sheet
+ *     (cd crates/unit && rt lib)
+ *     cc -O2 -Iinclude examples/c/check.c crates/unit/out/libunit.a -o check_c
+ *     ./check_c < examples/bench.sheet
  */
 #include <inttypes.h>
 #include <stdio.h>
