@@ -59,7 +59,7 @@ extern "C" {
 /* The clauses in a row whose picture is full. */
 #define KREPUSKILO_FULL_PICTURE 257
 
-/* The stack that each call takes, in bytes, the frames of all that it calls among it. Measured, not proved, and rounded up to a kibibyte:
+/* The stack that each call takes, in bytes, the frames of all that it calls among it. Measured, not proved, and no less than that, in whole kibibytes:
  * tests/stack.c runs the calls on sheets that take them as deep as they go, built for x86-64 as `rt lib` does. */
 #define KREPUSKILO_STACK_JUDGE 7168
 #define KREPUSKILO_STACK_START 10240

@@ -83,6 +83,8 @@ def turned(text, names, skip, comment):
 
 def main():
     global CRATES
+    if os.path.exists("docs/PORT.md"):
+        sys.exit("snake_names: docs/PORT.md is there, so this repository has its names; a second run would turn names of goals")
     files = listed()
     CRATES = {p.split("/")[1] for p in files}
     read = {p: open(p, encoding="utf-8").read() for p in files if p.endswith((".antt", ".rt"))}

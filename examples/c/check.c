@@ -1,8 +1,9 @@
 /* The program `check` in C: runs the plan of the sheet on the standard input, writes its rows and its verdict.
  *
  *     (cd crates/unit && rt lib)
- *     cc -O2 -Iinclude examples/c/check.c crates/unit/out/libunit.a -o check_c
- *     ./check_c < examples/bench.sheet
+ *     mkdir -p target
+ *     cc -O2 -Iinclude examples/c/check.c crates/unit/out/libunit.a -o target/check_c
+ *     target/check_c < examples/bench.sheet
  */
 #include <inttypes.h>
 #include <stdio.h>

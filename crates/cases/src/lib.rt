@@ -11,7 +11,7 @@ use std::io;
 use std::io::{Read, Write};
 
 // A line that was read: where the next one starts, whether it is a heading, and how many bytes it has (a heading has none).
-#[derive(Drop)]
+#[derive(Clone, Copy, Drop)]
 pub struct Line {
     pub next: usize,
     pub heading: bool,
@@ -20,7 +20,7 @@ pub struct Line {
 
 // A line that was read as a case for the current sheet: where the next line starts, the length of the current sheet, and how many
 // bytes the case has. A line that is no case (a heading, a sheet, an empty line) has none.
-#[derive(Drop)]
+#[derive(Clone, Copy, Drop)]
 pub struct Case {
     pub next: usize,
     pub size: usize,

@@ -43,7 +43,7 @@ pub enum Verdict {
 }
 
 // The verdict, and the last table that the run had.
-#[derive(Drop)]
+#[derive(Clone, Copy, Drop)]
 pub struct RunAnswer {
     pub verdict: Verdict,
     pub table: Table,
@@ -83,7 +83,7 @@ pub struct RunRecord {
 }
 
 // A run with the numbers of its rows.
-#[derive(Drop)]
+#[derive(Clone, Copy, Drop)]
 pub struct Course {
     pub ran: RunAnswer,
     pub counts: Counts,

@@ -21,7 +21,7 @@ use std::io;
 use std::io::Write;
 
 // A run with rows of its own, by value.
-#[derive(Drop)]
+#[derive(Clone, Copy, Drop)]
 pub struct RanRows {
     pub ran: RunAnswer,
     pub rows: [Row; 65],
@@ -59,7 +59,7 @@ fn digest_counts(c: Counts) -> u64 {
 }
 
 // A digest of 65 rows.
-fn digest_rows(r: &RanRows) -> u64 {
+fn digest_rows(r: RanRows) -> u64 {
     let mut value: u64 = 0;
     for i in 0..65 {
         let row = r.rows[i];
@@ -108,9 +108,8 @@ fn run_here(bytes: &[u8]) -> RanRows
 // The run of a sheet with 65 rows.
 fn show_run(to: &mut impl Write, sheet: &[u8]) -> io::Result<()> {
     let r = run_here(sheet);
-    let digest = digest_rows(&r);
     write_ran(to, r.ran)?;
-    cases::write_pair(to, b"rows ", 65, b" numbers ", digest)
+    cases::write_pair(to, b"rows ", 65, b" numbers ", digest_rows(r))
 }
 
 // How a search ends, as a line.

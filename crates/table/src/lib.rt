@@ -25,7 +25,7 @@ pub mod steps;
 pub mod tables;
 
 // A belief state: the entries in the first count slots, bit p of both masks for proposition p (document 01: a table).
-#[derive(Drop)]
+#[derive(Clone, Copy, Drop)]
 pub struct Table {
     pub count: usize,
     pub trues: [u32; ENTRIES],
@@ -33,14 +33,14 @@ pub struct Table {
 }
 
 // What a call on tables gives.
-#[derive(Drop)]
+#[derive(Clone, Copy, Drop)]
 pub struct TableAnswer {
     pub answer: Answer,
     pub table: Table,
 }
 
 // What the call `picture` gives: the number of clauses, 0 if refused.
-#[derive(Drop)]
+#[derive(Clone, Copy, Drop)]
 pub struct PictureAnswer {
     pub answer: Answer,
     pub clauses: usize,

@@ -15,7 +15,7 @@ use sheet::limits::{CLAUSES, FULL_PICTURE};
 use sheet::masks::{join, literal, next};
 
 // The clauses of a table, in the first count slots; none if they are too many.
-#[derive(Drop)]
+#[derive(Clone, Copy, Drop)]
 pub(crate) struct Clauses {
     pub full: bool,
     pub count: usize,

@@ -14,14 +14,14 @@ use sheet::Literals;
 use sheet::masks::{consistent, within};
 
 // The place of an entry, if there is one.
-#[derive(Drop)]
+#[derive(Clone, Copy, Drop)]
 pub(crate) enum Found {
     At(usize),
     Nothing,
 }
 
 // What became of a candidate.
-#[derive(Drop)]
+#[derive(Clone, Copy, Drop)]
 pub(crate) enum Fate {
     Dropped,
     Added { removed: usize, count: usize },
@@ -29,7 +29,7 @@ pub(crate) enum Fate {
 }
 
 // How many entries there are after some candidates were put.
-#[derive(Drop)]
+#[derive(Clone, Copy, Drop)]
 pub(crate) enum Grown {
     To(usize),
     Full,

@@ -20,7 +20,7 @@ use sheet::packed::{GOAL, ONEOFS, ORS, SETS_WIDTH, count_of, set_at, set_from};
 use sheet::{Answer, Literals, Sheet};
 
 // What a start gives: so many entries in the lent arrays, or a refusal's number with its position.
-#[derive(Drop)]
+#[derive(Clone, Copy, Drop)]
 pub enum Started {
     To(usize),
     Refused(u8, usize),

@@ -128,7 +128,7 @@ pub(crate) fn without(piece: Literals, l: usize) -> Literals
 }
 
 // The place of the first effect that splits a piece, and the results of those before it.
-#[derive(Drop)]
+#[derive(Clone, Copy, Drop)]
 pub(crate) struct Undecided {
     pub at: usize,
     pub results: Literals,
@@ -285,7 +285,7 @@ pub(crate) fn branch_all<'a, 'b, 'c, 'd>(
 }
 
 // What a step gave: so many entries in the lent arrays, or the number of a refusal with its position.
-#[derive(Drop)]
+#[derive(Clone, Copy, Drop)]
 pub enum Stepped {
     To(usize),
     Refused(u8, usize),

@@ -26,7 +26,7 @@ fn empty_table() -> Table {
 }
 
 // The world w has the literals of some entry.
-fn covered(t: &Table, w: u32) -> bool {
+fn covered(t: Table, w: u32) -> bool {
     let count = t.count;
     for i in 0..128 {
         if i < count && t.trues[i] & !w == 0 && t.falses[i] & w == 0 {
@@ -37,7 +37,7 @@ fn covered(t: &Table, w: u32) -> bool {
 }
 
 // How many worlds of n propositions a table stands for, counted one by one.
-fn count_worlds(t: &Table, n: u8) -> u64
+fn count_worlds(t: Table, n: u8) -> u64
     requires { n ≤ 10 }
 {
     let mut found: u64 = 0;
@@ -60,7 +60,7 @@ fn show_table(to: &mut impl Write, sheet: &[u8], r: TableAnswer) -> io::Result<T
         if 0 < sheet.len() {
             let n = sheet[0];
             if n <= 10 {
-                cases::write_number(to, b"worlds ", count_worlds(&t, n))?;
+                cases::write_number(to, b"worlds ", count_worlds(t, n))?;
             }
         }
     }
@@ -119,15 +119,6 @@ fn buffer_size(bytes: &[u8]) -> usize
     (cases::number(bytes, 1, 2) % 4097) as usize
 }
 
-// The same table once more.
-fn same_table(t: &Table) -> Table {
-    Table {
-        count: t.count,
-        trues: t.trues,
-        falses: t.falses,
-    }
-}
-
 // What a case says, done: the current table from then on. No bytes are no case.
 fn act(to: &mut impl Write, sheet: &[u8], t: Table, bytes: &[u8]) -> io::Result<Table> {
     if bytes.len() == 0 {
@@ -143,7 +134,7 @@ fn act(to: &mut impl Write, sheet: &[u8], t: Table, bytes: &[u8]) -> io::Result<
         ),
         3 => Ok(table_of(bytes)),
         _ => {
-            show_picture(to, sheet, same_table(&t), buffer_size(bytes))?;
+            show_picture(to, sheet, t, buffer_size(bytes))?;
             Ok(t)
         }
     }
