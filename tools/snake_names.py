@@ -1,5 +1,5 @@
 #!/usr/bin/env python3
-"""Brings the repository's own definitions and lemmas to snake case, once, right after /opt/rattle/port/port.py.
+"""Brings the repository's own definitions and lemmas to snake case, once, right after the kit's port.py.
 
 usage: python3 tools/snake_names.py [--dry]      at the top of the repository
 
