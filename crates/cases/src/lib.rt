@@ -3,42 +3,64 @@
 // one space between bytes.
 #![tactic(auto)]
 
-ghost use Rattle.std.specs.Prelude.{◌≡◌, ◌≤◌, ◌<◌, length, IfOk};
+ghost use Rattle.std.specs.Prelude.{◌≡◌, ◌≤◌, ◌<◌, length, take, IfOk};
 ghost use Rattle.cases.specs.Counts.{IsPrefixLen};
 
-use sheet::Answer;
+use sheet::{Answer, Fault};
 use std::io;
 use std::io::{Read, Write};
 
-// A line that was read: where the next one starts, whether it is a heading, and how many bytes it has (a heading has none).
-#[derive(Clone, Copy, Drop)]
-pub struct Line {
-    pub next: usize,
-    pub heading: bool,
-    pub count: usize,
+// Room for the whole input, and for the bytes of one line.
+pub const INPUT: usize = 262144;
+
+pub const LINE: usize = 8192;
+
+// Bytes in a room of their own: the first so many of it.
+#[derive(Drop)]
+pub struct Bytes {
+    room: [u8; LINE],
+    size: usize,
+    ghost within: { size ≤ 8192 },
 }
 
-// A line that was read as a case for the current sheet: where the next line starts, the length of the current sheet, and how many
-// bytes the case has. A line that is no case (a heading, a sheet, an empty line) has none.
-#[derive(Clone, Copy, Drop)]
-pub struct Case {
-    pub next: usize,
-    pub size: usize,
-    pub count: usize,
-}
+impl Bytes {
+    // No bytes.
+    pub fn new() -> Bytes {
+        Bytes {
+            room: [0; LINE],
+            size: 0,
+        }
+    }
 
-// Room for the whole input.
-pub fn input() -> [u8; 262144]
-    ensures { 262144 ≡ length result }
-{
-    [0; 262144]
-}
+    // The bytes, lent.
+    pub fn as_slice(&self) -> &[u8]
+        ensures { result.now ≡ take self.now.size self.now.room }
+    {
+        &self.room[..self.size]
+    }
 
-// Room for the bytes of one line.
-pub fn room() -> [u8; 8192]
-    ensures { 8192 ≡ length result }
-{
-    [0; 8192]
+    // These bytes in place of those before, as many as fit.
+    fn set(&mut self, bytes: &[u8]) {
+        let size = bytes.len().min(LINE);
+        for i in 0..size {
+            self.room[i] = bytes[i];
+        }
+        self.size = size;
+    }
+
+    // The bytes of a line in place of those before, as many as fit.
+    fn decode(&mut self, line: &[u8]) {
+        let mut size = 0;
+        for digits in line.chunks(3) {
+            if let [high, low, ..] = digits {
+                if size < LINE {
+                    self.room[size] = byte(*high, *low);
+                    size += 1;
+                }
+            }
+        }
+        self.size = size;
+    }
 }
 
 // Reads until `out` is full or the input ends: how many bytes it put at the start of `out`.
@@ -54,19 +76,6 @@ pub fn read_full(from: &mut impl Read, out: &mut [u8]) -> io::Result<usize>
         done += n;
     }
     Ok(done)
-}
-
-// Where the line that starts at `from` ends: at its line feed, or at the end of the text.
-fn line_end(text: &[u8], from: usize) -> usize
-    requires { from ≤ length text.now }
-    ensures { (from ≤ result) × (result ≤ length text.now) }
-{
-    for end in from..text.len() {
-        if text[end] == b'\n' {
-            return end;
-        }
-    }
-    text.len()
 }
 
 // The value of a hexadecimal digit, and 0 for any other byte.
@@ -85,96 +94,40 @@ fn byte(high: u8, low: u8) -> u8 {
     16 * digit(high) + digit(low)
 }
 
-// Puts the bytes of a line into `out`, as many as fit, and answers how many there are.
-fn decode(line: &[u8], out: &mut [u8]) -> usize
-    ensures { IsPrefixLen result out.new }
-{
-    let mut n = 0;
-    // Where the second digit of the next byte stands.
-    let mut at = 1;
-    while at < line.len() {
-        if out.len() <= n {
-            return n;
-        }
-        out[n] = byte(line[at - 1], line[at]);
-        n += 1;
-        at += 3;
-    }
-    n
-}
-
-// Whether a line starts with '#'.
-fn is_heading(line: &[u8]) -> bool {
-    if line.len() == 0 {
-        return false;
-    }
-    line[0] == b'#'
-}
-
-// The line that starts at `at`, read: a heading is written, the bytes of any other are put into `bytes`.
-pub fn next_line(to: &mut impl Write, text: &[u8], at: usize, bytes: &mut [u8]) -> io::Result<Line>
-    requires { at < length text.now }
-    ensures { IfOk result (λ line. (at < line.next) × IsPrefixLen line.count bytes.new) }
-{
-    let end = line_end(text, at);
-    let line = &text[at..end];
-    if is_heading(line) {
-        write_line(to, line)?;
-        return Ok(Line {
-            next: end + 1,
-            heading: true,
-            count: 0,
-        });
-    }
-    let count = decode(line, bytes);
-    Ok(Line {
-        next: end + 1,
-        heading: false,
-        count,
-    })
-}
-
-// The first `count` bytes but the very first, kept as the current sheet: its length.
-fn keep(bytes: &[u8], count: usize, sheet: &mut [u8]) -> usize
-    requires { count ≤ length bytes.now }
-    ensures { IsPrefixLen result sheet.new }
-{
-    for n in 0..sheet.len() {
-        let from = n + 1;
-        if count <= from {
-            return n;
-        }
-        sheet[n] = bytes[from];
-    }
-    sheet.len()
-}
-
-// The line that starts at `at`, read, where a first byte 0 says that the current sheet follows: that sheet is kept.
-pub fn next_case(
+// A line, without its line feed, read: a heading is written, and has no bytes; those of any other are put into `bytes`, and lent.
+pub fn read_line<'b>(
     to: &mut impl Write,
-    text: &[u8],
-    at: usize,
-    sheet: &mut [u8],
-    size: usize,
-    bytes: &mut [u8],
-) -> io::Result<Case>
-    requires { (at < length text.now) × IsPrefixLen size sheet.old }
-    ensures { IfOk result (λ case. (at < case.next) × IsPrefixLen case.size sheet.new × IsPrefixLen case.count bytes.new) }
-{
-    let line = next_line(to, text, at, bytes)?;
-    let next = line.next;
-    let count = line.count;
-    if 0 < count {
-        if bytes[0] == 0 {
-            let kept = keep(bytes, count, sheet);
-            return Ok(Case {
-                next,
-                size: kept,
-                count: 0,
-            });
-        }
+    line: &[u8],
+    bytes: &'b mut Bytes,
+) -> io::Result<Option<&'b [u8]>> {
+    let line = line.strip_suffix(b"\n").unwrap_or(line);
+    if line.starts_with(b"#") {
+        write_line(to, line)?;
+        return Ok(None);
     }
-    Ok(Case { next, size, count })
+    bytes.decode(line);
+    Ok(Some(bytes.as_slice()))
+}
+
+// A line read as a case for the current sheet. A line that is no case (a heading, a sheet, an empty line) gives none; a first byte 0 says that
+// a sheet follows, which is the current one from there on.
+pub fn read_case<'b>(
+    to: &mut impl Write,
+    line: &[u8],
+    sheet: &mut Bytes,
+    bytes: &'b mut Bytes,
+) -> io::Result<Option<&'b [u8]>> {
+    let Some(case) = read_line(to, line, bytes)? else {
+        return Ok(None);
+    };
+    match case {
+        [] => Ok(None),
+        [0, rest @ ..] => {
+            sheet.set(rest);
+            Ok(None)
+        }
+        _ => Ok(Some(case)),
+    }
 }
 
 // The number in the `size` bytes from `at` on, high byte first; bytes past the end are 0.
@@ -183,12 +136,8 @@ pub fn number(bytes: &[u8], at: usize, size: usize) -> u64
 {
     let mut value: u64 = 0;
     for i in 0..size {
-        let from = at + i;
-        let mut b: u64 = 0;
-        if from < bytes.len() {
-            b = wide(bytes[from]);
-        }
-        value = value % 72057594037927936 * 256 + b % 256;
+        let b = bytes.get(at + i).copied().unwrap_or(0);
+        value = value % 72057594037927936 * 256 + u64::from(b);
     }
     value
 }
@@ -199,58 +148,28 @@ pub fn write_line(to: &mut impl Write, line: &[u8]) -> io::Result<()> {
     to.write_all(b"\n")
 }
 
-// A word with a number, as a line.
-pub fn write_number(to: &mut impl Write, word: &[u8], number: u64) -> io::Result<()> {
-    to.write_all(word)?;
-    write!(to, "{number}")?;
-    to.write_all(b"\n")
-}
-
-// Two words, each with a number, as a line.
-pub fn write_pair(
-    to: &mut impl Write,
-    first: &[u8],
-    a: u64,
-    second: &[u8],
-    b: u64,
-) -> io::Result<()> {
-    to.write_all(first)?;
-    write!(to, "{a}")?;
-    write_number(to, second, b)
-}
-
 // `refused N at P`, as a line.
-pub fn write_refusal(to: &mut impl Write, number: u8, position: usize) -> io::Result<()> {
-    write_pair(to, b"refused ", number as u64, b" at ", position as u64)
+pub fn write_refusal(to: &mut impl Write, fault: Fault) -> io::Result<()> {
+    writeln!(to, "refused {} at {}", fault.number, fault.position)
 }
 
 // An answer, as a line.
 pub fn write_answer(to: &mut impl Write, answer: Answer) -> io::Result<()> {
     match answer {
-        Answer::Accepted => write_line(to, b"accepted"),
-        Answer::Refused(number, position) => write_refusal(to, number, position),
+        Ok(()) => writeln!(to, "accepted"),
+        Err(fault) => write_refusal(to, fault),
     }
 }
 
 // How many entries a table has, and a digest of all its slots, as a line.
-pub fn write_table<'a>(
+pub fn write_table(
     to: &mut impl Write,
     count: usize,
-    trues: &'a [u32; 128],
-    falses: &'a [u32; 128],
+    trues: &[u32; 128],
+    falses: &[u32; 128],
 ) -> io::Result<()> {
-    write_pair(
-        to,
-        b"count ",
-        count as u64,
-        b" slots ",
-        digest_slots(trues, falses),
-    )
-}
-
-// A byte as a wider number.
-fn wide(x: u8) -> u64 {
-    x as u64
+    let slots = digest_slots(trues, falses);
+    writeln!(to, "count {count} slots {slots}")
 }
 
 // One number more in a digest.
@@ -260,25 +179,20 @@ pub fn mixed(digest: u64, number: u64) -> u64
     (digest % 4294967296 * 31 + number % 4294967296) % 4294967296
 }
 
-// Two masks more in a digest.
-fn mixed_masks(digest: u64, trues: u32, falses: u32) -> u64 {
-    mixed(mixed(digest, trues as u64), falses as u64)
-}
-
 // A digest of some bytes.
 pub fn digest_bytes(bytes: &[u8]) -> u64 {
     let mut value: u64 = 0;
     for b in bytes {
-        value = mixed(value, wide(*b));
+        value = mixed(value, u64::from(*b));
     }
     value
 }
 
 // A digest of all slots of a table.
-fn digest_slots<'a>(trues: &'a [u32; 128], falses: &'a [u32; 128]) -> u64 {
+fn digest_slots(trues: &[u32; 128], falses: &[u32; 128]) -> u64 {
     let mut value: u64 = 0;
-    for i in 0..128 {
-        value = mixed_masks(value, trues[i], falses[i]);
+    for (t, f) in trues.iter().zip(falses) {
+        value = mixed(mixed(value, u64::from(*t)), u64::from(*f));
     }
     value
 }

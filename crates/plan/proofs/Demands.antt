@@ -8,8 +8,7 @@ use Rattle.sheet.specs.Problem.{Action, Statement}
 use Rattle.sheet.specs.Format.{sheet_of, refused}
 use Rattle.sheet.specs.Faults.{Says}
 use Rattle.sheet.proofs.Demands as sheets
-use Rattle.sheet.specs.declared.Answer.TheVariants.{Refused}
-use Rattle.sheet.specs.Calls.{judge_of}
+use Rattle.sheet.specs.Calls.{Refused, judge_of}
 use Rattle.table.specs.declared.Table.{Table}
 use Rattle.table.proofs.Demands as tables
 use Rattle.table.proofs.laws.answers.CallDemands as tabled

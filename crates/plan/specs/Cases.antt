@@ -1,7 +1,6 @@
 -- The enums of this crate's answers, each case with document 01's number and values.
 use Rattle.std.specs.Prelude.{ℕ}
-use Rattle.sheet.specs.declared.Answer as sheet
-use Rattle.sheet.specs.declared.Answer.TheVariants as answer
+use Rattle.sheet.specs.Calls as calls
 use Rattle.plan.specs.declared.Verdict as case
 use Rattle.plan.specs.declared.Verdict.TheVariants as ran
 use Rattle.plan.specs.declared.Kind.{Kind}
@@ -38,12 +37,12 @@ kind_case (SearchEnd.refused number position) = kind.Refused number position
 
 -- ---- from the enum to document 01's number and values
 -- "a start's 20 or 21 refuses the run or search": a refusal with its number and position; every verdict of a plan is accepted
-unfoldable pub verdict_answer : case.Verdict → sheet.Answer
-verdict_answer ran.Reached = answer.Accepted
-verdict_answer ran.Short = answer.Accepted
-verdict_answer (ran.Stopped place number) = answer.Accepted
-verdict_answer (ran.Full place) = answer.Accepted
-verdict_answer (ran.Refused number position) = answer.Refused number position
+unfoldable pub verdict_answer : case.Verdict → calls.Answer
+verdict_answer ran.Reached = calls.Accepted
+verdict_answer ran.Short = calls.Accepted
+verdict_answer (ran.Stopped place number) = calls.Accepted
+verdict_answer (ran.Full place) = calls.Accepted
+verdict_answer (ran.Refused number position) = calls.Refused number position
 
 -- "stopped (place, ..), full (place)"; 0 for the others
 unfoldable pub verdict_place : case.Verdict → ℕ
@@ -62,11 +61,11 @@ verdict_number (ran.Full place) = 0
 verdict_number (ran.Refused number position) = 0
 
 -- "a start's 20 or 21 refuses the run or search": a refusal with its number and position; every answer, also none, is accepted
-unfoldable pub kind_answer : Kind → sheet.Answer
-kind_answer kind.Reached = answer.Accepted
-kind_answer (kind.Full place) = answer.Accepted
-kind_answer kind.Nothing = answer.Accepted
-kind_answer (kind.Refused number position) = answer.Refused number position
+unfoldable pub kind_answer : Kind → calls.Answer
+kind_answer kind.Reached = calls.Accepted
+kind_answer (kind.Full place) = calls.Accepted
+kind_answer kind.Nothing = calls.Accepted
+kind_answer (kind.Refused number position) = calls.Refused number position
 
 -- "the first that is full, with its place"; 0 for the others
 unfoldable pub kind_place : Kind → ℕ

@@ -1,10 +1,9 @@
 -- The words of the page `Demands` about runs, searches and exchanges, by the calls' own definitions and by worlds. Words about sheets and
 -- tables are in sheet/specs/Faults and table/specs/CallWords.
-use Rattle.std.specs.Prelude.{◌≡◌, Bool, true, false, not, List, [], ◌∷◌, ◌⊎◌, ℕ, suc, ◌+◌, ◌*◌, T, length, take, drop, replicate}
+use Rattle.std.specs.Prelude.{◌≡◌, Bool, true, false, not, List, [], ◌∷◌, ◌⊎◌, ℕ, suc, ◌+◌, ◌*◌, T, length, take, drop, replicate, Err}
 use Rattle.std.proofs.Math.Option.{Option, none, some}
 use Rattle.sheet.specs.declared.Literals.{Literals}
-use Rattle.sheet.specs.declared.Answer.{Answer}
-use Rattle.sheet.specs.declared.Answer.TheVariants.{Accepted, Refused}
+use Rattle.sheet.specs.Calls.{Answer, Accepted, Refused}
 use Rattle.sheet.specs.Literals.{mem}
 use Rattle.sheet.specs.Lists.{Any}
 use Rattle.sheet.specs.Problem.{Action, Problem, Statement}
@@ -44,7 +43,7 @@ Becomes s x rows = Comes x.problem.n (Starting x.problem) (actions_of x.problem 
 -- what comes with an accepted call
 abbrev pub when_accepted : {A : Type 0} → Answer → A → Option A
 when_accepted Accepted t = some t
-when_accepted (Refused number position) t = none
+when_accepted (Err fault) t = none
 
 -- the table after some moves from the table t, by the call step
 abbrev pub stepped : List ℕ → List ℕ → Table → Option Table
@@ -70,7 +69,7 @@ pub record StepRefused (s : List ℕ) (plan : List ℕ) (k N : ℕ) : Type 0 whe
 -- "picture clauses (257 if that picture is full)": of a table as described the call with 2,050 bytes gives no other number than 21
 abbrev pub clauses_or : Answer → ℕ → ℕ
 clauses_or Accepted clauses = clauses
-clauses_or (Refused number position) clauses = 257
+clauses_or (Err fault) clauses = 257
 
 -- "A run's final picture is what the picture call writes for the table that the run returns: the two bytes of count and the clauses,
 -- nothing after them": none if that call gives 21, or the run is refused (on an accepted sheet its table is then empty, and the call gives

@@ -14,14 +14,13 @@ use mathlib.Core.List.{List, [], ◌∷◌, ◌++◌, Memᴰ}
 use Rattle.std.proofs.Math.Option.{Option, none, some}
 use Rattle.sheet.specs.declared.Literals.{Literals}
 use Rattle.sheet.specs.declared.Effect.{Effect}
-use Rattle.sheet.specs.declared.Answer.TheVariants.{Accepted, Refused}
+use Rattle.sheet.specs.Calls.{Accepted, Refused, judge_of}
 use Rattle.sheet.specs.Literals.{has, mem, within, consistent, state, meets}
 use Rattle.sheet.specs.Lists.{Any, pad}
 use Rattle.sheet.specs.Problem.{Action, Statement}
 use Rattle.sheet.specs.Form.{Form, byte, due}
 use Rattle.sheet.specs.Format.{count_fault, literal_fault, number_fault, sheet, sheet_of}
 use Rattle.sheet.specs.Encoding.{ProperAction, ProperStatement, encode}
-use Rattle.sheet.specs.Calls.{judge_of}
 use Rattle.sheet.specs.Faults.{Says, FirstFault, ByteDue}
 use Rattle.sheet.specs.Printed.{printed}
 use Rattle.table.specs.declared.Table.{Table}

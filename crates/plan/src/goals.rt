@@ -2,16 +2,14 @@
 ghost use Rattle.std.specs.Prelude.{◌≡◌};
 ghost use Rattle.sheet.specs.Literals as L;
 ghost use Rattle.sheet.specs.Lists.{all_of};
-ghost use Rattle.sheet.specs.inner.Packed.{sets_in, SetsFit};
-ghost use Rattle.table.specs.Entries.{entries_of};
-ghost use Rattle.table.specs.inner.Slots.{Room};
 ghost use Rattle.plan.specs.Run.{in_goal};
 
-use sheet::packed::{count_of, set_at};
+use sheet::packed::Sets;
 use sheet::{Literals, masks};
-use table::tables::entry_at;
+use table::entries::Entries;
 
 // Some literal of the clause c lies in d.
+#[tactic(auto, unfolding(sheet::specs::Literals::meets))]
 pub(crate) fn shares(c: Literals, d: Literals) -> bool
     ensures { result ≡ L.meets c d }
 {
@@ -19,39 +17,26 @@ pub(crate) fn shares(c: Literals, d: Literals) -> bool
 }
 
 // Each clause of the goal shares a literal with the entry d.
-pub(crate) fn in_goal(goal: &[u32], d: Literals) -> bool
-    requires { SetsFit goal.now }
-    ensures { result ≡ in_goal (sets_in goal.now) d }
+#[tactic(auto, unfolding(crate::specs::Run::in_goal))]
+pub(crate) fn in_goal(goal: &Sets, d: Literals) -> bool
+    ensures { result ≡ in_goal goal.now d }
 {
-    let count = count_of(goal);
-    let mut i: usize = 0;
-    while i < count {
-        let c = set_at(goal, i);
-        if !shares(c, d) {
+    for i in 0..goal.len() {
+        if !shares(goal.at(i), d) {
             return false;
         }
-        i += 1;
     }
     true
 }
 
-// The first count entries are all in the goal.
-pub(crate) fn all_in_goal<'a, 'b>(
-    goal: &'a [u32],
-    trues: &'b [u32],
-    falses: &'b [u32],
-    count: usize,
-) -> bool
-    requires sets_fit { SetsFit goal.now }
-    requires room { Room count trues.now falses.now }
-    ensures { result ≡ all_of (in_goal (sets_in goal.now)) (entries_of count trues.now falses.now) }
+// The entries are all in the goal.
+pub(crate) fn all_in_goal(goal: &Sets, entries: &Entries) -> bool
+    ensures { result ≡ all_of (in_goal goal.now) entries.now }
 {
-    let mut i: usize = 0;
-    while i < count {
-        if !in_goal(goal, entry_at(trues, falses, i)) {
+    for i in 0..entries.len() {
+        if !in_goal(goal, entries.at(i)) {
             return false;
         }
-        i += 1;
     }
     true
 }

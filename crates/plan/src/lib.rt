@@ -1,15 +1,16 @@
 // Plans: the run of a plan, the search for one, and the text of the program.
 #![tactic(auto)]
 
-ghost use Rattle.std.specs.Prelude.{◌≡◌, length};
+ghost use Rattle.std.specs.Prelude.{◌≡◌, [], length};
 ghost use Rattle.sheet.specs.Format.{sheet_of};
 ghost use Rattle.plan.specs.Calls.{run_of, rows_after, search_of};
 ghost use Rattle.plan.specs.Text.{report_of, report_in};
+ghost use Rattle.plan.specs.inner.Course.{counts_of};
 
-use sheet::Answer;
-use sheet::limits::{ENTRIES, PLACES};
+use sheet::limits::PLACES;
 use sheet::packed::LENGTH;
 use table::Table;
+use table::slots::Slots;
 
 mod goals;
 mod memory;
@@ -74,12 +75,18 @@ pub struct Counts {
     pub clauses: [usize; PLACES],
 }
 
-// What a run over lent arrays leaves beside them: its verdict, how many entries the last table has, and how many rows there are.
-#[derive(Clone, Copy, Drop)]
-pub struct RunRecord {
-    pub verdict: Verdict,
-    pub count: usize,
-    pub rows: usize,
+impl Counts {
+    // No row.
+    #[tactic(auto, unfolding(crate::specs::inner::Course::counts_of, sheet::specs::Lists::pad))]
+    pub fn new() -> Counts
+        ensures { result ≡ counts_of [] }
+    {
+        Counts {
+            count: 0,
+            entries: [0; PLACES],
+            clauses: [0; PLACES],
+        }
+    }
 }
 
 // A run with the numbers of its rows.
@@ -94,10 +101,8 @@ pub fn run(bytes: &[u8], rows: &mut [Row]) -> RunAnswer
     ensures value { result ≡ run_of (sheet_of bytes.now) (length rows.old) }
     ensures rows_after { rows.new ≡ rows_after (sheet_of bytes.now) rows.old }
 {
-    let lent = rows.len();
-    let course = runs::course(bytes, lent);
-    let counts = course.counts;
-    rows::write_rows(rows, counts);
+    let course = runs::course(bytes, rows.len());
+    rows::write_rows(rows, &course.counts);
     course.ran
 }
 
@@ -109,20 +114,10 @@ pub fn report(bytes: &[u8], out: &mut [u8]) -> usize
     if out.len() < REPORT_LENGTH {
         return 0;
     }
-    let mut trues = [0u32; ENTRIES];
-    let mut falses = [0u32; ENTRIES];
-    let mut entries = [0usize; PLACES];
-    let mut clauses = [0usize; PLACES];
-    let ran = runs::course_into(
-        bytes,
-        PLACES,
-        &mut trues,
-        &mut falses,
-        &mut entries,
-        &mut clauses,
-    );
-    let verdict = ran.verdict;
-    text::write_text(out, verdict, ran.rows, &entries, &clauses)
+    let mut table = Slots::new();
+    let mut counts = Counts::new();
+    let verdict = runs::course_into(bytes, PLACES, &mut table, &mut counts);
+    text::write_text(out, verdict, &counts)
 }
 
 // The first plan of at most `limit` moves that is reached or full. It has eight slots of memory of its own.
@@ -139,15 +134,12 @@ pub fn search_with<'a, 'b>(bytes: &'a [u8], limit: usize, memory: &'b mut [u32])
     ensures { result ≡ search_of (sheet_of bytes.now) limit }
 {
     let mut packed = [0u32; LENGTH];
-    let decoded = sheet::decode(bytes, &mut packed);
-    let answer = decoded.answer;
-    match answer {
-        Answer::Refused(number, position) => searches::refuse_search(number, position),
-        Answer::Accepted => {
+    match sheet::decode(bytes, &mut packed) {
+        Err(fault) => searches::refuse_search(fault.number, fault.position),
+        Ok(sheet) => {
             if 8 < limit {
                 return searches::refuse_search(8, 0);
             }
-            let sheet = decoded.sheet;
             // A reference to the whole array: its type has the length.
             let packed = &packed;
             searches::search_sheet(sheet, packed, limit, memory)

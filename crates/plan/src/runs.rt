@@ -1,50 +1,46 @@
-// The run of a sheet's plan: from place to place, a row of numbers for each, and the goal test at the end.
-ghost use Rattle.std.specs.Prelude.{◌≡◌, [], map, ◌+◌, ◌≤◌, ◌<◌, eqb, replicate};
+// The run of a sheet's plan: from place to place, the numbers of a row for each, and the goal test at the end.
+ghost use Rattle.std.specs.Prelude.{◌≡◌, [], map, ◌≤◌, ◌<◌, eqb, length};
 ghost use Rattle.sheet.specs.Lists.{all_of};
-ghost use Rattle.sheet.specs.inner.Decoded.{plan_in, problem_in};
-ghost use Rattle.sheet.specs.inner.Packed.{goal_in, moves_in, sets_in, SetsFit, action_of};
+ghost use Rattle.sheet.specs.inner.Decoded.{plan_in, problem_in, Filled};
+ghost use Rattle.sheet.specs.inner.Packed.{goal_in, moves_in, sets_in, action_of};
 ghost use Rattle.sheet.specs.Format.{sheet_of};
-ghost use Rattle.table.specs.Entries.{entries_of};
-ghost use Rattle.table.specs.inner.Slots.{Room, Fresh};
 ghost use Rattle.table.specs.Start.{start_table};
 ghost use Rattle.table.specs.Step.{step_table};
-ghost use Rattle.table.specs.Calls.{or_given};
-ghost use Rattle.table.specs.Entries.{lent};
-ghost use Rattle.table.specs.inner.Steps.{step_answer, MoveFits};
+ghost use Rattle.table.specs.inner.Outcomes.{Came};
+ghost use Rattle.table.specs.inner.Steps.{MoveFits};
 ghost use Rattle.plan.specs.Run as R;
 ghost use Rattle.plan.specs.Calls.{verdict_of};
 ghost use Rattle.plan.specs.inner.Course as C;
-ghost use Rattle.plan.specs.inner.Searches as W;
+ghost use Rattle.plan.specs.inner.Movable.{Runnable};
 ghost use Rattle.sheet.specs.Limits.{most_entries, most_places};
 
 use crate::goals::all_in_goal;
-use crate::{Counts, Course, RunAnswer, RunRecord, Verdict};
+use crate::{Counts, Course, RunAnswer, Verdict};
 use sheet::limits::{ENTRIES, PLACES};
-use sheet::packed::{GOAL, LENGTH, MOVES};
-use sheet::{Answer, Plan, Sheet};
+use sheet::packed::{GOAL, LENGTH, MOVES, Sets};
+use sheet::{Fault, Plan, Sheet};
 use table::Table;
+use table::entries::Entries;
 use table::picture_clauses::clause_count;
-use table::starts::{Started, first_into};
-use table::steps::{Stepped, step_at};
+use table::slots::Slots;
+use table::starts::first_into;
+use table::steps::step_at;
 
-// One row more: the entries of a lent table and the clauses of its picture.
-pub(crate) fn note<'a, 'b, 'c>(
-    entries: &'a mut [usize; PLACES],
-    clauses: &'b mut [usize; PLACES],
-    at: usize,
-    trues: &'c [u32],
-    falses: &'c [u32],
-    count: usize,
-)
-    requires at_lt_most_places { (at < most_places) × (1 ≤ count) }
-    requires room { Room count trues.now falses.now }
-    ensures { C.counts_in (at + 1) entries.new clauses.new ≡ C.noted (C.counts_in at entries.old clauses.old) (entries_of count trues.now falses.now) }
+// One row more: the entries of a table and the clauses of its picture.
+#[tactic(auto, unfolding(crate::specs::inner::Course::noted))]
+pub(crate) fn note(counts: &mut Counts, entries: &Entries)
+    requires room { counts.old.count < most_places }
+    requires some { 1 ≤ length entries.now }
+    ensures { counts.new ≡ C.noted counts.old entries.now }
 {
-    entries[at] = count;
-    clauses[at] = clause_count(trues, falses, count);
+    let at = counts.count;
+    counts.entries[at] = entries.len();
+    counts.clauses[at] = clause_count(entries);
+    counts.count = at + 1;
 }
 
 // What a refused step means for a run: 21 is full, the other numbers stop it.
+#[tactic(auto, unfolding(crate::specs::Calls::verdict_of))]
 pub(crate) fn halt(place: usize, number: u8) -> Verdict
     ensures { result ≡ verdict_of (R.halted_by (eqb number 21) place number) }
 {
@@ -55,157 +51,96 @@ pub(crate) fn halt(place: usize, number: u8) -> Verdict
 }
 
 // The verdict after the last move: reached if every entry is in the goal, otherwise short.
-pub(crate) fn end<'a, 'b>(
-    goal: &'a [u32],
-    trues: &'b [u32],
-    falses: &'b [u32],
-    count: usize,
-) -> Verdict
-    requires sets_fit { SetsFit goal.now }
-    requires room { Room count trues.now falses.now }
-    ensures { result ≡ verdict_of (R.ended_in (all_of (R.in_goal (sets_in goal.now)) (entries_of count trues.now falses.now))) }
+#[tactic(auto, unfolding(crate::specs::Calls::verdict_of))]
+pub(crate) fn end(goal: &Sets, entries: &Entries) -> Verdict
+    ensures { result ≡ verdict_of (R.ended_in (all_of (R.in_goal goal.now) entries.now)) }
 {
-    if all_in_goal(goal, trues, falses, count) {
+    if all_in_goal(goal, entries) {
         return Verdict::Reached;
     }
     Verdict::Short
 }
 
-// The step of a lent table by a move, in its place. Refused, the table is left as it was.
-pub(crate) fn step_here<'a, 'b, 'c>(
-    packed: &'a [u32],
+// The step of a table by a move, in its place. Refused, the table is left as it was.
+pub(crate) fn step_here(
+    packed: &[u32],
     index: usize,
-    trues: &'b mut [u32; ENTRIES],
-    falses: &'c mut [u32; ENTRIES],
-    count: usize,
-) -> Stepped
-    requires { MoveFits packed.now index (lent count trues.old falses.old) }
-    ensures { step_answer (lent count trues.new falses.new) result trues.new falses.new ≡ or_given (lent count trues.old falses.old) (step_table most_entries (action_of (moves_in packed.now) index) (entries_of count trues.old falses.old)) }
+    table: &mut Slots<ENTRIES>,
+) -> Result<(), Fault>
+    requires { MoveFits packed.now index table.old }
+    ensures came { Came result table.new (step_table most_entries (action_of (moves_in packed.now) index) table.old) }
+    ensures kept { table.new ≡ R.table_or (step_table most_entries (action_of (moves_in packed.now) index) table.old) table.old (λ u. u) }
 {
-    let mut to_trues = [0u32; ENTRIES];
-    let mut to_falses = [0u32; ENTRIES];
-    match step_at(
-        packed,
-        index,
-        trues,
-        falses,
-        count,
-        &mut to_trues,
-        &mut to_falses,
-    ) {
-        Stepped::To(filled) => {
-            *trues = to_trues;
-            *falses = to_falses;
-            Stepped::To(filled)
-        }
-        Stepped::Refused(number, position) => Stepped::Refused(number, position),
-    }
+    let mut to = Slots::new();
+    step_at(packed, index, &table.entries(), &mut to)?;
+    *table = to;
+    Ok(())
 }
 
-// A plan from a lent table: the last table in its place, the rows in arrays of zeros.
-pub(crate) fn run_from<'a, 'b, 'c, 'd, 'e>(
+// A plan from a table: the last table in its place, and the numbers of the rows.
+pub(crate) fn run_from(
     plan: Plan,
-    packed: &'a [u32],
-    trues: &'b mut [u32; ENTRIES],
-    falses: &'c mut [u32; ENTRIES],
-    count: usize,
-    entries: &'d mut [usize; PLACES],
-    clauses: &'e mut [usize; PLACES],
-) -> RunRecord
-    requires runnable { W.Runnable plan packed.now (lent count trues.old falses.old) }
-    requires fresh_rows { C.FreshRows entries.old clauses.old }
-    ensures { C.course_in result trues.new falses.new entries.new clauses.new ≡ C.course_from (sets_in (goal_in packed.now)) [] 0 (map (action_of (moves_in packed.now)) (plan_in plan)) (entries_of count trues.old falses.old) }
+    packed: &[u32],
+    table: &mut Slots<ENTRIES>,
+    counts: &mut Counts,
+) -> Verdict
+    requires runnable { Runnable plan packed.now table.old }
+    requires no_row { counts.old ≡ C.counts_of [] }
+    ensures { C.course_in result table.new counts.new ≡ C.course_from (sets_in (goal_in packed.now)) [] 0 (map (action_of (moves_in packed.now)) (plan_in plan)) table.old }
 {
-    let length = plan.count;
-    let mut filled = count;
-    let mut i: usize = 0;
-    while i < length {
-        note(entries, clauses, i, trues, falses, filled);
-        let place = i + 1;
-        let index = plan.numbers[i] as usize;
-        match step_here(packed, index, trues, falses, filled) {
-            Stepped::To(grown) => {
-                filled = grown;
-            }
-            Stepped::Refused(number, _) => {
-                return RunRecord {
-                    verdict: halt(place, number),
-                    count: filled,
-                    rows: place,
-                };
-            }
+    let numbers = &plan.numbers[..plan.count];
+    for number in numbers {
+        note(counts, &table.entries());
+        if let Err(fault) = step_here(packed, *number as usize, table) {
+            return halt(counts.count, fault.number);
         }
-        i += 1;
     }
-    note(entries, clauses, i, trues, falses, filled);
-    let goal = &packed[GOAL..MOVES];
-    RunRecord {
-        verdict: end(goal, trues, falses, filled),
-        count: filled,
-        rows: i + 1,
-    }
+    note(counts, &table.entries());
+    end(&Sets::of(&packed[GOAL..MOVES]), &table.entries())
 }
 
-// A refusal: no table, and no row.
-pub(crate) fn refuse_run(number: u8, position: usize) -> RunRecord
-    ensures { C.course_in result (replicate most_entries 0) (replicate most_entries 0) (replicate most_places 0) (replicate most_places 0) ≡ C.refused_course number position }
-{
-    RunRecord {
-        verdict: Verdict::Refused(number, position),
-        count: 0,
-        rows: 0,
-    }
-}
-
-// The run of a sheet that was read, into arrays of zeros: 20 or 21 of its start, otherwise its plan from the first table.
-pub(crate) fn run_sheet<'a, 'b, 'c, 'd, 'e>(
+// The run of a sheet that was read: 20 or 21 of its start, otherwise its plan from the first table.
+pub(crate) fn run_sheet(
     sheet: Sheet,
-    packed: &'a [u32],
-    trues: &'b mut [u32; ENTRIES],
-    falses: &'c mut [u32; ENTRIES],
-    entries: &'d mut [usize; PLACES],
-    clauses: &'e mut [usize; PLACES],
-) -> RunRecord
-    requires { W.RunRoom sheet packed.now trues.old falses.old entries.old clauses.old }
-    ensures { C.course_in result trues.new falses.new entries.new clauses.new ≡ C.planned_course (problem_in sheet packed.now) (plan_in sheet.plan) (start_table most_entries (problem_in sheet packed.now)) }
+    packed: &[u32],
+    table: &mut Slots<ENTRIES>,
+    counts: &mut Counts,
+) -> Verdict
+    requires filled { Filled sheet packed.now }
+    requires no_entry { table.old ≡ [] }
+    requires no_row { counts.old ≡ C.counts_of [] }
+    ensures { C.course_in result table.new counts.new ≡ C.planned_course (problem_in sheet packed.now) (plan_in sheet.plan) (start_table most_entries (problem_in sheet packed.now)) }
 {
-    let plan = sheet.plan;
-    match first_into(sheet, packed, trues, falses) {
-        Started::To(count) => run_from(plan, packed, trues, falses, count, entries, clauses),
-        Started::Refused(number, _) => {
-            *trues = [0u32; ENTRIES];
-            *falses = [0u32; ENTRIES];
-            refuse_run(number, 0)
+    match first_into(sheet, packed, table) {
+        Ok(()) => run_from(sheet.plan, packed, table, counts),
+        Err(fault) => {
+            *table = Slots::new();
+            Verdict::Refused(fault.number, 0)
         }
     }
 }
 
-// The run of a sheet with so many rows lent, into arrays of zeros: a fault of the sheet, 23 for fewer than 65 rows, then the run.
-pub fn course_into<'a, 'b, 'c, 'd, 'e>(
-    bytes: &'a [u8],
+// The run of a sheet with so many rows lent: a fault of the sheet, 23 for fewer than 65 rows, then the run.
+pub fn course_into(
+    bytes: &[u8],
     lent: usize,
-    trues: &'b mut [u32; ENTRIES],
-    falses: &'c mut [u32; ENTRIES],
-    entries: &'d mut [usize; PLACES],
-    clauses: &'e mut [usize; PLACES],
-) -> RunRecord
-    requires fresh { Fresh trues.old falses.old }
-    requires fresh_rows { C.FreshRows entries.old clauses.old }
-    ensures { C.course_in result trues.new falses.new entries.new clauses.new ≡ C.course_of (sheet_of bytes.now) lent }
+    table: &mut Slots<ENTRIES>,
+    counts: &mut Counts,
+) -> Verdict
+    requires no_entry { table.old ≡ [] }
+    requires no_row { counts.old ≡ C.counts_of [] }
+    ensures { C.course_in result table.new counts.new ≡ C.course_of (sheet_of bytes.now) lent }
 {
     let mut packed = [0u32; LENGTH];
-    let decoded = sheet::decode(bytes, &mut packed);
-    let answer = decoded.answer;
-    match answer {
-        Answer::Refused(number, position) => refuse_run(number, position),
-        Answer::Accepted => {
+    match sheet::decode(bytes, &mut packed) {
+        Err(fault) => Verdict::Refused(fault.number, fault.position),
+        Ok(sheet) => {
             if lent < PLACES {
-                return refuse_run(23, 0);
+                return Verdict::Refused(23, 0);
             }
-            let sheet = decoded.sheet;
             // A reference to the whole array: its type has the length.
             let packed = &packed;
-            run_sheet(sheet, packed, trues, falses, entries, clauses)
+            run_sheet(sheet, packed, table, counts)
         }
     }
 }
@@ -214,32 +149,14 @@ pub fn course_into<'a, 'b, 'c, 'd, 'e>(
 pub fn course(bytes: &[u8], lent: usize) -> Course
     ensures { result ≡ C.course_of (sheet_of bytes.now) lent }
 {
-    let mut trues = [0u32; ENTRIES];
-    let mut falses = [0u32; ENTRIES];
-    let mut entries = [0usize; PLACES];
-    let mut clauses = [0usize; PLACES];
-    let ran = course_into(
-        bytes,
-        lent,
-        &mut trues,
-        &mut falses,
-        &mut entries,
-        &mut clauses,
-    );
-    let verdict = ran.verdict;
+    let mut table = Slots::new();
+    let mut counts = Counts::new();
+    let verdict = course_into(bytes, lent, &mut table, &mut counts);
     Course {
         ran: RunAnswer {
             verdict,
-            table: Table {
-                count: ran.count,
-                trues,
-                falses,
-            },
+            table: table.into(),
         },
-        counts: Counts {
-            count: ran.rows,
-            entries,
-            clauses,
-        },
+        counts,
     }
 }

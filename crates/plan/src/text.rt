@@ -1,152 +1,146 @@
-// The text of the program `check`, written into a lent buffer.
+// The text of the program `check`, written into a lent buffer. Document 01 fixes its bytes, and std's Display promises nothing of the text
+// that it gives, so they are written out here.
 ghost use Rattle.std.specs.Prelude.{◌≡◌, ◌+◌, ◌*◌, ◌≤◌, length};
 ghost use Rattle.plan.specs.Demand3.{refused_verdict};
-ghost use Rattle.plan.specs.inner.Course.{counts_in};
 ghost use Rattle.plan.specs.inner.Rows.{rows_in};
 ghost use Rattle.plan.specs.Text.{decimal, clauses_text, row_text, rows_text, number_at, last_line, text_of};
-ghost use Rattle.plan.specs.inner.Writing.{Wrote};
+ghost use Rattle.plan.specs.inner.Writing.{Wrote, WroteFirst};
 ghost use Rattle.sheet.specs.Limits.{most_places, report_length};
 
 use crate::rows::row_at;
-use crate::{Row, Verdict};
-use sheet::limits::{FULL_PICTURE, PLACES};
-
-// The bytes s.
-pub(crate) fn write_bytes(out: &mut [u8], at: usize, s: &[u8]) -> usize
-    requires { at + length s.now ≤ length out.old }
-    ensures { Wrote out.old at s.now result out.new }
-{
-    let mut i: usize = 0;
-    while i < s.len() {
-        out[at + i] = s[i];
-        i += 1;
-    }
-    at + i
-}
-
-// A number in decimal.
-pub(crate) fn write_number(out: &mut [u8], at: usize, value: usize) -> usize
-    requires { at + 20 ≤ length out.old }
-    ensures wrote { Wrote out.old at (decimal value) result out.new }
-    ensures upper_bound { result ≤ at + 20 }
-{
-    if value < 10 {
-        out[at] = (48 + value) as u8;
-        return at + 1;
-    }
-    let last = write_number(out, at, value / 10);
-    out[last] = (48 + value % 10) as u8;
-    last + 1
-}
-
-// The clauses of a row: `-` for a full picture.
-pub(crate) fn write_clauses(out: &mut [u8], at: usize, clauses: usize) -> usize
-    requires { at + 20 ≤ length out.old }
-    ensures wrote { Wrote out.old at (clauses_text clauses) result out.new }
-    ensures upper_bound { result ≤ at + 20 }
-{
-    if clauses == FULL_PICTURE {
-        return write_bytes(out, at, b"-");
-    }
-    write_number(out, at, clauses)
-}
-
-// A row as a line.
-pub(crate) fn write_row_line(out: &mut [u8], at: usize, row: Row) -> usize
-    requires { at + 63 ≤ length out.old }
-    ensures wrote { Wrote out.old at (row_text row) result out.new }
-    ensures upper_bound { result ≤ at + 63 }
-{
-    let a = write_number(out, at, row.place);
-    let b = write_bytes(out, a, b" ");
-    let c = write_number(out, b, row.entries);
-    let d = write_bytes(out, c, b" ");
-    let e = write_clauses(out, d, row.clauses);
-    write_bytes(out, e, b"\n")
-}
-
-// The rows of the first places, so many, from their entries and clauses.
-pub(crate) fn write_row_lines<'a, 'b>(
-    out: &'a mut [u8],
-    at: usize,
-    rows: usize,
-    entries: &'b [usize; PLACES],
-    clauses: &'b [usize; PLACES],
-) -> usize
-    requires rows_le_most_places { rows ≤ most_places }
-    requires rows_in_bounds { at + 63 * rows ≤ length out.old }
-    ensures wrote { Wrote out.old at (rows_text (rows_in (counts_in rows entries.now clauses.now))) result out.new }
-    ensures upper_bound { result ≤ at + 63 * rows }
-{
-    let mut next = at;
-    let mut i: usize = 0;
-    while i < rows {
-        let row = row_at(entries, clauses, i);
-        next = write_row_line(out, next, row);
-        i += 1;
-    }
-    next
-}
-
-// A word, a number, `at` and a place, as a line.
-pub(crate) fn write_at(out: &mut [u8], at: usize, word: &[u8], number: u8, place: usize) -> usize
-    requires { (at + length word.now) + 45 ≤ length out.old }
-    ensures { Wrote out.old at (number_at word.now number place) result out.new }
-{
-    let a = write_bytes(out, at, word);
-    let b = write_number(out, a, number as usize);
-    let c = write_bytes(out, b, b" at ");
-    let d = write_number(out, c, place);
-    write_bytes(out, d, b"\n")
-}
-
-// The last line of the run.
-pub(crate) fn write_verdict(out: &mut [u8], at: usize, verdict: Verdict) -> usize
-    requires { at + 53 ≤ length out.old }
-    ensures { Wrote out.old at (last_line verdict) result out.new }
-{
-    match verdict {
-        Verdict::Reached => write_bytes(out, at, b"reached\n"),
-        Verdict::Short => write_bytes(out, at, b"short\n"),
-        Verdict::Stopped(place, number) => write_at(out, at, b"stopped ", number, place),
-        Verdict::Full(place) => {
-            let a = write_bytes(out, at, b"full at ");
-            let b = write_number(out, a, place);
-            write_bytes(out, b, b"\n")
-        }
-        Verdict::Refused(number, position) => write_at(out, at, b"refused ", number, position),
-    }
-}
+use crate::{Counts, Row, Verdict};
+use sheet::limits::FULL_PICTURE;
 
 // The run was refused.
+#[tactic(auto, unfolding(crate::specs::Demand3::refused_verdict))]
 pub(crate) fn is_refused(verdict: Verdict) -> bool
     ensures { result ≡ refused_verdict verdict }
 {
-    match verdict {
-        Verdict::Reached => false,
-        Verdict::Short => false,
-        Verdict::Stopped(_, _) => false,
-        Verdict::Full(_) => false,
-        Verdict::Refused(_, _) => true,
+    matches!(verdict, Verdict::Refused(_, _))
+}
+
+// A lent buffer, and where the next text goes in it.
+#[derive(Drop)]
+pub(crate) struct Writer<'a> {
+    out: &'a mut [u8],
+    at: usize,
+}
+
+impl<'a> Writer<'a> {
+    // The bytes s.
+    fn bytes(&mut self, s: &[u8])
+        requires { self.old.at + length s.now ≤ length self.old.out.now }
+        ensures { Wrote self.old s.now self.new }
+    {
+        let next = self.at + s.len();
+        self.out[self.at..next].copy_from_slice(s);
+        self.at = next;
+    }
+
+    // A number in decimal.
+    fn number(&mut self, value: usize)
+        requires { self.old.at + 20 ≤ length self.old.out.now }
+        ensures wrote { Wrote self.old (decimal value) self.new }
+        ensures upper_bound { self.new.at ≤ self.old.at + 20 }
+    {
+        if value >= 10 {
+            self.number(value / 10);
+        }
+        self.bytes(&[b'0' + (value % 10) as u8]);
+    }
+
+    // The clauses of a row: `-` for a full picture.
+    #[tactic(auto, unfolding(crate::specs::Text::clauses_text))]
+    fn clauses(&mut self, clauses: usize)
+        requires { self.old.at + 20 ≤ length self.old.out.now }
+        ensures wrote { Wrote self.old (clauses_text clauses) self.new }
+        ensures upper_bound { self.new.at ≤ self.old.at + 20 }
+    {
+        if clauses == FULL_PICTURE {
+            return self.bytes(b"-");
+        }
+        self.number(clauses);
+    }
+
+    // A row as a line.
+    fn row(&mut self, row: Row)
+        requires { self.old.at + 63 ≤ length self.old.out.now }
+        ensures wrote { Wrote self.old (row_text row) self.new }
+        ensures upper_bound { self.new.at ≤ self.old.at + 63 }
+    {
+        self.number(row.place);
+        self.bytes(b" ");
+        self.number(row.entries);
+        self.bytes(b" ");
+        self.clauses(row.clauses);
+        self.bytes(b"\n");
+    }
+
+    // The rows of the places arrived at.
+    #[tactic(auto, using(crate::proofs::laws::text::TextBytes::wrote_no_rows))]
+    fn rows(&mut self, counts: &Counts)
+        requires rows_le_most_places { counts.now.count ≤ most_places }
+        requires rows_in_bounds { self.old.at + 63 * counts.now.count ≤ length self.old.out.now }
+        ensures wrote { Wrote self.old (rows_text (rows_in counts.now)) self.new }
+        ensures upper_bound { self.new.at ≤ self.old.at + 63 * counts.now.count }
+    {
+        for i in 0..counts.count {
+            self.row(row_at(counts, i));
+        }
+    }
+
+    // A word, a number, `at` and a place, as a line.
+    fn number_at(&mut self, word: &[u8], number: u8, place: usize)
+        requires { (self.old.at + length word.now) + 45 ≤ length self.old.out.now }
+        ensures { Wrote self.old (number_at word.now number place) self.new }
+    {
+        self.bytes(word);
+        self.number(number as usize);
+        self.bytes(b" at ");
+        self.number(place);
+        self.bytes(b"\n");
+    }
+
+    // The last line of the run.
+    #[tactic(auto, unfolding(crate::specs::Text::last_line))]
+    fn verdict(&mut self, verdict: Verdict)
+        requires { self.old.at + 53 ≤ length self.old.out.now }
+        ensures { Wrote self.old (last_line verdict) self.new }
+    {
+        match verdict {
+            Verdict::Reached => self.bytes(b"reached\n"),
+            Verdict::Short => self.bytes(b"short\n"),
+            Verdict::Stopped(place, number) => self.number_at(b"stopped ", number, place),
+            Verdict::Full(place) => {
+                self.bytes(b"full at ");
+                self.number(place);
+                self.bytes(b"\n");
+            }
+            Verdict::Refused(number, position) => self.number_at(b"refused ", number, position),
+        }
+    }
+    // The whole text of a run: its verdict, and the numbers of its rows.
+    fn run(&mut self, verdict: Verdict, counts: &Counts)
+        requires rows_le_most_places { counts.now.count ≤ most_places }
+        requires report_length_in_bounds { self.old.at + report_length ≤ length self.old.out.now }
+        ensures { Wrote self.old (text_of verdict (rows_in counts.now)) self.new }
+    {
+        if !is_refused(verdict) {
+            self.bytes(b"place entries clauses\n");
+            self.rows(counts);
+        }
+        self.verdict(verdict);
     }
 }
 
-// The whole text of a run: its verdict, and so many rows.
-pub(crate) fn write_text<'a, 'b>(
-    out: &'a mut [u8],
-    verdict: Verdict,
-    rows: usize,
-    entries: &'b [usize; PLACES],
-    clauses: &'b [usize; PLACES],
-) -> usize
-    requires rows_le_most_places { rows ≤ most_places }
+// The whole text of a run, from the first byte of the buffer on.
+#[tactic(auto, using(crate::proofs::laws::text::TextBytes::wrote_first))]
+pub(crate) fn write_text(out: &mut [u8], verdict: Verdict, counts: &Counts) -> usize
+    requires rows_le_most_places { counts.now.count ≤ most_places }
     requires report_length_in_bounds { report_length ≤ length out.old }
-    ensures { Wrote out.old 0 (text_of verdict (rows_in (counts_in rows entries.now clauses.now))) result out.new }
+    ensures { WroteFirst out.old (text_of verdict (rows_in counts.now)) result out.new }
 {
-    if is_refused(verdict) {
-        return write_verdict(out, 0, verdict);
-    }
-    let a = write_bytes(out, 0, b"place entries clauses\n");
-    let b = write_row_lines(out, a, rows, entries, clauses);
-    write_verdict(out, b, verdict)
+    let mut to = Writer { out, at: 0 };
+    to.run(verdict, counts);
+    to.at
 }

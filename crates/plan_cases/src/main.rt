@@ -16,7 +16,9 @@ ghost use Rattle.sheet.specs.Format.{sheet_of};
 ghost use Rattle.plan.specs.Calls.{run_of, rows_after};
 ghost use Rattle.plan_cases.specs.Rows.{no_row};
 
+use cases::Bytes;
 use plan::{Counts, Kind, Row, RunAnswer, Verdict};
+use sheet::Fault;
 use std::io;
 use std::io::Write;
 
@@ -30,13 +32,13 @@ pub struct RanRows {
 // How a run ends, as a line.
 fn write_verdict(to: &mut impl Write, verdict: Verdict) -> io::Result<()> {
     match verdict {
-        Verdict::Reached => cases::write_line(to, b"reached"),
-        Verdict::Short => cases::write_line(to, b"short"),
-        Verdict::Stopped(place, number) => {
-            cases::write_pair(to, b"stopped ", number as u64, b" at ", place as u64)
-        }
-        Verdict::Full(place) => cases::write_number(to, b"full at ", place as u64),
-        Verdict::Refused(number, position) => cases::write_refusal(to, number, position),
+        Verdict::Reached => writeln!(to, "reached"),
+        Verdict::Short => writeln!(to, "short"),
+        Verdict::Stopped(place, number) => writeln!(to, "stopped {number} at {place}"),
+        Verdict::Full(place) => writeln!(to, "full at {place}"),
+        Verdict::Refused(number, position) => {
+            cases::write_refusal(to, Fault { number, position })
+        },
     }
 }
 
@@ -49,20 +51,19 @@ fn write_ran(to: &mut impl Write, ran: RunAnswer) -> io::Result<()> {
 }
 
 // A digest of the numbers of all rows.
-fn digest_counts(c: Counts) -> u64 {
+fn digest_counts(c: &Counts) -> u64 {
     let mut value: u64 = 0;
-    for i in 0..65 {
-        value = cases::mixed(value, c.entries[i] as u64);
-        value = cases::mixed(value, c.clauses[i] as u64);
+    for (entries, clauses) in c.entries.iter().zip(&c.clauses) {
+        value = cases::mixed(value, *entries as u64);
+        value = cases::mixed(value, *clauses as u64);
     }
     value
 }
 
-// A digest of 65 rows.
-fn digest_rows(r: RanRows) -> u64 {
+// A digest of rows.
+fn digest_rows(rows: &[Row]) -> u64 {
     let mut value: u64 = 0;
-    for i in 0..65 {
-        let row = r.rows[i];
+    for row in rows {
         value = cases::mixed(value, row.place as u64);
         value = cases::mixed(value, row.entries as u64);
         value = cases::mixed(value, row.clauses as u64);
@@ -72,7 +73,7 @@ fn digest_rows(r: RanRows) -> u64 {
 
 // What the program `check` prints for a sheet.
 fn show_report(to: &mut impl Write, sheet: &[u8]) -> io::Result<()> {
-    let mut text = cases::room();
+    let mut text = [0; plan::REPORT_LENGTH];
     let n = plan::report(sheet, &mut text);
     to.write_all(&text[..n])
 }
@@ -82,13 +83,8 @@ fn show_course(to: &mut impl Write, sheet: &[u8], lent: usize) -> io::Result<()>
     let c = plan::runs::course(sheet, lent);
     write_ran(to, c.ran)?;
     let counts = c.counts;
-    cases::write_pair(
-        to,
-        b"rows ",
-        counts.count as u64,
-        b" numbers ",
-        digest_counts(counts),
-    )
+    let numbers = digest_counts(&counts);
+    writeln!(to, "rows {} numbers {numbers}", counts.count)
 }
 
 // The run of a sheet with 65 rows of its own, lent to the call.
@@ -109,16 +105,16 @@ fn run_here(bytes: &[u8]) -> RanRows
 fn show_run(to: &mut impl Write, sheet: &[u8]) -> io::Result<()> {
     let r = run_here(sheet);
     write_ran(to, r.ran)?;
-    cases::write_pair(to, b"rows ", 65, b" numbers ", digest_rows(r))
+    writeln!(to, "rows 65 numbers {}", digest_rows(&r.rows))
 }
 
 // How a search ends, as a line.
 fn write_kind(to: &mut impl Write, kind: Kind) -> io::Result<()> {
     match kind {
-        Kind::Reached => cases::write_line(to, b"reached"),
-        Kind::Full(place) => cases::write_number(to, b"full at ", place as u64),
-        Kind::Nothing => cases::write_line(to, b"none"),
-        Kind::Refused(number, position) => cases::write_refusal(to, number, position),
+        Kind::Reached => writeln!(to, "reached"),
+        Kind::Full(place) => writeln!(to, "full at {place}"),
+        Kind::Nothing => writeln!(to, "none"),
+        Kind::Refused(number, position) => { cases::write_refusal(to, Fault { number, position }) },
     }
 }
 
@@ -127,49 +123,39 @@ fn show_search(to: &mut impl Write, sheet: &[u8], limit: usize) -> io::Result<()
     let s = plan::search(sheet, limit);
     let kind = s.kind;
     write_kind(to, kind)?;
-    let moves = s.plan;
-    cases::write_pair(
+    writeln!(
         to,
-        b"length ",
-        s.length as u64,
-        b" plan ",
-        cases::digest_bytes(&moves),
+        "length {} plan {}",
+        s.length,
+        cases::digest_bytes(&s.plan)
     )
 }
 
-// What a case says, done for the current sheet. No bytes are no case.
-fn act(to: &mut impl Write, sheet: &[u8], bytes: &[u8]) -> io::Result<()> {
-    if bytes.len() == 0 {
-        return Ok(());
-    }
-    let what = bytes[0];
-    let wide = cases::number(bytes, 1, 8);
-    match what {
-        1 => show_report(to, sheet),
-        2 => show_course(to, sheet, wide as usize),
-        3 => show_run(to, sheet),
-        _ => show_search(to, sheet, wide as usize),
+// What a case says, done for the current sheet.
+fn act(to: &mut impl Write, sheet: &[u8], case: &[u8]) -> io::Result<()> {
+    let wide = cases::number(case, 1, 8) as usize;
+    match case {
+        [1, ..] => show_report(to, sheet),
+        [2, ..] => show_course(to, sheet, wide),
+        [3, ..] => show_run(to, sheet),
+        _ => show_search(to, sheet, wide),
     }
 }
 
 // The lines in turn, with the current sheet.
 fn answer_lines(to: &mut impl Write, text: &[u8]) -> io::Result<()> {
-    let mut sheet = cases::room();
-    let mut bytes = cases::room();
-    let mut size: usize = 0;
-    let mut at: usize = 0;
-    while at < text.len() {
-        let case = cases::next_case(to, text, at, &mut sheet, size, &mut bytes)?;
-        size = case.size;
-        let count = case.count;
-        act(to, &sheet[..size], &bytes[..count])?;
-        at = case.next;
+    let mut sheet = Bytes::new();
+    let mut bytes = Bytes::new();
+    for line in text.split_inclusive(|b| *b == b'\n') {
+        if let Some(case) = cases::read_case(to, line, &mut sheet, &mut bytes)? {
+            act(to, sheet.as_slice(), case)?;
+        }
     }
     Ok(())
 }
 
 fn main(rt: HostRuntime) -> io::Result<()> {
-    let mut text = cases::input();
+    let mut text = [0; cases::INPUT];
     let n = cases::read_full(&mut rt.stdin(), &mut text)?;
     answer_lines(&mut rt.stdout(), &text[..n])
 }

@@ -6,11 +6,10 @@ use mathlib.Core.Logic.{◌↔◌}
 use mathlib.Core.List.{List, ◌∷◌, ◌++◌}
 use Prim.Native.Nat.{ℕ, ◌+◌, ◌≤◌, ◌<◌}
 use lib.ListN.{length, take}
-use Rattle.sheet.specs.declared.Answer.TheVariants.{Accepted}
 use Rattle.sheet.specs.Problem.{Statement}
 use Rattle.sheet.specs.Format.{refused, sheet_of}
 use Rattle.sheet.specs.Encoding.{ProperStatement, encode}
-use Rattle.sheet.specs.Calls.{answer_of, judge_of}
+use Rattle.sheet.specs.Calls.{Accepted, answer_of, judge_of}
 use Rattle.sheet.specs.Faults.{Says}
 use Rattle.sheet.proofs.laws.format.Judgements as J
 use Rattle.sheet.proofs.laws.format.Encodings as E

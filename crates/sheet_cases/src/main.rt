@@ -3,26 +3,23 @@
 // Written: the answer of each sheet.
 #![tactic(auto)]
 
+use cases::Bytes;
 use std::io;
 use std::io::Write;
 
 // The lines in turn.
 fn answer_lines(to: &mut impl Write, text: &[u8]) -> io::Result<()> {
-    let mut bytes = cases::room();
-    let mut at: usize = 0;
-    while at < text.len() {
-        let line = cases::next_line(to, text, at, &mut bytes)?;
-        let count = line.count;
-        if !line.heading {
-            cases::write_answer(to, sheet::judge(&bytes[..count]))?;
+    let mut bytes = Bytes::new();
+    for line in text.split_inclusive(|b| *b == b'\n') {
+        if let Some(sheet) = cases::read_line(to, line, &mut bytes)? {
+            cases::write_answer(to, sheet::judge(sheet))?;
         }
-        at = line.next;
     }
     Ok(())
 }
 
 fn main(rt: HostRuntime) -> io::Result<()> {
-    let mut text = cases::input();
+    let mut text = [0; cases::INPUT];
     let n = cases::read_full(&mut rt.stdin(), &mut text)?;
     answer_lines(&mut rt.stdout(), &text[..n])
 }

@@ -16,7 +16,7 @@ use Rattle.sheet.specs.Literals.{no_literal, within, consistent, state, Proper}
 use Rattle.sheet.specs.Lists.{All, any_of, all_of, collect}
 use Rattle.sheet.specs.Problem.{Action, Problem}
 use Rattle.sheet.specs.Encoding.{ProperEffect, ProperAction, ProperProblem}
-use Rattle.table.specs.declared.slots.Found.TheVariants.{At, Nothing}
+use Rattle.std.specs.Prelude.{Option, Some, None}
 use Rattle.table.specs.declared.slots.Fate.TheVariants.{Dropped}
 use Rattle.table.specs.Worlds.{results, step_world, Starting}
 use Rattle.table.specs.Minimal.{In, Antichain, Described, described, put, put_all, refused, table}
@@ -121,23 +121,23 @@ pairs_contradict = pairs.pairs_contradict
 
 -- ---- W3: the test of a candidate, from the last entry to the first
 -- by whether some entry lies in the candidate
-found : (t : List Literals) (c : Literals) (i : ℕ) → last_within t c ≡ At i → any_of (λ e. within e c) t ≡ true
-found t c i e = scan.found_some (λ e. within e c) t (At i) i (sym e) refl
+found : (t : List Literals) (c : Literals) (i : ℕ) → last_within t c ≡ Some i → any_of (λ e. within e c) t ≡ true
+found t c i e = scan.found_some (λ e. within e c) t (Some i) i (sym e) refl
 
-unfound : (t : List Literals) (c : Literals) → last_within t c ≡ Nothing → any_of (λ e. within e c) t ≡ false
-unfound t c e = scan.found_none (λ e. within e c) t Nothing (sym e) refl
+unfound : (t : List Literals) (c : Literals) → last_within t c ≡ None → any_of (λ e. within e c) t ≡ false
+unfound t c e = scan.found_none (λ e. within e c) t None (sym e) refl
 
 pub last_within_lem : (t : List Literals) (c : Literals) (i : ℕ)
-    → (last_within t c ≡ At i)
+    → (last_within t c ≡ Some i)
     ↔ ((i < length t) × T (within (get_or t i no_literal) c) ×
     ((j : ℕ) → i < j → j < length t → T (not (within (get_or t j no_literal) c))))
 last_within_lem t c = scan.last_at (λ e. within e c) t
 
-pub last_none : (t : List Literals) (c : Literals) → (last_within t c ≡ Nothing) ↔ All (λ e. T (not (within e c))) t
+pub last_none : (t : List Literals) (c : Literals) → (last_within t c ≡ None) ↔ All (λ e. T (not (within e c))) t
 last_none t c = scan.last_none (λ e. within e c) t
 
 -- a candidate is dropped exactly if the test finds an entry
-pub dropped_found : (cap : ℕ) (t : List Literals) (c : Literals) → (fate_of cap t c ≡ Dropped) ↔ ((i : ℕ) × (last_within t c ≡ At i))
+pub dropped_found : (cap : ℕ) (t : List Literals) (c : Literals) → (fate_of cap t c ≡ Dropped) ↔ ((i : ℕ) × (last_within t c ≡ Some i))
 dropped_found cap t c = (
   λ e. scan.some_found (λ e. within e c) t (slots.dropped_within cap t c e),
   λ h. slots.fate_dropped cap t c (found t c h.0 h.1),

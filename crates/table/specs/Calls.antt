@@ -1,7 +1,7 @@
 -- The calls `start` and `step` as functions of what they are given (document 01, "Numbers and their order").
 use Rattle.std.specs.Prelude.{Bool, true, false, [], ℕ, ltb, length, get_or}
 use Rattle.sheet.specs.Limits.{most_entries}
-use Rattle.sheet.specs.declared.Answer.TheVariants.{Accepted, Refused}
+use Rattle.sheet.specs.Calls.{Accepted, Refused}
 use Rattle.sheet.specs.Literals.{no_literal}
 use Rattle.sheet.specs.Problem.{Action, Problem}
 use Rattle.sheet.specs.Format.{Judgement, accepted, refused}

@@ -3,23 +3,22 @@ use Rattle.std.specs.Prelude.{Bool, not, cond, List, [], ◌∷◌, ℕ, suc, �
 use Rattle.sheet.specs.declared.Literals.{Literals}
 use Rattle.sheet.specs.Literals.{within}
 use Rattle.sheet.specs.Lists.{any_of, keep}
-use Rattle.table.specs.declared.slots.Found.{Found}
-use Rattle.table.specs.declared.slots.Found.TheVariants.{At, Nothing}
+use Rattle.std.specs.Prelude.{Option, Some, None}
 use Rattle.table.specs.declared.slots.Fate.{Fate}
 use Rattle.table.specs.declared.slots.Fate.TheVariants.{Dropped, Added, Full}
 
 -- one place further, or at place 0 if b
-unfoldable pub shifted : Bool → Found → Found
-shifted b (At i) = At (suc i)
-shifted b Nothing = cond b (At 0) Nothing
+unfoldable pub shifted : Bool → Option ℕ → Option ℕ
+shifted b (Some i) = Some (suc i)
+shifted b None = cond b (Some 0) None
 
 -- the place of the last member that passes the test; nothing exactly if none does
-unfoldable pub last_of : (Literals → Bool) → List Literals → Found
-last_of f [] = Nothing
+unfoldable pub last_of : (Literals → Bool) → List Literals → Option ℕ
+last_of f [] = None
 last_of f (x ∷ xs) = shifted (f x) (last_of f xs)
 
 -- the last entry of t whose literals all lie in c (document 02, W3); nothing exactly if there is none
-abbrev pub last_within : List Literals → Literals → Found
+abbrev pub last_within : List Literals → Literals → Option ℕ
 last_within t c = last_of (λ e. within e c) t
 
 -- the members that do not contain c

@@ -4,7 +4,7 @@ use Rattle.std.specs.Prelude.{Bool, cond, List, ◌++◌, ℕ, ◌+◌, ◌*◌,
 use Rattle.std.proofs.Math.Option.{Option, none, some}
 use Rattle.sheet.specs.Limits.{most_entries}
 use Rattle.sheet.specs.declared.Literals.{Literals}
-use Rattle.sheet.specs.declared.Answer.TheVariants.{Accepted, Refused}
+use Rattle.sheet.specs.Calls.{Accepted, Refused}
 use Rattle.sheet.specs.Format.{Judgement, accepted, refused}
 use Rattle.table.specs.declared.Table.{Table}
 use Rattle.table.specs.declared.PictureAnswer.{PictureAnswer}

@@ -1,21 +1,21 @@
 // Belief states as tables of entries: the first table of a sheet, the step of a move, and pictures.
 #![tactic(auto)]
 
-ghost use Rattle.std.specs.Prelude.{◌≡◌, length};
+ghost use Rattle.std.specs.Prelude.{◌≡◌, [], length};
 ghost use Rattle.sheet.specs.Format.{sheet_of};
 ghost use Rattle.table.specs.Calls.{start_of, step_of};
 ghost use Rattle.table.specs.Entries.{lent};
 ghost use Rattle.table.specs.inner.Steps.{step_answer};
 ghost use Rattle.table.specs.inner.Starts.{start_answer};
-ghost use Rattle.table.specs.inner.Slots.{TableRoom, Fresh};
+ghost use Rattle.table.specs.inner.Slots.{TableRoom};
 ghost use Rattle.table.specs.PictureCalls.{picture_of, buffer_of};
 
-use crate::starts::Started;
-use crate::steps::Stepped;
-use sheet::Answer;
+use crate::slots::Slots;
 use sheet::limits::ENTRIES;
 use sheet::packed::LENGTH;
+use sheet::{Answer, Fault};
 
+pub mod entries;
 mod picture_bytes;
 pub mod picture_clauses;
 mod picture_order;
@@ -46,108 +46,82 @@ pub struct PictureAnswer {
     pub clauses: usize,
 }
 
-// The first table of a sheet, into arrays of zeros: a fault of the sheet, then the start.
-pub fn start_lent<'a, 'b, 'c>(
-    bytes: &'a [u8],
-    to_trues: &'b mut [u32; ENTRIES],
-    to_falses: &'c mut [u32; ENTRIES],
-) -> Started
-    requires { Fresh to_trues.old to_falses.old }
-    ensures { start_answer result to_trues.new to_falses.new ≡ start_of (sheet_of bytes.now) }
+// The first table of a sheet, into a list of no entries: a fault of the sheet, then the start.
+pub fn start_lent(bytes: &[u8], to: &mut Slots<ENTRIES>) -> Result<(), Fault>
+    requires { to.old ≡ [] }
+    ensures { start_answer result to.new ≡ start_of (sheet_of bytes.now) }
 {
     let mut packed = [0u32; LENGTH];
-    let decoded = sheet::decode(bytes, &mut packed);
-    let answer = decoded.answer;
-    match answer {
-        Answer::Refused(number, position) => Started::Refused(number, position),
-        Answer::Accepted => {
-            let sheet = decoded.sheet;
-            // A reference to the whole array: its type has the length.
-            let packed = &packed;
-            starts::first_into(sheet, packed, to_trues, to_falses)
-        }
-    }
+    let sheet = sheet::decode(bytes, &mut packed)?;
+    starts::first_into(sheet, &packed, to)
 }
 
 // The first table of a sheet.
 pub fn start(bytes: &[u8]) -> TableAnswer
     ensures { result ≡ start_of (sheet_of bytes.now) }
 {
-    let mut trues = [0u32; ENTRIES];
-    let mut falses = [0u32; ENTRIES];
-    match start_lent(bytes, &mut trues, &mut falses) {
-        Started::To(count) => TableAnswer {
-            answer: Answer::Accepted,
-            table: Table {
-                count,
-                trues,
-                falses,
-            },
+    let mut slots = Slots::new();
+    match start_lent(bytes, &mut slots) {
+        Ok(()) => TableAnswer {
+            answer: Ok(()),
+            table: Table::from(slots),
         },
-        Started::Refused(number, position) => starts::refuse_start(number, position),
+        Err(fault) => TableAnswer {
+            answer: Err(fault),
+            table: Table::from(Slots::new()),
+        },
     }
 }
 
-// The step of a lent table by the move of a number on a sheet, into arrays of zeros: a fault of the sheet, 7, 22, then the step.
-pub fn step_lent<'a, 'b, 'c, 'd>(
-    bytes: &'a [u8],
+// The step of a lent table by the move of a number on a sheet, into an empty list: a fault of the sheet, 7, 22, then the step.
+pub fn step_lent(
+    bytes: &[u8],
     index: usize,
-    trues: &'b [u32],
-    falses: &'b [u32],
+    trues: &[u32],
+    falses: &[u32],
     count: usize,
-    to_trues: &'c mut [u32; ENTRIES],
-    to_falses: &'d mut [u32; ENTRIES],
-) -> Stepped
+    to: &mut Slots<ENTRIES>,
+) -> Result<(), Fault>
     requires table_room { TableRoom trues.now falses.now }
-    requires fresh { Fresh to_trues.old to_falses.old }
-    ensures { step_answer (lent count trues.now falses.now) result to_trues.new to_falses.new ≡ step_of (sheet_of bytes.now) (lent count trues.now falses.now) index }
+    requires empty { to.old ≡ [] }
+    ensures { step_answer (lent count trues.now falses.now) result to.new ≡ step_of (sheet_of bytes.now) (lent count trues.now falses.now) index }
 {
     let mut packed = [0u32; LENGTH];
-    let decoded = sheet::decode(bytes, &mut packed);
-    let answer = decoded.answer;
-    match answer {
-        Answer::Refused(number, position) => Stepped::Refused(number, position),
-        Answer::Accepted => {
-            let sheet = decoded.sheet;
-            if sheet.moves <= index {
-                return Stepped::Refused(7, 0);
-            }
-            if !tables::described(sheet.n, trues, falses, count) {
-                return Stepped::Refused(22, 0);
-            }
-            // A reference to the whole array: its type has the length.
-            let packed = &packed;
-            steps::step_at(packed, index, trues, falses, count, to_trues, to_falses)
-        }
+    let sheet = sheet::decode(bytes, &mut packed)?;
+    if sheet.moves <= index {
+        return Err(Fault {
+            number: 7,
+            position: 0,
+        });
     }
+    let Some(entries) = tables::described(sheet.n, trues, falses, count) else {
+        return Err(Fault {
+            number: 22,
+            position: 0,
+        });
+    };
+    steps::step_at(&packed, index, &entries, to)
 }
 
 // The step of a table by the move of a number on a sheet.
 pub fn step(bytes: &[u8], table: Table, index: usize) -> TableAnswer
     ensures { result ≡ step_of (sheet_of bytes.now) table index }
 {
-    let count = table.count;
-    let mut trues = [0u32; ENTRIES];
-    let mut falses = [0u32; ENTRIES];
+    let mut slots = Slots::new();
     match step_lent(
         bytes,
         index,
         &table.trues,
         &table.falses,
-        count,
-        &mut trues,
-        &mut falses,
+        table.count,
+        &mut slots,
     ) {
-        Stepped::To(count) => TableAnswer {
-            answer: Answer::Accepted,
-            table: Table {
-                count,
-                trues,
-                falses,
-            },
+        Ok(()) => TableAnswer {
+            answer: Ok(()),
+            table: Table::from(slots),
         },
-        Stepped::Refused(number, position) => TableAnswer {
-            answer: Answer::Refused(number, position),
+        Err(fault) => TableAnswer {
+            answer: Err(fault),
             table,
         },
     }
@@ -159,15 +133,11 @@ pub fn picture(bytes: &[u8], table: Table, buffer: &mut [u8]) -> PictureAnswer
     ensures buffer_after { buffer.new ≡ buffer_of (sheet_of bytes.now) table buffer.old }
 {
     let mut packed = [0u32; LENGTH];
-    let decoded = sheet::decode(bytes, &mut packed);
-    let answer = decoded.answer;
-    match answer {
-        Answer::Refused(number, position) => picture_bytes::refuse_picture(number, position),
-        Answer::Accepted => {
-            let sheet = decoded.sheet;
-            let n = sheet.n;
+    match sheet::decode(bytes, &mut packed) {
+        Err(fault) => picture_bytes::refuse_picture(fault.number, fault.position),
+        Ok(sheet) => {
             let count = table.count;
-            picture_bytes::draw(n, &table.trues, &table.falses, count, buffer)
+            picture_bytes::draw(sheet.n, &table.trues, &table.falses, count, buffer)
         }
     }
 }

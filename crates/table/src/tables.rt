@@ -1,97 +1,79 @@
-// The entries of a table in two lent slices, and whether they are as document 01 describes a table (22).
-ghost use Rattle.std.specs.Prelude.{◌≡◌, ◌||◌, ◌+◌};
+// Whether entries are as document 01 describes a table (22).
+ghost use Rattle.std.specs.Prelude.{◌≡◌, ◌||◌, cond, Some, None};
 ghost use Rattle.sheet.specs.Literals as L;
 ghost use Rattle.sheet.specs.Lists.{all_of};
 ghost use Rattle.table.specs.Minimal as M;
 ghost use Rattle.table.specs.Entries.{entries_of};
-ghost use Rattle.table.specs.inner.Slots.{Room, TableRoom};
-ghost use Rattle.table.specs.inner.Slots.{slot};
+ghost use Rattle.table.specs.inner.Slots.{TableRoom};
 ghost use Rattle.sheet.specs.Limits.{most_entries};
 
+use crate::entries::Entries;
 use sheet::limits::ENTRIES;
 use sheet::{Literals, masks};
 
-// The set in slot i.
-pub fn entry_at(trues: &[u32], falses: &[u32], i: usize) -> Literals
-    requires { Room (i + 1) trues.now falses.now }
-    ensures { result ≡ slot trues.now falses.now i }
-{
-    Literals {
-        trues: trues[i],
-        falses: falses[i],
-    }
-}
-
 // No literal with its complement, no proposition at n or above.
+#[tactic(auto, unfolding(crate::specs::Minimal::proper))]
 pub(crate) fn proper(n: usize, e: Literals) -> bool
     ensures { result ≡ M.proper n e }
 {
-    if masks::consistent(e) {
-        return masks::below(n, e);
-    }
-    false
+    masks::consistent(e) && masks::below(n, e)
 }
 
 // One of the two lies in the other.
 pub(crate) fn nested(a: Literals, b: Literals) -> bool
     ensures { result ≡ (L.within a b || L.within b a) }
 {
-    if masks::within(a, b) {
-        return true;
-    }
-    masks::within(b, a)
+    masks::within(a, b) || masks::within(b, a)
 }
 
 // Every entry is proper.
-pub(crate) fn all_proper<'a>(n: usize, trues: &'a [u32], falses: &'a [u32], count: usize) -> bool
-    requires { Room count trues.now falses.now }
-    ensures { result ≡ all_of (M.proper n) (entries_of count trues.now falses.now) }
+#[tactic(auto, using(crate::proofs::laws::arrays::ListTests::all_at, crate::proofs::laws::arrays::ListTests::all_done))]
+pub(crate) fn all_proper(n: usize, entries: &Entries) -> bool
+    ensures { result ≡ all_of (M.proper n) entries.now }
 {
-    let mut i: usize = 0;
-    while i < count {
-        if !proper(n, entry_at(trues, falses, i)) {
+    for i in 0..entries.len() {
+        if !proper(n, entries.at(i)) {
             return false;
         }
-        i += 1;
     }
     true
 }
 
 // No entry lies in another. The first pair found nested ends the search.
-pub(crate) fn is_antichain<'a>(trues: &'a [u32], falses: &'a [u32], count: usize) -> bool
-    requires { Room count trues.now falses.now }
-    ensures { result ≡ M.antichain (entries_of count trues.now falses.now) }
+#[tactic(auto, using(crate::proofs::laws::slots::PairLoops::pairs_tested))]
+pub(crate) fn is_antichain(entries: &Entries) -> bool
+    ensures { result ≡ M.antichain entries.now }
 {
     let mut apart = true;
-    let mut i: usize = 0;
-    'pairs: while i < count {
-        let a = entry_at(trues, falses, i);
-        let mut j: usize = i + 1;
-        while j < count {
-            if nested(a, entry_at(trues, falses, j)) {
+    'pairs: for i in 0..entries.len() {
+        let a = entries.at(i);
+        for j in i + 1..entries.len() {
+            if nested(a, entries.at(j)) {
                 apart = false;
                 break 'pairs;
             }
-            j += 1;
         }
-        i += 1;
     }
     apart
 }
 
-// 1 to 128 entries, each proper, none in another.
-pub(crate) fn described<'a>(n: usize, trues: &'a [u32], falses: &'a [u32], count: usize) -> bool
+// The entries in the first slots, if they are 1 to 128, each proper, none in another.
+#[tactic(auto, using(crate::proofs::laws::arrays::HeldLists::length_entries_of), unfolding(crate::specs::Minimal::described))]
+pub(crate) fn described<'a>(
+    n: usize,
+    trues: &'a [u32],
+    falses: &'a [u32],
+    count: usize,
+) -> Option<Entries<'a>>
     requires { TableRoom trues.now falses.now }
-    ensures { result ≡ M.described most_entries n (entries_of count trues.now falses.now) }
+    ensures { result ≡ cond (M.described most_entries n (entries_of count trues.now falses.now)) (Some (entries_of count trues.now falses.now)) None }
 {
-    if count < 1 {
-        return false;
+    if count < 1 || ENTRIES < count {
+        return None;
     }
-    if ENTRIES < count {
-        return false;
+    let entries = Entries::of(trues, falses, count);
+    if !all_proper(n, &entries) || !is_antichain(&entries) {
+        return None;
     }
-    if !all_proper(n, trues, falses, count) {
-        return false;
-    }
-    is_antichain(trues, falses, count)
+    Some(entries)
 }

@@ -10,8 +10,9 @@
 // is at most 10, how many worlds the table stands for; for 04 the number of clauses and a digest of the buffer.
 #![tactic(auto)]
 
-ghost use Rattle.std.specs.Prelude.{◌≡◌, ◌≤◌, length};
+ghost use Rattle.std.specs.Prelude.{◌≤◌};
 
+use cases::Bytes;
 use std::io;
 use std::io::Write;
 use table::{Table, TableAnswer};
@@ -20,16 +21,16 @@ use table::{Table, TableAnswer};
 fn empty_table() -> Table {
     Table {
         count: 0,
-        trues: [0u32; 128],
-        falses: [0u32; 128],
+        trues: [0; 128],
+        falses: [0; 128],
     }
 }
 
 // The world w has the literals of some entry.
-fn covered(t: Table, w: u32) -> bool {
-    let count = t.count;
-    for i in 0..128 {
-        if i < count && t.trues[i] & !w == 0 && t.falses[i] & w == 0 {
+fn covered(t: &Table, w: u32) -> bool {
+    let entries = t.trues.iter().zip(&t.falses);
+    for (trues, falses) in entries.take(t.count) {
+        if *trues & !w == 0 && *falses & w == 0 {
             return true;
         }
     }
@@ -37,17 +38,11 @@ fn covered(t: Table, w: u32) -> bool {
 }
 
 // How many worlds of n propositions a table stands for, counted one by one.
-fn count_worlds(t: Table, n: u8) -> u64
+fn count_worlds(t: &Table, n: u8) -> u64
     requires { n ≤ 10 }
 {
-    let mut found: u64 = 0;
-    let limit = 1u32 << n;
-    for w in 0..limit {
-        if covered(t, w) {
-            found = (found + 1) % 2048;
-        }
-    }
-    found
+    let worlds = 1u32 << n;
+    (0..worlds).filter(|w| covered(t, *w)).count() as u64
 }
 
 // What a call on tables gave, written; the table that came back.
@@ -56,13 +51,8 @@ fn show_table(to: &mut impl Write, sheet: &[u8], r: TableAnswer) -> io::Result<T
     cases::write_answer(to, answer)?;
     let t = r.table;
     cases::write_table(to, t.count, &t.trues, &t.falses)?;
-    if let sheet::Answer::Accepted = answer {
-        if 0 < sheet.len() {
-            let n = sheet[0];
-            if n <= 10 {
-                cases::write_number(to, b"worlds ", count_worlds(t, n))?;
-            }
-        }
+    if let (Ok(()), [n @ 0..=10, ..]) = (answer, sheet) {
+        writeln!(to, "worlds {}", count_worlds(&t, *n))?;
     }
     Ok(t)
 }
@@ -78,38 +68,20 @@ fn table_of(bytes: &[u8]) -> Table {
     t
 }
 
-// Room for a picture.
-fn picture_room() -> [u8; 4096]
-    ensures { 4096 ≡ length result }
-{
-    [170u8; 4096]
-}
-
-// The picture in a buffer, its answer and a digest of the buffer written.
-fn show_picture_in(
-    to: &mut impl Write,
-    sheet: &[u8],
-    t: Table,
-    buffer: &mut [u8],
-) -> io::Result<()> {
-    let r = table::picture(sheet, t, buffer);
-    let answer = r.answer;
-    cases::write_answer(to, answer)?;
-    cases::write_pair(
-        to,
-        b"clauses ",
-        r.clauses as u64,
-        b" buffer ",
-        cases::digest_bytes(buffer),
-    )
-}
-
-// The picture in a buffer of so many bytes.
+// The picture in a buffer of so many bytes, each 170 before: the answer and a digest of the buffer, written.
 fn show_picture(to: &mut impl Write, sheet: &[u8], t: Table, size: usize) -> io::Result<()>
     requires { size ≤ 4096 }
 {
-    let mut room = picture_room();
-    show_picture_in(to, sheet, t, &mut room[..size])
+    let mut room = [170; 4096];
+    let buffer = &mut room[..size];
+    let r = table::picture(sheet, t, buffer);
+    cases::write_answer(to, r.answer)?;
+    writeln!(
+        to,
+        "clauses {} buffer {}",
+        r.clauses,
+        cases::digest_bytes(buffer)
+    )
 }
 
 // The size of a buffer, in two bytes.
@@ -119,22 +91,18 @@ fn buffer_size(bytes: &[u8]) -> usize
     (cases::number(bytes, 1, 2) % 4097) as usize
 }
 
-// What a case says, done: the current table from then on. No bytes are no case.
-fn act(to: &mut impl Write, sheet: &[u8], t: Table, bytes: &[u8]) -> io::Result<Table> {
-    if bytes.len() == 0 {
-        return Ok(t);
-    }
-    let what = bytes[0];
-    match what {
-        1 => show_table(to, sheet, table::start(sheet)),
-        2 => show_table(
+// What a case says, done: the current table from then on.
+fn act(to: &mut impl Write, sheet: &[u8], t: Table, case: &[u8]) -> io::Result<Table> {
+    match case {
+        [1, ..] => show_table(to, sheet, table::start(sheet)),
+        [2, ..] => show_table(
             to,
             sheet,
-            table::step(sheet, t, cases::number(bytes, 1, 8) as usize),
+            table::step(sheet, t, cases::number(case, 1, 8) as usize),
         ),
-        3 => Ok(table_of(bytes)),
+        [3, ..] => Ok(table_of(case)),
         _ => {
-            show_picture(to, sheet, t, buffer_size(bytes))?;
+            show_picture(to, sheet, t, buffer_size(case))?;
             Ok(t)
         }
     }
@@ -142,23 +110,19 @@ fn act(to: &mut impl Write, sheet: &[u8], t: Table, bytes: &[u8]) -> io::Result<
 
 // The lines in turn, with the current sheet and the current table.
 fn answer_lines(to: &mut impl Write, text: &[u8]) -> io::Result<()> {
-    let mut sheet = cases::room();
-    let mut bytes = cases::room();
-    let mut size: usize = 0;
+    let mut sheet = Bytes::new();
+    let mut bytes = Bytes::new();
     let mut t = empty_table();
-    let mut at: usize = 0;
-    while at < text.len() {
-        let case = cases::next_case(to, text, at, &mut sheet, size, &mut bytes)?;
-        size = case.size;
-        let count = case.count;
-        t = act(to, &sheet[..size], t, &bytes[..count])?;
-        at = case.next;
+    for line in text.split_inclusive(|b| *b == b'\n') {
+        if let Some(case) = cases::read_case(to, line, &mut sheet, &mut bytes)? {
+            t = act(to, sheet.as_slice(), t, case)?;
+        }
     }
     Ok(())
 }
 
 fn main(rt: HostRuntime) -> io::Result<()> {
-    let mut text = cases::input();
+    let mut text = [0; cases::INPUT];
     let n = cases::read_full(&mut rt.stdin(), &mut text)?;
     answer_lines(&mut rt.stdout(), &text[..n])
 }

@@ -8,7 +8,7 @@ use native.Mathlib.Omega.{arith}
 use lib.ListN.{length, get_or, take, drop, replicate, take-append-drop}
 use lib.Seq.{drop-cons, drop-drop, take_at, drop_at}
 use Rattle.sheet.specs.Limits.{table_numbers}
-use Rattle.sheet.specs.declared.Answer.TheVariants.{Refused}
+use Rattle.sheet.specs.Calls.{Refused}
 use Rattle.sheet.specs.Lists.{pad, collect}
 use Rattle.sheet.specs.Format.{sheet_of}
 use Rattle.table.specs.declared.Table.{Table}

@@ -1,6 +1,5 @@
 -- What the proofs of several functions use, and the laws of the numbers.
 mod StoredNumbers
 mod ReplyCases
-mod TableSizes
 mod RowNumbers
 mod Demands

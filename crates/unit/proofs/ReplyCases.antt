@@ -1,20 +1,24 @@
 -- What the functions answer, by cases: a slice is too short, or the call's own answer in numbers. For the seven calls for C. Assumes
 -- nothing.
-use mathlib.Core.Path.{◌≡◌, ap, ◌∙◌}
+use mathlib.Core.Path.{◌≡◌, refl, ap, ◌∙◌}
 use mathlib.Core.Bool.{Bool, true, false, cond, ◌||◌}
 use mathlib.Core.List.{List, ◌++◌}
 use Prim.Native.Nat.{ℕ, ◌/◌, ◌≤◌, ◌<◌}
 use borrow.Author.Tests.{lt-ltb, le-ltb}
 use lib.Dec.{ltb}
 use lib.ListN.{length, drop}
-use Rattle.sheet.specs.declared.Answer.{Answer}
+use Rattle.std.specs.Prelude.{Result, Ok, Err}
+use Rattle.sheet.specs.declared.Fault.{Fault}
+use Rattle.sheet.specs.declared.Literals.{Literals}
+use Rattle.sheet.specs.Calls.{Answer, judge_of}
 use Rattle.sheet.specs.Format.{sheet_of}
-use Rattle.sheet.specs.Calls.{judge_of}
 use Rattle.table.specs.declared.Table.{Table}
 use Rattle.table.specs.declared.TableAnswer.{TableAnswer}
 use Rattle.table.specs.declared.PictureAnswer.{PictureAnswer}
 use Rattle.sheet.proofs.laws.base.Bools.{cond_true, cond_false}
 use Rattle.table.specs.Calls.{start_of, step_of}
+use Rattle.table.specs.inner.Starts.{start_answer}
+use Rattle.table.specs.inner.Steps.{step_answer}
 use Rattle.table.specs.PictureCalls.{picture_of}
 use Rattle.plan.specs.declared.SearchAnswer.{SearchAnswer}
 use Rattle.plan.specs.declared.Course.{Course}
@@ -60,7 +64,16 @@ pub judge_told : (s : List ℕ) (a : Answer) (t : Reply) → a ≡ judge_of s �
 unfolding judge_reply
 judge_told s a t e q = q ∙ ap (λ (x : Answer). answer_reply x 0) e
 
--- a start or a step over arrays, whose answer and table are r, is the call u
+-- the answer of a start or a step is the result that it gave
+pub start_says : (r : Result Unit Fault) (us : List Literals) → r ≡ (start_answer r us).answer
+start_says (Ok done) us = refl
+start_says (Err fault) us = refl
+
+pub step_says : (t : Table) (r : Result Unit Fault) (us : List Literals) → r ≡ (step_answer t r us).answer
+step_says t (Ok done) us = refl
+step_says t (Err fault) us = refl
+
+-- a start or a step, whose answer and table are r, is the call u
 answer_told : (r u : TableAnswer) (a : Answer) (t : Reply) → r ≡ u → a ≡ r.answer → t ≡ answer_reply a 0 → t ≡ answer_reply u.answer 0
 answer_told r u a t e q h = h ∙ ap (λ (x : Answer). answer_reply x 0) (q ∙ ap (λ (x : TableAnswer). x.answer) e)
 

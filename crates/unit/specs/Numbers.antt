@@ -1,9 +1,7 @@
 -- Answers, tables and rows as numbers.
-use Rattle.std.specs.Prelude.{Bool, ◌||◌, List, [], ◌∷◌, ◌++◌, ℕ, ltb, length, get_or, take, drop}
+use Rattle.std.specs.Prelude.{Err, Bool, ◌||◌, List, [], ◌∷◌, ◌++◌, ℕ, ltb, length, get_or, take, drop}
 use Rattle.sheet.specs.Limits.{most_entries, table_numbers}
-use Rattle.sheet.specs.declared.Answer.{Answer}
-use Rattle.sheet.specs.declared.Answer.TheVariants as answer
-use Rattle.sheet.specs.Calls.{number_of, position_of}
+use Rattle.sheet.specs.Calls.{Answer, Accepted, number_of, position_of}
 use Rattle.table.specs.declared.Table.{Table}
 use Rattle.table.specs.Entries.{lent}
 use Rattle.plan.specs.declared.Row.{Row}
@@ -17,8 +15,8 @@ use Rattle.unit.specs.declared.Reply.{Reply}
 -- ---- answers
 -- a number that an accepted call has, 0 for a refused one
 unfoldable pub if_accepted : Answer → ℕ → ℕ
-if_accepted answer.Accepted extra = extra
-if_accepted (answer.Refused number position) extra = 0
+if_accepted Accepted extra = extra
+if_accepted (Err fault) extra = 0
 
 -- an answer by its number and position; `extra` is the second number of info if it is accepted
 abbrev pub answer_reply : Answer → ℕ → Reply

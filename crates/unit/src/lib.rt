@@ -10,7 +10,8 @@ ghost use Rattle.unit.specs.Numbers.{too_short, info_of, table_in, table_out};
 ghost use Rattle.unit.specs.Calls as U;
 ghost use Rattle.sheet.specs.Limits.{table_numbers};
 
-use sheet::limits::{ENTRIES, PLACES};
+use plan::Counts;
+use table::slots::Slots;
 
 mod numbers;
 
@@ -51,11 +52,10 @@ pub extern "C" fn krepuskilo_start(sheet: &[u8], table: &mut [u32], info: &mut [
     if info.len() < 4 {
         return 255;
     }
-    let mut trues = [0u32; ENTRIES];
-    let mut falses = [0u32; ENTRIES];
-    let started = table::start_lent(sheet, &mut trues, &mut falses);
-    let answer = numbers::write_start(table, started, &mut trues, &mut falses);
-    let reply = numbers::answer_reply(answer, 0);
+    let mut list = Slots::new();
+    let started = table::start_lent(sheet, &mut list);
+    numbers::write_start(table, started, list);
+    let reply = numbers::answer_reply(started, 0);
     numbers::write_info(info, reply);
     reply.answer
 }
@@ -104,11 +104,10 @@ pub extern "C" fn krepuskilo_step(
     if info.len() < 4 {
         return 255;
     }
-    let mut trues = [0u32; ENTRIES];
-    let mut falses = [0u32; ENTRIES];
-    let stepped = numbers::step_numbers(sheet, table, index as usize, &mut trues, &mut falses);
-    let answer = numbers::write_step(table, stepped, &trues, &falses);
-    let reply = numbers::answer_reply(answer, 0);
+    let mut list = Slots::new();
+    let stepped = numbers::step_numbers(sheet, table, index as usize, &mut list);
+    numbers::write_step(table, stepped, list);
+    let reply = numbers::answer_reply(stepped, 0);
     numbers::write_info(info, reply);
     reply.answer
 }
@@ -179,22 +178,12 @@ pub extern "C" fn krepuskilo_run(
     if info.len() < 4 {
         return 255;
     }
-    let mut trues = [0u32; ENTRIES];
-    let mut falses = [0u32; ENTRIES];
-    let mut entries = [0usize; PLACES];
-    let mut clauses = [0usize; PLACES];
-    let ran = plan::runs::course_into(
-        sheet,
-        rows.len() / 3,
-        &mut trues,
-        &mut falses,
-        &mut entries,
-        &mut clauses,
-    );
-    let verdict = ran.verdict;
-    let reply = numbers::verdict_reply(verdict);
-    numbers::write_row_numbers(rows, ran.rows, &entries, &clauses);
-    numbers::write_entries(table, ran.count, &trues, &falses);
+    let mut last = Slots::new();
+    let mut counts = Counts::new();
+    let verdict = plan::runs::course_into(sheet, rows.len() / 3, &mut last, &mut counts);
+    let reply = Reply::from(verdict);
+    numbers::write_row_numbers(rows, &counts);
+    numbers::write_table(table, last);
     numbers::write_info(info, reply);
     reply.answer
 }

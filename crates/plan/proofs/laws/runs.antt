@@ -1,4 +1,4 @@
--- Runs: by tables, by worlds, by the call; the loop over arrays (src/runs.rt, goals.rt).
+-- Runs: by tables, by worlds, by the call; the loop of a run (src/runs.rt).
 -- ---- may be cited from above
 pub mod RunRefusals
 -- ---- for this crate alone
@@ -12,8 +12,10 @@ pub mod StartOutcomes
 pub mod StartRuns
 pub mod CallVerdicts
 pub mod CallRuns
-pub mod ReadyTables
+pub mod CameTables
+pub mod Moving
 pub mod RunLoop
+pub mod SheetRuns
 pub mod CourseOfBytes
 pub mod RunPlaces
 pub mod RunDemands

@@ -5,12 +5,11 @@ pub mod SearchRefusals
 -- ---- for this crate alone
 pub mod FirstByMove
 pub mod NoShorterPlans
-pub mod SameEntries
 pub mod MemorySlots
 pub mod SearchReturns
-pub mod ArrayMoves
 pub mod TriedMoves
-pub mod SheetStarts
+pub mod TriedPlans
+pub mod SheetSearches
 pub mod StartSearches
 pub mod CarriedPlans
 pub mod SearchDemands

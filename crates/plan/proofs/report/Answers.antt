@@ -6,14 +6,10 @@ pub returns-then-out-lt-REPORT_LENGTH : goal.returns-then-out-lt-REPORT_LENGTH
 returns-then-out-lt-REPORT_LENGTH c =
     let both = no_report c.args.bytes.now _ c.if-out-lt-REPORT_LENGTH.true in record { value = both.0; out_after = both.1 }
 
-pub write_text-requires : goal.write_text-requires
-write_text-requires c =
-    record {
-      rows_le_most_places = few_rows _ _ c.course_into-ran.ensures;
-      report_length_in_bounds = c.if-out-lt-REPORT_LENGTH.false;
-    }
+pub write_text-requires-clause-rows_le_most_places : goal.write_text-requires-clause-rows_le_most_places
+write_text-requires-clause-rows_le_most_places c = few_rows _ _ c.course_into-verdict.ensures
 
 pub returns : goal.returns
 returns c =
-    let both = reports _ _ c.course_into-ran.ensures _ _ _ c.if-out-lt-REPORT_LENGTH.false c.write_text.ensures in record
+    let both = reports _ _ c.course_into-verdict.ensures _ _ _ c.if-out-lt-REPORT_LENGTH.false c.write_text.ensures in record
     { value = both.0; out_after = both.1 }

@@ -10,25 +10,24 @@ use Rattle.plan.proofs.search_with.Goals as goal
 pub returns-then-limit-gt8 : goal.returns-then-limit-gt8
 returns-then-limit-gt8 c =
     c.refuse_search-then-limit-gt8.ensures ∙ sym (search_8 _ _
-    (accepted_says _ _ _ c.decode-decoded.ensures.0 c.in-Accepted.is) _ c.if-limit-gt8.true)
+    (accepted_says _ _ c.decode.ensures.judgement c.in-Ok.is) _ c.if-limit-gt8.true)
 
 pub search_sheet-requires : goal.search_sheet-requires
 search_sheet-requires c =
-    let d = c.decode-decoded in
-    let h = filled _ _ _ d.ensures c.in-Accepted.is (search rules) in
+    let h = filled _ _ c.decode.ensures.judgement c.in-Ok.is c.in-Ok.ensures.few (search rules) in
     record {
       filled = h;
       limit_bound = omega (arith, c.if-limit-gt8.false);
     }
 
-pub returns-in-Refused : goal.returns-in-Refused
-returns-in-Refused c =
+pub returns-in-Err : goal.returns-in-Err
+returns-in-Err c =
     c.refuse_search.ensures ∙ sym (search_fault _ _ _ _
-    (refused_says _ _ _ c.decode-decoded.ensures.0 _ _ c.in-Refused.is))
+    (refused_says _ _ c.decode.ensures.judgement c.in-Err.is))
 
 pub returns-else-limit-gt8 : goal.returns-else-limit-gt8
 unfolding statement_in
 returns-else-limit-gt8 c =
     c.search_sheet.ensures ∙ sym (search_within _ _
-    (accepted_says _ _ _ c.decode-decoded.ensures.0 c.in-Accepted.is) _
+    (accepted_says _ _ c.decode.ensures.judgement c.in-Ok.is) _
     (omega (arith, c.if-limit-gt8.false)))

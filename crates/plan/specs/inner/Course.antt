@@ -1,18 +1,17 @@
 -- A run with its rows as plain numbers: what the call `run` writes into the rows, and the program `check` into its text.
-use Rattle.std.specs.Prelude.{◌≡◌, List, [], ◌++◌, map, ℕ, ◌+◌, length, set, replicate}
+use Rattle.std.specs.Prelude.{List, [], ◌++◌, map, ℕ, ◌+◌, length, set}
 use Rattle.sheet.specs.Limits.{most_entries, most_places}
 use Rattle.sheet.specs.declared.Literals.{Literals}
 use Rattle.sheet.specs.Lists.{pad}
 use Rattle.sheet.specs.Format.{Judgement}
 use Rattle.sheet.specs.Problem.{Action, Problem}
-use Rattle.table.specs.declared.Table.{Table}
-use Rattle.table.specs.Minimal.{Described, Outcome}
+use Rattle.table.specs.Minimal.{Outcome}
 use Rattle.table.specs.Picture.{picture, size_of}
-use Rattle.table.specs.Entries.{entries, table_of, lent}
+use Rattle.table.specs.Entries.{table_of}
 use Rattle.plan.specs.declared.Row.{Row}
 use Rattle.plan.specs.declared.Counts.{Counts}
 use Rattle.plan.specs.declared.Course.{Course}
-use Rattle.plan.specs.declared.RunRecord.{RunRecord}
+use Rattle.plan.specs.declared.Verdict.{Verdict}
 use Rattle.plan.specs.Run.{run_from, last_table, rows_from}
 use Rattle.plan.specs.Calls.{verdict_of, refused_run, planned, planned_rows, run_of, rows_of}
 
@@ -28,19 +27,9 @@ counts_of rows = record {
 unfoldable pub course_of : Judgement → ℕ → Course
 course_of sheet lent = record { ran = run_of sheet lent; counts = counts_of (rows_of sheet lent) }
 
--- ---- in lent arrays
--- the numbers of so many rows
-abbrev pub counts_in : ℕ → List ℕ → List ℕ → Counts
-counts_in count es cs = record { count = count; entries = es; clauses = cs }
-
--- the slots of 65 rows, all zero
-pub record FreshRows (es cs : List ℕ) : Type 0 where
-  pub entries : es ≡ replicate most_places 0
-  pub clauses : cs ≡ replicate most_places 0
-
--- a run, with the masks of its last table and the numbers of its rows
-abbrev pub course_in : RunRecord → List ℕ → List ℕ → List ℕ → List ℕ → Course
-course_in w ts fs es cs = record { ran = record { verdict = w.verdict; table = lent w.count ts fs }; counts = counts_in w.rows es cs }
+-- what a run over lent values leaves: its verdict, the entries of its last table, and the numbers of its rows
+abbrev pub course_in : Verdict → List Literals → Counts → Course
+course_in verdict es counts = record { ran = record { verdict = verdict; table = table_of es }; counts = counts }
 
 -- ---- its parts
 -- one row more, of the table t
@@ -67,8 +56,3 @@ course_from goal rows place plan t =
 -- any plan of a problem, from what its start gave
 unfoldable pub planned_course : Problem → List ℕ → Outcome → Course
 planned_course p plan start = record { ran = planned p plan start; counts = counts_of (planned_rows p plan start) }
-
--- a table that a run can take: as document 01 describes it, with zeros after its entries
-pub record Ready (n : ℕ) (t : Table) : Type 0 where
-  pub described : Described most_entries n (entries t)
-  pub zeros : t ≡ table_of (entries t)

@@ -4,12 +4,8 @@ use Rattle.plan.specs.declared.Row.{Row}
 use Rattle.plan.specs.declared.Counts.{Counts}
 
 -- the row of a place: the place, the entries of its table and the clauses of its picture
-abbrev pub row_in : List ℕ → List ℕ → ℕ → Row
-row_in entries clauses place = record { place = place; entries = get_or entries place 0; clauses = get_or clauses place 0 }
-
--- the same from the numbers of a run
 abbrev pub row_at : Counts → ℕ → Row
-row_at c at = row_in c.entries c.clauses at
+row_at c place = record { place = place; entries = get_or c.entries place 0; clauses = get_or c.clauses place 0 }
 
 -- the rows of the places below one
 abbrev pub rows_below : Counts → ℕ → List Row

@@ -1,11 +1,9 @@
 -- What was read of a sheet, in its slots and its packed array, as a statement, and the judgement that goes with it.
-use Rattle.std.specs.Prelude.{◌≡◌, List, ℕ, ◌≤◌, length, take}
+use Rattle.std.specs.Prelude.{◌≡◌, List, ℕ, ◌≤◌, length, take, Result, Ok, Err}
 use Rattle.sheet.specs.inner.Widths.{packed_length}
-use Rattle.sheet.specs.declared.Answer.{Answer}
-use Rattle.sheet.specs.declared.Answer.TheVariants.{Accepted, Refused}
+use Rattle.sheet.specs.declared.Fault.{Fault}
 use Rattle.sheet.specs.declared.Plan.{Plan}
 use Rattle.sheet.specs.declared.Sheet.{Sheet}
-use Rattle.sheet.specs.declared.Decoded.{Decoded}
 use Rattle.sheet.specs.Lists.{pad}
 use Rattle.sheet.specs.Problem.{Problem, Statement}
 use Rattle.sheet.specs.Format.{Judgement, accepted, refused}
@@ -34,13 +32,10 @@ problem_in x packed =
 unfoldable pub statement_in : Sheet → List ℕ → Statement
 statement_in x packed = record { problem = problem_in x packed; plan = plan_in x.plan }
 
--- the judgement by an answer, with the statement x if it is accepted
-abbrev pub judged_by : Answer → Statement → Judgement
-judged_by Accepted x = accepted x
-judged_by (Refused number position) x = refused number position
-
-unfoldable pub judgement_in : Decoded → List ℕ → Judgement
-judgement_in d packed = judged_by d.answer (statement_in d.sheet packed)
+-- the judgement by the result of `decode`
+unfoldable pub judgement_in : Result Sheet Fault → List ℕ → Judgement
+judgement_in (Ok x) packed = accepted (statement_in x packed)
+judgement_in (Err at) packed = refused at.number at.position
 
 -- a sheet that was read and accepted
 pub record Filled (x : Sheet) (packed : List ℕ) : Type 0 where

@@ -3,6 +3,7 @@ use Rattle.std.specs.Prelude.{◌≡◌, List, [], ◌∷◌, ℕ, zero, suc, �
 use Rattle.sheet.specs.inner.Widths.{sets_width, effects_width, move_width, clauses_width, moves_width, oneofs_at, goal_at, moves_at}
 use Rattle.sheet.specs.declared.Literals.{Literals}
 use Rattle.sheet.specs.declared.Effect.{Effect}
+use Rattle.sheet.specs.Literals.{no_literal}
 use Rattle.sheet.specs.Problem.{Action}
 
 -- ---- the packed array: or-clauses, oneof-clauses, goal, moves
@@ -35,6 +36,9 @@ sets_at (suc size) xs = set_from xs 0 ∷ sets_at size (drop 2 xs)
 -- four masks to an effect: its condition, its result
 unfoldable pub masks_of : Effect → List ℕ
 masks_of e = e.condition.trues ∷ e.condition.falses ∷ e.result.trues ∷ e.result.falses ∷ []
+
+abbrev pub no_effect : Effect
+no_effect = record { condition = no_literal; result = no_literal }
 
 unfoldable pub effect_at : List ℕ → ℕ → Effect
 effect_at xs i = record { condition = set_from xs (4 * i); result = set_from xs (4 * i + 2) }

@@ -10,4 +10,3 @@ pub mod HandedClauses
 pub mod JoinedClauses
 pub mod UnitClauses
 pub mod Insertion
-pub mod PictureCall

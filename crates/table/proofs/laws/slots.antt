@@ -1,4 +1,4 @@
--- Putting a candidate: on lists, by worlds, and in slots (src/slots.rt, tables.rt).
+-- Putting a candidate: on lists, by worlds, and in slots (src/entries.rt, slots.rt, tables.rt).
 -- ---- may be cited from above
 pub mod PutInvariants
 -- ---- for this crate alone
@@ -6,6 +6,7 @@ pub mod LeastCandidates
 pub mod LastWithin
 pub mod PutFates
 pub mod ConsistentCandidates
-pub mod PutLoops
+pub mod Putting
 pub mod AbsorbedCandidates
 pub mod DescribedTables
+pub mod PairLoops

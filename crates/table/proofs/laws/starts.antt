@@ -1,4 +1,4 @@
--- The start: the candidates of a clause by worlds and by choices, the first table over arrays (src/starts.rt).
+-- The start: the candidates of a clause by worlds and by choices, the first table as an outcome (src/starts.rt).
 -- ---- for this crate alone
 pub mod LackedLiterals
 pub mod OtherAlternatives
@@ -7,5 +7,5 @@ pub mod FalsifiedAlternatives
 pub mod PackedClauses
 pub mod ClauseCandidates
 pub mod StartWorlds
-pub mod StartArrays
+pub mod StartOutcomes
 pub mod StartCall

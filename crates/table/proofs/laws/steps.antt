@@ -1,4 +1,4 @@
--- The step: pieces and worlds, 25 by pairs, the walk over pieces, the step over arrays (src/steps.rt).
+-- The step: pieces and worlds, 25 by pairs, the walk over pieces, the step of entries (src/steps.rt).
 -- ---- may be cited from above
 pub mod StepWorlds
 pub mod PaperWorlds
@@ -8,5 +8,5 @@ pub mod OpposedPairs
 pub mod PairScan
 pub mod PieceWalk
 pub mod CarriedResults
-pub mod StepArrays
+pub mod StepOutcomes
 pub mod StepCall

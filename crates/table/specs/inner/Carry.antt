@@ -1,15 +1,13 @@
 -- What is carried down where a piece is split by the conditions of effects in order.
-use Rattle.std.specs.Prelude.{◌≡◌, true, false, List, ℕ, zero, suc, ◌*◌, ◌≤◌, ◌<◌, length, take, drop}
+use Rattle.std.specs.Prelude.{◌≡◌, true, false, List, ℕ, zero, suc, ◌≤◌, ◌<◌, length, get_or, take, drop}
 use Rattle.sheet.specs.declared.Literals.{Literals}
 use Rattle.sheet.specs.declared.Effect.{Effect}
 use Rattle.sheet.specs.Literals.{within, clash, consistent, join, flip, literal}
 use Rattle.sheet.specs.Lists.{All}
-use Rattle.sheet.specs.inner.Packed.{effect_at, effects_at}
+use Rattle.sheet.specs.inner.Packed.{no_effect}
 use Rattle.table.specs.declared.steps.Undecided.{Undecided}
 use Rattle.table.specs.Worlds.{results}
 use Rattle.table.specs.Step.{pieces}
-use Rattle.table.specs.Entries.{entries_of}
-use Rattle.table.specs.inner.Slots.{Room, Held}
 
 -- each condition is consistent
 abbrev pub Steady : List Effect → Type 0
@@ -32,29 +30,11 @@ pub record Skips (es : List Effect) (at : ℕ) (piece : Literals) (r : Undecided
   pub carried : Carried es r.at piece r.results
   pub whole : pieces (drop r.at es) piece ≡ pieces (drop at es) piece
 
--- ---- what branching asks: of the effects in a row of masks, of what is branched, and of the arrays that the images are put in
--- a piece that the undecided condition splits, after count entries
-pub record SplitFits (effects : List ℕ) (size : ℕ) (u : Undecided) (piece : Literals) (ts fs : List ℕ) (count : ℕ) : Type 0 where
-  pub effects_room : 4 * size ≤ length effects
-  pub below : u.at < size
-  pub splits : Splits (effect_at effects u.at).condition piece
-  pub carried : Carried (effects_at size effects) u.at piece u.results
-  pub held : Held (length ts) count ts fs
-
--- an entry, after count entries
-pub record BranchFits (effects : List ℕ) (size : ℕ) (entry : Literals) (ts fs : List ℕ) (count : ℕ) : Type 0 where
-  pub effects_room : 4 * size ≤ length effects
-  pub steady : Steady (effects_at size effects)
-  pub entry_steady : consistent entry ≡ true
-  pub held : Held (length ts) count ts fs
-
--- the first count entries of a table, into arrays with no entry
-pub record BranchesFit (effects : List ℕ) (size : ℕ) (ts fs : List ℕ) (count : ℕ) (us gs : List ℕ) : Type 0 where
-  pub effects_room : 4 * size ≤ length effects
-  pub steady : Steady (effects_at size effects)
-  pub room : Room count ts fs
-  pub entries_steady : All (λ d. consistent d ≡ true) (entries_of count ts fs)
-  pub held : Held (length us) 0 us gs
+-- what a split asks: the undecided condition splits the piece
+pub record SplitFits (es : List Effect) (u : Undecided) (piece : Literals) : Type 0 where
+  pub below : u.at < length es
+  pub splits : Splits (get_or es u.at no_effect).condition piece
+  pub carried : Carried es u.at piece u.results
 
 -- ---- the parts of a piece that a condition splits
 -- part 0 is d with all of c, part l + 1 is d with the complement of the literal l

@@ -2,7 +2,6 @@
 use Rattle.sheet.specs.Limits.{table_numbers}
 use Rattle.sheet.proofs.laws.base.Bools.{cond_true}
 use Rattle.unit.proofs.ReplyCases.{second, lacks_first, lacks_info, lacks_none, byte, tables, numbers, run_told, run_table_lem}
-use Rattle.unit.proofs.TableSizes.{run_fits}
 use Rattle.unit.proofs.RowNumbers.{rows_room, rows_out_lem}
 use Rattle.unit.proofs.krepuskilo_run.Goals as goal
 
@@ -29,21 +28,16 @@ returns-then-info-lt4 c =
     }
 
 pub write_row_numbers-requires : goal.write_row_numbers-requires
-write_row_numbers-requires c =
-    rows_room _ c.args.rows.now _ c.course_into-ran.ensures
-
-pub write_entries-requires : goal.write_entries-requires
-write_entries-requires c =
-    (c.if-table-lt-TABLE_NUMBERS.false, run_fits _ _ _ c.course_into-ran.ensures)
+write_row_numbers-requires c = rows_room _ c.args.rows.now _ c.course_into-verdict.ensures
 
 pub returns : goal.returns
 returns c =
     let a = c.args in
     let e = lacks_none table_numbers a.table.now a.info.now c.if-table-lt-TABLE_NUMBERS.false c.if-info-lt4.false in
-    let d = c.course_into-ran in
-    let same = run_told _ a.rows.now _ _ d.ensures c.verdict_reply-reply.ensures in record {
+    let d = c.course_into-verdict in
+    let same = run_told _ a.rows.now _ _ d.ensures c.from-reply.ensures in record {
       value = byte e _ _ same;
       rows_after = second _ _ _ e (rows_out_lem _ _ _ d.ensures _ c.write_row_numbers.ensures);
-      table_after = tables e _ _ _ _ (run_table_lem _ a.rows.now _ d.ensures) c.write_entries.ensures;
+      table_after = tables e _ _ _ _ (run_table_lem _ a.rows.now _ d.ensures) c.write_table.ensures;
       info_after = numbers e _ _ same _ _ c.write_info.ensures;
     }

@@ -1,12 +1,7 @@
 -- `krepuskilo_start` meets its contract: the answer of `start` in numbers and its table, or 255. Assumes nothing.
 use Rattle.sheet.specs.Limits.{table_numbers}
-use Rattle.unit.proofs.ReplyCases.{lacks_first, lacks_info, lacks_none, start_told, unwritten, table_told}
-use Rattle.unit.proofs.TableSizes.{start_fits}
+use Rattle.unit.proofs.ReplyCases.{lacks_first, lacks_info, lacks_none, start_says, start_told, unwritten, table_told}
 use Rattle.unit.proofs.krepuskilo_start.Goals as goal
-
-pub write_start-answer-requires : goal.write_start-answer-requires
-write_start-answer-requires c =
-    (c.if-table-lt-TABLE_NUMBERS.false, start_fits _ _ c.start_lent-started.ensures)
 
 pub returns : goal.returns
 returns c =
@@ -14,8 +9,7 @@ returns c =
     let both =
     let e = lacks_none table_numbers a.table.now a.info.now c.if-table-lt-TABLE_NUMBERS.false c.if-info-lt4.false in
     let d = c.start_lent-started.ensures in
-    let w = c.write_start-answer.ensures in
-    table_told e (start_told a.sheet.now _ _ _ d w.value c.answer_reply-reply.ensures) d _ _ _ _ w.numbers_after
+    table_told e (start_told a.sheet.now _ _ _ d (start_says _ _) c.answer_reply-reply.ensures) d _ _ _ _ c.write_start.ensures
     c.write_info.ensures in record { value = both.0; table_after = both.1.0; info_after = both.1.1 }
 
 pub returns-then-table-lt-TABLE_NUMBERS : goal.returns-then-table-lt-TABLE_NUMBERS

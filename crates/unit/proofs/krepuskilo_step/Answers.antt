@@ -1,13 +1,7 @@
 -- `krepuskilo_step` meets its contract: the answer of `step` in numbers and its table, or 255. Assumes nothing.
 use Rattle.sheet.specs.Limits.{table_numbers}
-use Rattle.unit.proofs.ReplyCases.{lacks_first, lacks_info, lacks_none, step_told, unwritten, table_told}
-use Rattle.unit.proofs.TableSizes.{step_fits}
+use Rattle.unit.proofs.ReplyCases.{lacks_first, lacks_info, lacks_none, step_says, step_told, unwritten, table_told}
 use Rattle.unit.proofs.krepuskilo_step.Goals as goal
-
-pub write_step-answer-requires : goal.write_step-answer-requires
-write_step-answer-requires c =
-    let d = c.step_numbers-stepped in
-    (c.if-table-lt-TABLE_NUMBERS.false, step_fits _ _ _ d.result _ _ (c.slice_known-1.given 0).fits d.ensures)
 
 pub returns : goal.returns
 returns c =
@@ -15,9 +9,8 @@ returns c =
     let both =
     let e = lacks_none table_numbers a.table.now a.info.now c.if-table-lt-TABLE_NUMBERS.false c.if-info-lt4.false in
     let d = c.step_numbers-stepped.ensures in
-    let w = c.write_step-answer.ensures in
-    table_told e (step_told a.sheet.now a.table.now a.index _ _ _ d w.value c.answer_reply-reply.ensures) d
-    _ _ _ _ w.numbers_after c.write_info.ensures in record { value = both.0; table_after = both.1.0; info_after = both.1.1 }
+    table_told e (step_told a.sheet.now a.table.now a.index _ _ _ d (step_says _ _ _) c.answer_reply-reply.ensures) d
+    _ _ _ _ c.write_step.ensures c.write_info.ensures in record { value = both.0; table_after = both.1.0; info_after = both.1.1 }
 
 pub returns-then-table-lt-TABLE_NUMBERS : goal.returns-then-table-lt-TABLE_NUMBERS
 returns-then-table-lt-TABLE_NUMBERS c =

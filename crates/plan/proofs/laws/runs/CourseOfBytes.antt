@@ -1,22 +1,27 @@
--- The run of a sheet's bytes as a course: refused for its fault or for too few rows, else that of its problem; in arrays of zeros. For
+-- The run of a sheet's bytes as a course: refused for its fault or for too few rows, else that of its problem. For
 -- `runs::course_into` and `runs::run_sheet`. Assumes nothing.
 use mathlib.Core.Path.{◌≡◌, sym, ap, ◌∙◌}
 use mathlib.Core.Bool.{Bool, true, false, cond}
 use mathlib.Core.List.{List, []}
 use Prim.Native.Nat.{ℕ, ◌≤◌, ◌<◌}
 use lib.Dec.{ltb}
-use lib.ListN.{replicate}
 use borrow.Author.Tests.{lt-ltb, le-ltb}
 use Rattle.sheet.specs.Problem.{Statement}
 use Rattle.sheet.specs.Format.{Judgement, accepted, refused as faulty, sheet_of}
 use Rattle.table.specs.Minimal.{Outcome}
 use Rattle.table.specs.Start.{start_table}
-use Rattle.table.specs.Entries.{lent}
-use Rattle.table.specs.inner.Slots.{Fresh}
+use Rattle.sheet.specs.declared.Literals.{Literals}
+use Rattle.plan.specs.declared.Counts.{Counts}
 use Rattle.plan.specs.declared.Course.{Course}
+use Rattle.plan.specs.declared.Verdict.TheVariants.{Refused}
 use Rattle.plan.specs.Calls.{refused_run, planned, run_of, planned_rows, rows_of}
-use Rattle.plan.specs.inner.Course.{counts_of, course_of, refused_course, planned_course, FreshRows, course_in}
-use Rattle.plan.specs.declared.RunRecord.{RunRecord}
+use Rattle.plan.specs.inner.Course.{counts_of, course_of, course_in, refused_course, planned_course}
+
+-- a refusal leaves no entry and no row
+pub refusal_is : {es : List Literals} {c : Counts} (k p : ℕ) → es ≡ [] → c ≡ counts_of []
+    → course_in (Refused k p) es c ≡ refused_course k p
+unfolding refused_course refused_run
+refusal_is k p e f = λ j. course_in (Refused k p) (e j) (f j)
 
 module _ (s : List ℕ) (x : Statement) (e : sheet_of s ≡ accepted x) (lent : ℕ) where
   abbrev start : Outcome
@@ -44,8 +49,3 @@ module _ (s : List ℕ) (x : Statement) (e : sheet_of s ≡ accepted x) (lent : 
 pub course_fault : (s : List ℕ) (k p lent : ℕ) → sheet_of s ≡ faulty k p → refused_course k p ≡ course_of (sheet_of s) lent
 unfolding course_of run_of rows_of refused_course
 course_fault s k p lent e = sym (ap (λ (j : Judgement). course_of j lent) e)
-
--- a run in arrays of zeros
-pub in_zeros : (w : RunRecord) {ts fs es cs : List ℕ} → Fresh ts fs → FreshRows es cs
-    → course_in w ts fs es cs ≡ course_in w (replicate 128 0) (replicate 128 0) (replicate 65 0) (replicate 65 0)
-in_zeros w a b = λ j. course_in w (a.trues j) (a.falses j) (b.entries j) (b.clauses j)

@@ -1,42 +1,33 @@
--- The loop of a run over arrays: one row and one move more, its invariant (`Going`: what is left of the plan gives, after the rows so
--- far, the whole), and how it ends. For `runs::run_from` and `runs::step_here`. Assumes nothing.
-use mathlib.Core.Path.{◌≡◌, refl, sym, ap, subst, ◌∙◌}
+-- The loop of a run: one row and one move more, its invariant (`Going`: what is left of the plan gives, after the rows so far, the whole),
+-- and how it ends. For `runs::run_from`. Assumes nothing.
+use mathlib.Core.Path.{◌≡◌, refl, sym, ap, ◌∙◌}
 use mathlib.Core.List.{List, [], ◌∷◌, ◌++◌, map, map-append, append_assoc}
 use Prim.Native.Nat.{ℕ, ◌+◌, ◌≤◌, ◌<◌, suc}
 use native.Mathlib.Numerals.{add-one}
 use native.Mathlib.Omega.{arith}
 use lib.Dec.{eqb}
-use lib.ListN.{length, get_or, drop, length-append, set, length-map}
-use lib.Seq.{get_or-take, length-take-le}
-use Rattle.sheet.specs.declared.Plan.{Plan}
-use Rattle.sheet.specs.Lists.{all_of, pad}
+use lib.ListN.{length, get_or, drop, length-append, set, length-map, length-take, drop_of_length-le}
+use lib.Seq.{drop-cons}
+use Rattle.sheet.specs.Lists.{All, all_of, pad}
 use Rattle.sheet.specs.Problem.{Action}
+use Rattle.sheet.specs.declared.Plan.{Plan}
 use Rattle.sheet.specs.inner.Decoded.{plan_in}
 use Rattle.sheet.specs.inner.Packed.{sets_in, goal_in, moves_in, action_of}
 use Rattle.sheet.specs.declared.Literals.{Literals}
 use Rattle.sheet.proofs.laws.base.ListFacts.{all_at}
-use Rattle.sheet.proofs.laws.base.Prefixes.{part_step, part_end}
 use Rattle.sheet.proofs.laws.base.Padding.{pad_set}
-use Rattle.table.specs.declared.Table.{Table}
-use Rattle.table.specs.declared.TableAnswer.{TableAnswer}
-use Rattle.table.specs.declared.steps.Stepped.{Stepped}
-use Rattle.table.specs.declared.steps.Stepped.TheVariants as moved
 use Rattle.table.specs.Minimal.{Outcome, refused, table}
 use Rattle.table.specs.Step.{step_table}
-use Rattle.table.specs.Entries.{entries_of, entries, lent, table_of}
-use Rattle.table.specs.inner.Slots.{Room}
-use Rattle.table.specs.Calls.{or_given}
-use Rattle.table.specs.inner.Steps.{step_answer}
+use Rattle.table.specs.Entries.{table_of}
 use Rattle.plan.specs.declared.Row.{Row}
 use Rattle.plan.specs.declared.Counts.{Counts}
 use Rattle.plan.specs.declared.Course.{Course}
 use Rattle.plan.specs.declared.Verdict as case
 use Rattle.plan.specs.Run.{in_goal, ended_in, halted_by, row_of, onward, run_from, table_or, last_table, rows_or, rows_from}
 use Rattle.plan.specs.Calls.{verdict_of}
-use Rattle.plan.specs.inner.Course.{counts_of, counts_in, FreshRows, noted, course_from}
-use Rattle.plan.specs.inner.Searches.{Runnable}
-use Rattle.plan.proofs.laws.searches.ArrayMoves.{slots_room, ready_after, came, refused_by_lem}
-use Rattle.plan.proofs.laws.runs.ReadyTables.{stopped, ready_count}
+use Rattle.plan.specs.inner.Course.{counts_of, course_in, noted, course_from}
+use Rattle.plan.specs.inner.Movable.{Movable, Runnable}
+use Rattle.plan.proofs.laws.runs.Moving.{moved_on}
 
 -- ---- one row more
 note_row : (rows : List Row) (place : ℕ) (t : List Literals) → length rows < 65
@@ -53,10 +44,6 @@ note_row rows place t lt = λ j. record
         ∙ ap (pad 65 0) (sym (map-append f rows (row_of place t ∷ [])))
 
 -- ---- one move more
--- the run that ends at the table t
-abbrev pub Ending : case.Verdict → Table → Counts → Course
-Ending v t c = record { ran = record { verdict = v; table = t }; counts = c }
-
 module _ (goal : List Literals) (rows : List Row) (place : ℕ) (a : Action) (plan : List Action) (t : List Literals) where
   taken : (u : List Literals) → step_table 128 a t ≡ table u
       → course_from goal rows place (a ∷ plan) t ≡ course_from goal (rows ++ row_of place t ∷ []) (suc place) plan u
@@ -76,7 +63,7 @@ module _ (goal : List Literals) (rows : List Row) (place : ℕ) (a : Action) (pl
       (sym (append_assoc rows (row_of place t ∷ []) (rows_from 128 (suc place) plan u)))
 
   halted : (k : ℕ) → step_table 128 a t ≡ refused k
-      → course_from goal rows place (a ∷ plan) t ≡ Ending (verdict_of (halted_by (eqb k 21) (suc place) k)) (table_of t)
+      → course_from goal rows place (a ∷ plan) t ≡ course_in (verdict_of (halted_by (eqb k 21) (suc place) k)) t
       (counts_of (rows ++ row_of place t ∷ []))
   unfolding course_from
   halted k e = λ j. record {
@@ -87,144 +74,102 @@ module _ (goal : List Literals) (rows : List Row) (place : ℕ) (a : Action) (pl
     counts = counts_of (rows ++ row_of place t ∷ rows_or (e j) (λ v. rows_from 128 (suc place) plan v));
   }
 
--- ---- what a step gave, as an answer with a table
-pub step_as : (t : Table) {r : Stepped} (us gs : List ℕ) {s : TableAnswer} → step_answer t r us gs ≡ s → {y : Stepped} → r ≡ y
-    → step_answer t y us gs ≡ s
-step_as t us gs e q = sym (ap (λ (y : Stepped). step_answer t y us gs) q) ∙ e
-
--- ---- a step in its place, on the table t: in the arrays lies the new table, or still t
-module _ (t : Table) (us gs : List ℕ) where
-  -- it gives what a step into other arrays gives
-  told_here : (r : Stepped) (o : Outcome) → step_answer (lent t.count us gs) r us gs ≡ or_given t o → step_answer t r us gs ≡ or_given t o
-  unfolding or_given
-  told_here (moved.To k) o e = e
-  told_here (moved.Refused k p) o e =
-      let f = stopped t o _ k p e refl in
-      ap (λ (s : TableAnswer). record { answer = s.answer; table = t }) (e ∙ ap (or_given t) f) ∙ sym (ap (or_given t) f)
-
-  kept_here : (r : Stepped) (o : Outcome) → step_answer (lent t.count us gs) r us gs ≡ or_given t o → (k p : ℕ) → r ≡ moved.Refused k p
-      → lent t.count us gs ≡ t
-  unfolding or_given
-  kept_here r o e k p q =
-      let f : step_answer (lent t.count us gs) (moved.Refused k p) us gs ≡ or_given t o = step_as (lent t.count us gs) us gs e q in
-      ap (λ (s : TableAnswer). s.table) f ∙ ap (λ (x : Outcome). (or_given t x).table) (stopped t o _ k p f refl)
-
 -- ---- the loop
--- the moves from place i on
-abbrev pub left : Plan → List ℕ → ℕ → List Action
-left plan packed i = map (action_of (moves_in packed)) (drop i (plan_in plan))
-
--- no row yet
-pub no_rows : {es cs : List ℕ} → FreshRows es cs → counts_in 0 es cs ≡ counts_of []
-unfolding counts_of pad
-no_rows f = λ j. record { count = 0; entries = f.entries j; clauses = f.clauses j }
+-- the moves of some numbers from place i on
+abbrev pub left : List ℕ → List ℕ → ℕ → List Action
+left numbers packed i = map (action_of (moves_in packed)) (drop i numbers)
 
 -- what is left of the plan gives, after the rows so far, what the whole gives
-pub record Going (plan : Plan) (packed : List ℕ) (whole : Course) (i : ℕ) (t : Table) (c : Counts) : Type 0 where
-  pub can : Runnable plan packed t
-  pub long : plan.count ≤ length plan.numbers
+pub record Going (numbers packed : List ℕ) (whole : Course) (i : ℕ) (es : List Literals) (c : Counts) : Type 0 where
+  pub count : ℕ
+  pub fits : Movable packed count es
+  pub few : length numbers ≤ 64
+  pub below : All (λ j. j < count) numbers
   pub rows : List Row
-  pub few : length rows ≤ i
-  pub most : length rows ≤ plan.count
+  pub so_far : length rows ≡ i
   pub counts_are : c ≡ counts_of rows
-  pub onwards : course_from (sets_in (goal_in packed)) rows i (left plan packed i) (entries t) ≡ whole
+  pub onwards : course_from (sets_in (goal_in packed)) rows i (left numbers packed i) es ≡ whole
 
-pub going_start : {plan : Plan} {packed : List ℕ} {t : Table} {c : Counts} → Runnable plan packed t → length plan.numbers ≡ 64
+pub going_start : {packed : List ℕ} {plan : Plan} {es : List Literals} {c : Counts} → Runnable plan packed es
     → c ≡ counts_of []
-    → Going plan packed (course_from (sets_in (goal_in packed)) [] 0 (left plan packed 0) (entries t)) 0 t c
-going_start h l e = record
-    { can = h; long = omega (arith, h.most); rows = []; few = omega arith; most = omega arith; counts_are = e; onwards = refl }
-
--- the number of the next move is that of a move
-pub number_below : {plan : Plan} {packed : List ℕ} {t : Table} {i : ℕ} (h : Runnable plan packed t) → plan.count ≤ length plan.numbers
-    → i < plan.count
-    → get_or plan.numbers i 0 < h.count
+    → Going (plan_in plan) packed (course_from (sets_in (goal_in packed)) [] 0 (left (plan_in plan) packed 0) es) 0 es c
 unfolding plan_in
-number_below {plan} {i = i} h long lt =
-    let l = length-take-le plan.count plan.numbers long in
-    subst (λ (n : ℕ). n < h.count) (get_or-take plan.count plan.numbers i 0 lt)
-    (all_at (λ n. n < h.count) (plan_in plan) i 0 (omega (arith, l)) h.numbers)
+going_start {plan = plan} h e = record {
+  count = h.count;
+  fits = h.fits;
+  few = omega (arith, length-take plan.count plan.numbers, h.most);
+  below = h.numbers;
+  rows = [];
+  so_far = refl;
+  counts_are = e;
+  onwards = refl;
+}
 
-module _ {plan : Plan} {packed : List ℕ} {whole : Course} {i : ℕ} {t : Table} {c : Counts} (h : Going plan packed whole i t c) where
-  -- there is room for a row
-  pub going_room : c.count < 65
-  unfolding counts_of
-  going_room = let e : c.count ≡ length h.rows = ap (λ (y : Counts). y.count) h.counts_are in omega (arith, h.most, h.can.most)
+module _ {numbers packed : List ℕ} {whole : Course} {i : ℕ} {es : List Literals} {c : Counts} (h : Going numbers packed whole i es c)
+  where
+    -- there is room for a row
+    pub going_room : i ≤ length numbers → c.count < 65
+    unfolding counts_of
+    going_room k = let e = ap (λ (y : Counts). y.count) h.counts_are in omega (arith, e, h.so_far, h.few, k)
 
-  noted_rows : noted c (entries t) ≡ counts_of (h.rows ++ row_of i (entries t) ∷ [])
-  noted_rows = ap (λ (y : Counts). noted y (entries t)) h.counts_are
-      ∙ note_row h.rows i (entries t) (omega (arith, h.most, h.can.most))
+    module _ {d : Counts} (ed : d ≡ noted c es) where
+      noted_rows : i < 65 → d ≡ counts_of (h.rows ++ row_of i es ∷ [])
+      noted_rows k = ed ∙ ap (λ (y : Counts). noted y es) h.counts_are ∙ note_row h.rows i es (omega (arith, h.so_far, k))
 
-  -- after the last move
-  pub going_end : plan.count ≤ i → {v : case.Verdict} → v ≡ verdict_of (ended_in (all_of (in_goal (sets_in (goal_in packed))) (entries t)))
-      → {d : Counts} → d ≡ noted c (entries t) → Ending v t d ≡ whole
-  unfolding course_from plan_in
-  going_end k ev ed =
-      (λ j. record { ran = record { verdict = ev j; table = h.can.fits.ready.zeros j }; counts = (ed ∙ noted_rows) j })
-      ∙ sym (ap (λ (p : List ℕ). course_from (sets_in (goal_in packed)) h.rows i (map (action_of (moves_in packed)) p) (entries t))
-      (part_end plan.count plan.numbers i k h.long))
-      ∙ h.onwards
+      -- after the last move
+      pub going_end : i ≤ length numbers → length numbers ≤ i → {v : case.Verdict}
+          → v ≡ verdict_of (ended_in (all_of (in_goal (sets_in (goal_in packed))) es)) → course_in v es d ≡ whole
+      unfolding course_from
+      going_end le k ev =
+          (λ j. course_in (ev j) es (noted_rows (omega (arith, le, h.few)) j))
+          ∙ sym (ap (λ (p : List ℕ). course_from (sets_in (goal_in packed)) h.rows i (map (action_of (moves_in packed)) p) es)
+          (drop_of_length-le numbers k))
+          ∙ h.onwards
 
-  module _ (lt : i < plan.count) where
-    abbrev m : ℕ
-    m = get_or plan.numbers i 0
+      module _ (lt : i < length numbers) where
+        abbrev m : ℕ
+        m = get_or numbers i 0
 
-    below : m < h.can.count
-    below = number_below h.can h.long lt
+        -- the number of the next move is that of a move
+        pub next_below : m < h.count
+        next_below = all_at (λ n. n < h.count) numbers i 0 lt h.below
 
-    unrolled : course_from (sets_in (goal_in packed)) h.rows i (action_of (moves_in packed) m ∷ left plan packed (i + 1)) (entries t) ≡
-        whole
-    unfolding plan_in
-    unrolled =
-        sym (ap (λ (p : List ℕ). course_from (sets_in (goal_in packed)) h.rows i (map (action_of (moves_in packed)) p) (entries t))
-        (part_step plan.count plan.numbers i 0 lt h.long))
-        ∙ h.onwards
+        unrolled : course_from (sets_in (goal_in packed)) h.rows i (action_of (moves_in packed) m ∷ left numbers packed (i + 1)) es ≡ whole
+        unrolled =
+            sym (ap (λ (p : List ℕ). course_from (sets_in (goal_in packed)) h.rows i (map (action_of (moves_in packed)) p) es)
+            (drop-cons numbers i 0 lt ∙ ap (λ (j : ℕ). m ∷ drop j numbers) (sym (add-one i))))
+            ∙ h.onwards
 
-    module _ (r : Stepped) (us gs : List ℕ)
-        (here : step_answer (lent t.count us gs) r us gs ≡ or_given t
-        (step_table 128 (action_of (moves_in packed) m) (entries_of t.count t.trues t.falses)))
-        {d : Counts} (ed : d ≡ noted c (entries t)) where
-      told : step_answer t r us gs ≡ or_given t (step_table 128 (action_of (moves_in packed) m) (entries_of t.count t.trues t.falses))
-      told = told_here t us gs r _ here
+        rows_are : d ≡ counts_of (h.rows ++ row_of i es ∷ [])
+        rows_are = noted_rows (omega (arith, lt, h.few))
 
-      -- the step gave a table
-      pub going_on : {k : ℕ} → r ≡ moved.To k → Going plan packed whole (i + 1) (lent k us gs) d
-      going_on {k} e = record {
-        can = record {
-          count = h.can.count;
-          fits = ready_after h.can.fits below r us gs told e;
-          most = h.can.most;
-          numbers = h.can.numbers;
-        };
-        long = h.long;
-        rows = h.rows ++ row_of i (entries t) ∷ [];
-        few = omega (arith, h.few, length-append h.rows (row_of i (entries t) ∷ []));
-        most = omega (arith, h.few, length-append h.rows (row_of i (entries t) ∷ []));
-        counts_are = ed ∙ noted_rows;
-        onwards =
-            ap (λ (n : ℕ). course_from (sets_in (goal_in packed)) (h.rows ++ row_of i (entries t) ∷ []) n (left plan packed (i + 1))
-            (entries (lent k us gs))) (add-one i)
-            ∙ sym (taken (sets_in (goal_in packed)) h.rows i (action_of (moves_in packed) m) (left plan packed (i + 1)) (entries t) _
-            (came h.can.fits below r us gs told e))
-            ∙ unrolled;
-      }
+        -- the step gave a table
+        pub going_on : {us : List Literals} → table us ≡ step_table 128 (action_of (moves_in packed) m) es
+            → Going numbers packed whole (i + 1) us d
+        going_on {us} e = record {
+          count = h.count;
+          fits = moved_on h.fits next_below (sym e);
+          few = h.few;
+          below = h.below;
+          rows = h.rows ++ row_of i es ∷ [];
+          so_far = omega (arith, h.so_far, length-append h.rows (row_of i es ∷ []));
+          counts_are = rows_are;
+          onwards =
+              ap (λ (n : ℕ). course_from (sets_in (goal_in packed)) (h.rows ++ row_of i es ∷ []) n (left numbers packed (i + 1)) us)
+              (add-one i)
+              ∙ sym (taken (sets_in (goal_in packed)) h.rows i (action_of (moves_in packed) m) (left numbers packed (i + 1)) es us (sym e))
+              ∙ unrolled;
+        }
 
-      -- the step was refused
-      pub going_halt : {k p : ℕ} → r ≡ moved.Refused k p → {v : case.Verdict} → v ≡ verdict_of (halted_by (eqb k 21) (i + 1) k)
-          → Ending v (lent t.count us gs) d ≡ whole
-      going_halt {k} {p} e ev =
-          (λ j. record {
-            ran = record {
-              verdict = (ev ∙ ap (λ (n : ℕ). verdict_of (halted_by (eqb k 21) n k)) (add-one i)) j;
-              table = (kept_here t us gs r _ here k p e ∙ h.can.fits.ready.zeros) j;
-            };
-            counts = (ed ∙ noted_rows) j;
-          })
-          ∙ sym (halted (sets_in (goal_in packed)) h.rows i (action_of (moves_in packed) m) (left plan packed (i + 1)) (entries t) k
-          (refused_by_lem h.can.fits below r us gs told e))
-          ∙ unrolled
-
--- what noting a row asks
-pub going_note : {plan : Plan} {packed : List ℕ} {whole : Course} {i n : ℕ} {ts fs : List ℕ} {c : Counts}
-    → Going plan packed whole i (lent n ts fs) c → ((c.count < 65) × (1 ≤ n)) × Room n ts fs
-going_note v = ((going_room v, (ready_count v.can.fits.n _ v.can.fits.ready).0), slots_room v.can.fits)
+        -- the step was refused, and the table kept
+        pub going_halt : {k : ℕ} {us : List Literals} → refused k ≡ step_table 128 (action_of (moves_in packed) m) es
+            → us ≡ table_or (step_table 128 (action_of (moves_in packed) m) es) es (λ u. u) → {v : case.Verdict}
+            → v ≡ verdict_of (halted_by (eqb k 21) d.count k) → course_in v us d ≡ whole
+        unfolding counts_of
+        going_halt {k} e kept ev =
+            let at : d.count ≡ suc i = omega
+            (arith, ap (λ (y : Counts). y.count) rows_are, h.so_far, length-append h.rows (row_of i es ∷ [])) in
+            (λ j. course_in ((ev ∙ ap (λ (n : ℕ). verdict_of (halted_by (eqb k 21) n k)) at) j)
+            ((kept ∙ ap (λ (o : Outcome). table_or o es (λ u. u)) (sym e)) j) (rows_are j))
+            ∙ sym (halted (sets_in (goal_in packed)) h.rows i (action_of (moves_in packed) m) (left numbers packed (i + 1)) es k (sym e))
+            ∙ unrolled

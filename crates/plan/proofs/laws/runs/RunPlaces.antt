@@ -11,8 +11,8 @@ use lib.ListN.{length, take, drop, get_or, length-map, length-drop, length-appen
 use lib.Seq.{length-take-le, take-length, get_or-drop, get_or-append-add}
 use borrow.Author.Tests.{lt-ltb, le-ltb}
 use Rattle.sheet.specs.declared.Literals.{Literals}
-use Rattle.sheet.specs.declared.Answer.{Answer}
-use Rattle.sheet.specs.declared.Answer.TheVariants.{Accepted, Refused}
+use Rattle.sheet.specs.Calls.{Answer, Accepted, Refused}
+use Rattle.sheet.proofs.laws.reader.ReadSheets.{same_fault}
 use Rattle.sheet.specs.Lists.{All}
 use Rattle.sheet.specs.Problem.{Action, Problem, Statement}
 use Rattle.sheet.specs.Format.{Judgement, accepted, refused, sheet_of}
@@ -71,7 +71,7 @@ tabled o = and_then o (λ u. some (table_of u))
 
 number_of : (t : Table) (o : Outcome) (N : ℕ) → (or_given t o).answer ≡ Refused N 0 → o ≡ Outcome.refused N
 unfolding or_given
-number_of t (Outcome.refused k) N e = let i : k ≡ N = cc in ap Outcome.refused i
+number_of t (Outcome.refused k) N e = ap Outcome.refused (same_fault e).0
 number_of t (Outcome.table u) N e = absurd (let z : ◌≡◌ {A = ℕ} 0 1 = cc in omega arith)
 
 -- row i after the run, of the table that the first i moves arrive at

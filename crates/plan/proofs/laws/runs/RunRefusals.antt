@@ -13,7 +13,7 @@ use Rattle.sheet.specs.declared.Literals.{Literals}
 use Rattle.sheet.specs.Problem.{Problem, Statement}
 use Rattle.sheet.specs.Format.{Judgement, accepted, refused, sheet_of}
 use Rattle.sheet.specs.Faults.{Says}
-use Rattle.sheet.specs.declared.Answer.TheVariants.{Refused}
+use Rattle.sheet.specs.Calls.{Refused}
 use Rattle.table.specs.Minimal.{Outcome}
 use Rattle.table.specs.Start.{start_table}
 use Rattle.table.specs.Entries.{table_of}

@@ -1,5 +1,5 @@
 -- The first answer among plans in order: over lists one after another, and by the first move. For SearchReturns, NoShorterPlans and
--- SheetStarts. Assumes nothing.
+-- SheetSearches. Assumes nothing.
 use mathlib.Core.Path.{◌≡◌, refl, sym, ap, ◌∙◌}
 use mathlib.Core.Bool.{Bool, true, false, true≢false}
 use mathlib.Core.List.{List, [], ◌∷◌, ◌++◌, map, append-nil}

@@ -2,22 +2,22 @@
 -- functions of `memory` and for `searches::try_plans`. Assumes nothing.
 use mathlib.Core.Path.{◌≡◌, sym, ap, subst, ◌∙◌}
 use mathlib.Core.List.{List}
-use Prim.Native.Nat.{ℕ, ◌+◌, ◌*◌, ◌-◌, ◌/◌, ◌≤◌, ◌<◌}
+use Prim.Native.Nat.{ℕ, ◌+◌, ◌*◌, ◌≤◌, ◌<◌}
 use native.Mathlib.Nat.{not-suc-le-zero}
 use native.Mathlib.Omega.{arith}
 use native.Mathlib.Decide.{ℕ_discrete}
-use lib.ListN.{length, get_or, set, take, drop, length-set}
-use lib.Seq.{get_or-set_same, get_or-set_other, get_or-take, get_or-drop}
-use borrow.Author.Count.{below_more}
+use lib.ListN.{length, get_or, take, drop}
+use lib.Seq.{get_or-take, get_or-drop, ext_get_or}
 use Rattle.sheet.specs.declared.Literals.{Literals}
+use Rattle.sheet.specs.Literals.{no_literal}
 use Rattle.sheet.specs.inner.Packed.{item_at, sets_in, action_of, goal_in, moves_in}
-use Rattle.sheet.proofs.laws.reader.PackedParts.{item_lent, item_anew, item_anew_long, item_same, item_other}
+use Rattle.sheet.proofs.laws.reader.PackedParts.{item_anew, item_anew_long, item_same, item_other}
 use Rattle.table.specs.Entries.{entries_of}
+use Rattle.table.proofs.laws.arrays.HeldLists.{length_entries_of, get_d_entries_of}
 use Rattle.plan.specs.Search.{nothing}
 use Rattle.plan.specs.inner.Searches.{first_from, NoShorterFrom}
 use Rattle.plan.specs.inner.Memory.{mark_in, table_in, Remembers, Recalls}
 use Rattle.plan.proofs.laws.searches.NoShorterPlans.{quiet_place, quiet_none, quiet_more}
-use Rattle.plan.proofs.laws.searches.SameEntries.{agree_entries}
 
 -- ---- what the slots say
 module _ (packed : List ℕ) (count : ℕ) where
@@ -57,55 +57,39 @@ module _ (packed : List ℕ) (count : ℕ) where
   blank memory h j l q i s = absurd (not-suc-le-zero (subst (λ (m : ℕ). length q < m) (h j l) s))
 
 -- ---- a slot that is written
-pub record Laid (slot ts fs : List ℕ) (n mark i : ℕ) : Type 0 where
+-- mark, count and the first i of the entries es stand in it
+pub record Laid (slot : List ℕ) (es : List Literals) (mark i : ℕ) : Type 0 where
   pub long : length slot ≡ 258
   pub mark_is : get_or slot 0 0 ≡ mark
-  pub count_is : get_or slot 1 0 ≡ n
-  pub trues_are : (k : ℕ) → k < i → get_or slot (2 + k) 0 ≡ get_or ts k 0
-  pub falses_are : (k : ℕ) → k < i → get_or slot (130 + k) 0 ≡ get_or fs k 0
+  pub count_is : get_or slot 1 0 ≡ length es
+  pub trues_are : (k : ℕ) → k < i → get_or slot (2 + k) 0 ≡ (get_or es k no_literal).trues
+  pub falses_are : (k : ℕ) → k < i → get_or slot (130 + k) 0 ≡ (get_or es k no_literal).falses
 
-pub laid_none : (slot ts fs : List ℕ) (n mark : ℕ) → length slot ≡ 258 → Laid (set (set slot 0 mark) 1 n) ts fs n mark 0
-laid_none slot ts fs n mark l = record {
-  long = length-set (set slot 0 mark) 1 n ∙ length-set slot 0 mark ∙ l;
-  mark_is = get_or-set_other (set slot 0 mark) 1 0 n 0 (λ e. omega (arith, e)) ∙ get_or-set_same slot 0 mark 0 (omega arith);
-  count_is = get_or-set_same (set slot 0 mark) 1 n 0 (omega (arith, length-set slot 0 mark));
-  trues_are = λ k z. absurd (not-suc-le-zero z);
-  falses_are = λ k z. absurd (not-suc-le-zero z);
-}
-
-module _ {slot ts fs : List ℕ} {n mark i : ℕ} (h : Laid slot ts fs n mark i) (l : i < 128) where
-  abbrev one : List ℕ
-  one = set slot (2 + i) (get_or ts i 0)
-
-  abbrev two : List ℕ
-  two = set one (130 + i) (get_or fs i 0)
-
-  -- a number at another place is kept
-  kept : (x : ℕ) → (x ≡ 2 + i → ⊥) → (x ≡ 130 + i → ⊥) → get_or two x 0 ≡ get_or slot x 0
-  kept x a b = get_or-set_other one (130 + i) x (get_or fs i 0) 0 b ∙ get_or-set_other slot (2 + i) x (get_or ts i 0) 0 a
-
-  pub laid_next : Laid two ts fs n mark (i + 1)
-  laid_next = record {
-    long = length-set one (130 + i) (get_or fs i 0) ∙ length-set slot (2 + i) (get_or ts i 0) ∙ h.long;
-    mark_is = kept 0 (λ e. omega (arith, e)) (λ e. omega (arith, e)) ∙ h.mark_is;
-    count_is = kept 1 (λ e. omega (arith, e)) (λ e. omega (arith, e)) ∙ h.count_is;
-    trues_are = below_more (λ k. get_or two (2 + k) 0 ≡ get_or ts k 0) i
-        (λ k b. kept (2 + k) (λ e. omega (arith, e, b)) (λ e. omega (arith, e, b)) ∙ h.trues_are k b)
-        (get_or-set_other one (130 + i) (2 + i) (get_or fs i 0) 0 (λ e. omega (arith, e))
-        ∙ get_or-set_same slot (2 + i) (get_or ts i 0) 0 (omega (arith, h.long, l)));
-    falses_are = below_more (λ k. get_or two (130 + k) 0 ≡ get_or fs k 0) i
-        (λ k b. kept (130 + k) (λ e. omega (arith, e, b, l)) (λ e. omega (arith, e, b)) ∙ h.falses_are k b)
-        (get_or-set_same one (130 + i) (get_or fs i 0) 0 (omega (arith, h.long, l, length-set slot (2 + i) (get_or ts i 0))));
-  }
-
-pub laid_table : {slot ts fs : List ℕ} {n mark i : ℕ} → Laid slot ts fs n mark i → n ≤ 128 → i ≡ n → table_in slot ≡ entries_of n ts fs
+pub laid_table : {slot : List ℕ} {es : List Literals} {mark i : ℕ} → Laid slot es mark i → length es ≤ 128 → length es ≤ i
+    → table_in slot ≡ es
 unfolding table_in
-laid_table {slot} {ts} {fs} {n} {mark} {i} h l e =
-    agree_entries (get_or slot 1 0) n (take 128 (drop 2 slot)) (take 128 (drop 130 slot)) ts fs h.count_is
-    (λ k b. get_or-take 128 (drop 2 slot) k 0 (omega (arith, b, h.count_is, l)) ∙ get_or-drop 2 slot k 0
-    ∙ h.trues_are k (omega (arith, b, h.count_is, e)))
-    (λ k b. get_or-take 128 (drop 130 slot) k 0 (omega (arith, b, h.count_is, l)) ∙ get_or-drop 130 slot k 0
-    ∙ h.falses_are k (omega (arith, b, h.count_is, e)))
+laid_table {slot} {es} {mark} {i} h l e = ext_get_or no_literal (entries_of n ts fs) es (length_entries_of n ts fs ∙ h.count_is) same
+  where
+    n : ℕ
+    n = get_or slot 1 0
+
+    ts : List ℕ
+    ts = take 128 (drop 2 slot)
+
+    fs : List ℕ
+    fs = take 128 (drop 130 slot)
+
+    same : (k : ℕ) → k < length (entries_of n ts fs) → get_or (entries_of n ts fs) k no_literal ≡ get_or es k no_literal
+    same k b =
+        let c : k < n = omega (arith, b, length_entries_of n ts fs) in
+        let d : k < length es = omega (arith, c, h.count_is) in
+        get_d_entries_of n ts fs k c
+        ∙ (λ j. record {
+          trues = (get_or-take 128 (drop 2 slot) k 0 (omega (arith, d, l))
+              ∙ get_or-drop 2 slot k 0 ∙ h.trues_are k (omega (arith, d, e))) j;
+          falses = (get_or-take 128 (drop 130 slot) k 0 (omega (arith, d, l)) ∙ get_or-drop 130 slot k 0
+              ∙ h.falses_are k (omega (arith, d, e))) j;
+        })
 
 -- ---- one slot of a memory written anew
 module _ (xs slot : List ℕ) (j : ℕ) (room : j * 258 + 258 ≤ length xs) (long : length slot ≡ 258) where
@@ -130,22 +114,3 @@ pub mark_head : (memory : List ℕ) (j : ℕ) → mark_in (item_at 258 memory j)
 unfolding item_at
 mark_head memory j = let e : j * 258 + 0 ≡ j * 258 = omega arith in
     get_or-take 258 (drop (j * 258) memory) 0 0 (omega arith) ∙ get_or-drop (j * 258) memory 0 0 ∙ ap (λ (k : ℕ). get_or memory k 0) e
-
--- ---- how many slots there are
-pub slots_room : (long j : ℕ) → j < long / 258 → j * 258 + 258 ≤ long
-slots_room long j l = omega (arith, l)
-
-pub slots_all : (long j : ℕ) → j * 258 + 258 ≤ long → j < long / 258
-slots_all long j l = omega (arith, l)
-
--- a slot that is lent says what is recalled
-pub recalled : (memory : List ℕ) (es : List Literals) (left j : ℕ) → j * 258 + 258 ≤ length memory
-    → left < mark_in (take (j * 258 + 258 - j * 258) (drop (j * 258) memory))
-    → table_in (take (j * 258 + 258 - j * 258) (drop (j * 258) memory)) ≡ es
-    → Recalls memory es left
-recalled memory es left j room a b = record {
-  slot = j;
-  room = room;
-  above = subst (λ (s : List ℕ). left < mark_in s) (item_lent 258 j memory) a;
-  alike = sym (ap table_in (item_lent 258 j memory)) ∙ b;
-}

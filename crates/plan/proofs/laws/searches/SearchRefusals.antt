@@ -12,7 +12,7 @@ use borrow.Author.Tests.{ltb-true, ltb-false, lt-ltb, le-ltb}
 use Rattle.sheet.specs.Lists.{pad}
 use Rattle.sheet.specs.Problem.{Problem, Statement}
 use Rattle.sheet.specs.Format.{Judgement, accepted, refused, sheet_of}
-use Rattle.sheet.specs.declared.Answer.TheVariants.{Refused}
+use Rattle.sheet.specs.Calls.{Refused}
 use Rattle.sheet.specs.Faults.{Says}
 use Rattle.table.specs.Minimal.{Outcome}
 use Rattle.table.specs.Start.{start_table}

@@ -53,13 +53,13 @@ written_consed at m (full_at p k) e =
 written_consed at m nothing e = absurd (true≢false (sym e))
 
 -- a full step: the rest of the plan is move 0, whose bytes are zero already
-pub full_here : (at left m k : ℕ) → answered_at at (full_at (m ∷ replicate left 0) k) ≡ record
-    { kind = kind.Full k; plan = set (replicate 8 0) at m; length = at + 1 + left }
+pub full_here : (at left m : ℕ) → record { kind = kind.Full (at + 1); plan = set (replicate 8 0) at m; length = at + 1 + left }
+    ≡ answered_at at (full_at (m ∷ replicate left 0) (at + 1))
 unfolding answered_at
-full_here at left m k =
-    let q : at + suc (length {A = ℕ} (replicate left 0)) ≡ at + 1 + left = omega (arith, length-replicate {A = ℕ} left 0) in
-    ap₂ {C = SearchAnswer} (λ (l : List ℕ) (n : ℕ). record { kind = kind.Full k; plan = l; length = n })
-    (sym (pad_write 8 at m (replicate left 0)) ∙ ap (λ (l : List ℕ). set l at m) (pad_zeros 8 (suc at) left)) q
+full_here at left m =
+    let q : at + 1 + left ≡ at + suc (length {A = ℕ} (replicate left 0)) = omega (arith, length-replicate {A = ℕ} left 0) in
+    ap₂ {C = SearchAnswer} (λ (l : List ℕ) (n : ℕ). record { kind = kind.Full (at + 1); plan = l; length = n })
+    (ap (λ (l : List ℕ). set l at m) (sym (pad_zeros 8 (suc at) left)) ∙ pad_write 8 at m (replicate left 0)) q
 
 -- from the first byte on, it is the answer of the call
 from_start : (f : Answer) → answered_at 0 f ≡ answered f

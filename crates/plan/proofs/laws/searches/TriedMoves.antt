@@ -6,86 +6,69 @@ use mathlib.Core.List.{List, ◌∷◌}
 use Prim.Native.Nat.{ℕ, ◌+◌, ◌-◌}
 use native.Mathlib.Omega.{arith}
 use lib.ListN.{replicate}
+use Rattle.sheet.specs.declared.Literals.{Literals}
 use Rattle.sheet.specs.inner.Packed.{sets_in, goal_in, moves_in, action_of}
-use Rattle.table.specs.declared.Table.{Table}
-use Rattle.table.specs.Minimal.{refused, table}
+use Rattle.table.specs.Minimal.{Outcome, refused, table}
 use Rattle.table.specs.Step.{step_table}
-use Rattle.table.specs.Entries.{entries_of, entries, lent}
-use Rattle.table.specs.Calls.{or_given}
-use Rattle.table.specs.declared.steps.Stepped.{Stepped}
-use Rattle.table.specs.declared.steps.Stepped.TheVariants as moved
-use Rattle.table.specs.inner.Steps.{step_answer}
 use Rattle.plan.specs.declared.SearchAnswer.{SearchAnswer}
 use Rattle.plan.specs.Search.{full_at, nothing}
 use Rattle.plan.specs.Calls.{answered}
-use Rattle.plan.specs.inner.Searches.{answered_at, is_end, NoShorterFrom, Searchable, plans_tried, move_tried}
-use Rattle.plan.specs.inner.Memory.{MoveUnderway}
+use Rattle.plan.specs.inner.Searches.{answered_at, is_end, NoShorterFrom, plans_tried, move_tried}
+use Rattle.plan.specs.inner.Memory.{Underway, MoveUnderway}
 use Rattle.plan.specs.declared.searches.Depth.{Depth}
+use Rattle.plan.proofs.laws.runs.Moving.{moved_on}
 use Rattle.plan.proofs.laws.searches.NoShorterPlans.{quiet_after, unchanged}
 use Rattle.plan.proofs.laws.searches.SearchReturns.{written, onward_ended, onward_not, at_stop, at_full}
-use Rattle.plan.proofs.laws.searches.ArrayMoves.{came, ready_after, refused_by_lem}
 
-module _ {packed : List ℕ} {depth : Depth} {m n : ℕ} {ts fs memory : List ℕ} (h : MoveUnderway packed depth m (lent n ts fs) memory)
-    (r : Stepped) (us gs : List ℕ)
-    (told : step_answer (lent n ts fs) r us gs ≡ or_given (lent n ts fs)
-    (step_table 128 (action_of (moves_in packed) m) (entries_of n ts fs)))
-  where
-    abbrev t : Table
-    t = lent n ts fs
+module _ {packed : List ℕ} {depth : Depth} {m : ℕ} {es : List Literals} {memory : List ℕ} (h : MoveUnderway packed depth m es memory) where
+  abbrev goal : List Literals
+  goal = sets_in (goal_in packed)
 
-    abbrev k : ℕ
-    k = depth.moves
+  abbrev k : ℕ
+  k = depth.moves
 
-    abbrev at : ℕ
-    at = depth.at
+  abbrev at : ℕ
+  at = depth.at
 
-    abbrev left : ℕ
-    left = depth.left - 1
+  abbrev left : ℕ
+  left = depth.left - 1
 
-    -- no plan with fewer moves than are left, this one among them, has an answer
-    none_shorter : NoShorterFrom packed k at (entries t) (left + 1)
-    none_shorter p i l = h.underway.no_shorter p i (omega (arith, l, h.some_left))
+  abbrev outcome : Outcome
+  outcome = step_table 128 (action_of (moves_in packed) m) es
 
-    -- ---- the step gave a table
-    module _ {j : ℕ} (e : r ≡ moved.To j) where
-      abbrev u : Table
-      u = lent j us gs
+  -- no plan with fewer moves than are left, this one among them, has an answer
+  none_shorter : NoShorterFrom packed k at es (left + 1)
+  none_shorter p i l = h.underway.no_shorter p i (omega (arith, l, h.some_left))
 
-      to : step_table 128 (action_of (moves_in packed) m) (entries t) ≡ table (entries u)
-      to = came h.underway.can h.below r us gs told e
+  -- ---- the step gave a table
+  module _ {us : List Literals} (to : outcome ≡ table us) where
+    -- the search goes on from it: no shorter plan has an answer there either
+    pub underway_after : Underway packed (record { moves = k; at = at + 1; left = left }) us memory
+    underway_after = record {
+      can = moved_on h.underway.can h.below to;
+      most = omega (arith, h.underway.most, h.some_left);
+      no_shorter = quiet_after goal (action_of (moves_in packed)) k at es m left us to none_shorter h.below;
+      remembers = h.underway.remembers;
+    }
 
-      -- the search can go on from it, and no shorter plan has an answer there either
-      pub can_after : Searchable packed k u
-      can_after = ready_after h.underway.can h.below r us gs told e
+    -- it is the table that was
+    pub tried_same : us ≡ es → {a : SearchAnswer} → a ≡ answered nothing → a ≡ move_tried packed k es at left m
+    unfolding answered_at
+    tried_same z w = w ∙ sym (ap (answered_at at) (unchanged goal (action_of (moves_in packed)) k at es m left us to none_shorter z))
 
-      pub none_after : NoShorterFrom packed k (at + 1) (entries u) left
-      none_after = quiet_after (sets_in (goal_in packed)) (action_of (moves_in packed)) k at (entries t) m left (entries u) to none_shorter
-          h.below
+    -- the plans after the move were tried, with an answer or without
+    module _ {a : SearchAnswer} (w : a ≡ plans_tried packed k us (at + 1) left) where
+      pub tried_ended : is_end a.kind ≡ true → written a at m ≡ move_tried packed k es at left m
+      tried_ended b = onward_ended goal (action_of (moves_in packed)) k at es left m us a to w b
 
-      -- it is the table that was
-      pub tried_same : entries_of j us gs ≡ entries_of n ts fs → {a : SearchAnswer} → a ≡ answered nothing
-          → a ≡ move_tried packed k t at left m
-      unfolding answered_at entries
-      tried_same z w = w ∙ sym (ap (answered_at at)
-          (unchanged (sets_in (goal_in packed)) (action_of (moves_in packed)) k at (entries t) m left (entries u) to none_shorter z))
+      pub tried_not : is_end a.kind ≡ false → a ≡ move_tried packed k es at left m
+      tried_not b = onward_not goal (action_of (moves_in packed)) k at es left m us a to w b
 
-      -- the plans after the move were tried, with an answer or without
-      module _ {a : SearchAnswer} (w : a ≡ plans_tried packed k u (at + 1) left) where
-        pub tried_ended : is_end a.kind ≡ true → written a at m ≡ move_tried packed k t at left m
-        tried_ended b = onward_ended (sets_in (goal_in packed)) (action_of (moves_in packed)) k at (entries t) left m (entries u) a to w b
+  -- ---- the step was refused
+  module _ {code : ℕ} (halts : outcome ≡ refused code) where
+    pub tried_full : code ≡ 21 → {a : SearchAnswer} → a ≡ answered_at at (full_at (m ∷ replicate left 0) (at + 1))
+        → a ≡ move_tried packed k es at left m
+    tried_full z {a} w = at_full goal (action_of (moves_in packed)) k at es left m a h.underway.can.least (halts ∙ ap refused z) w
 
-        pub tried_not : is_end a.kind ≡ false → a ≡ move_tried packed k t at left m
-        tried_not b = onward_not (sets_in (goal_in packed)) (action_of (moves_in packed)) k at (entries t) left m (entries u) a to w b
-
-    -- ---- the step was refused
-    module _ {code position : ℕ} (e : r ≡ moved.Refused code position) where
-      halts : step_table 128 (action_of (moves_in packed) m) (entries t) ≡ refused code
-      halts = refused_by_lem h.underway.can h.below r us gs told e
-
-      pub tried_full : code ≡ 21 → {a : SearchAnswer} → a ≡ answered_at at (full_at (m ∷ replicate left 0) (at + 1))
-          → a ≡ move_tried packed k t at left m
-      tried_full z {a} w = at_full (sets_in (goal_in packed)) (action_of (moves_in packed)) k at (entries t) left m a h.underway.can.least
-          (halts ∙ ap refused z) w
-
-      pub tried_stopped : (code ≡ 21 → ⊥) → {a : SearchAnswer} → a ≡ answered nothing → a ≡ move_tried packed k t at left m
-      tried_stopped z {a} w = at_stop (sets_in (goal_in packed)) (action_of (moves_in packed)) k at (entries t) left m code a halts z w
+    pub tried_stopped : (code ≡ 21 → ⊥) → {a : SearchAnswer} → a ≡ answered nothing → a ≡ move_tried packed k es at left m
+    tried_stopped z {a} w = at_stop goal (action_of (moves_in packed)) k at es left m code a halts z w

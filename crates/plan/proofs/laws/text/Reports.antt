@@ -3,7 +3,7 @@
 use mathlib.Core.Path.{◌≡◌, ap, ◌∙◌}
 use mathlib.Core.Bool.{Bool, true, false, cond}
 use mathlib.Core.List.{List, ◌++◌}
-use Prim.Native.Nat.{ℕ, ◌+◌, ◌≤◌, ◌<◌}
+use Prim.Native.Nat.{ℕ, ◌≤◌, ◌<◌}
 use native.Mathlib.Omega.{arith}
 use lib.Dec.{ltb}
 use lib.ListN.{length, drop, length-append}
@@ -14,7 +14,7 @@ use Rattle.plan.specs.Calls.{run_of, rows_of}
 use Rattle.plan.specs.inner.Course.{counts_of, course_of}
 use Rattle.plan.specs.inner.Rows.{rows_in}
 use Rattle.plan.specs.Text.{text_of, output_of, report_of, report_in}
-use Rattle.plan.specs.inner.Writing.{Wrote}
+use Rattle.plan.specs.inner.Writing.{WroteFirst}
 use Rattle.plan.proofs.laws.rows.RowCounts.{rows_placed, counts_back}
 
 -- a run has at most 65 rows
@@ -31,16 +31,14 @@ text_output s = let p = rows_placed s 65 in ap (text_of (run_of (sheet_of s) 65)
 
 -- what the call gives and writes
 pub reports : (s : List ℕ) (k : Course) → k ≡ course_of (sheet_of s) 65 → (b : List ℕ) (r : ℕ) (e : List ℕ) → 8192 ≤ length b
-    → Wrote b 0 (text_of k.ran.verdict (rows_in k.counts)) r e → (r ≡ report_of (sheet_of s) (length b)) × (e ≡ report_in (sheet_of s) b)
+    → WroteFirst b (text_of k.ran.verdict (rows_in k.counts)) r e → (r ≡ report_of (sheet_of s) (length b)) × (e ≡ report_in (sheet_of s) b)
 unfolding report_of report_in
 reports s k q b r e h f =
     let t : text_of k.ran.verdict (rows_in k.counts) ≡ output_of (sheet_of s) = ap
     (λ (x : Course). text_of x.ran.verdict (rows_in x.counts)) q ∙ text_output s in
-    let w : Wrote b 0 (output_of (sheet_of s)) r e = rw t at f in
-    let n : 0 + length (output_of (sheet_of s)) ≡ length (output_of (sheet_of s)) = omega arith in (
-      rw (le-ltb (length b) 8192 h) (w.place ∙ n),
-      rw (le-ltb (length b) 8192 h)
-          (w.bytes ∙ ap (λ (m : ℕ). output_of (sheet_of s) ++ drop m b) n),
+    let w : WroteFirst b (output_of (sheet_of s)) r e = rw t at f in (
+      rw (le-ltb (length b) 8192 h) w.place,
+      rw (le-ltb (length b) 8192 h) (w.bytes ∙ ap (λ (m : ℕ). output_of (sheet_of s) ++ drop m b) w.place),
     )
 
 -- a buffer that is too short

@@ -7,8 +7,8 @@ use native.Mathlib.Nat.{mod-eq_of_lt, pow-suc}
 use native.Mathlib.Numerals.{add-one}
 use native.Mathlib.Omega.{arith}
 use lib.Dec.{ltb}
-use lib.ListN.{length, set, take, drop, length-append, take-append-drop}
-use lib.Seq.{paste, take_at, drop-append-add, drop-drop, take-length, length-take-le, set_split}
+use lib.ListN.{length, take, drop, length-append, take-append-drop}
+use lib.Seq.{take_at, drop-append-add, drop-drop, length-take-le}
 use borrow.Author.Tests.{ltb-true, ltb-false, lt-ltb, le-ltb}
 use Rattle.plan.specs.declared.Row.{Row}
 use Rattle.plan.specs.declared.Counts.{Counts}
@@ -16,58 +16,40 @@ use Rattle.plan.specs.inner.Rows.{row_at, rows_below}
 use Rattle.plan.specs.declared.Verdict.{Verdict}
 use Rattle.plan.specs.Demand3.{refused_verdict}
 use Rattle.plan.specs.Text.{ascii, digits_of, decimal, row_text, rows_text, last_line, text_of}
-use Rattle.plan.specs.inner.Writing.{Wrote}
+use Rattle.plan.specs.declared.text.Writer.{Writer}
+use Rattle.plan.specs.inner.Writing.{Wrote, WroteFirst}
 
--- ---- bytes in a buffer
+-- ---- text in a buffer
 -- nothing is written
-wrote_none : (b : List ℕ) (at : ℕ) → Wrote b at [] at b
-wrote_none b at =
-    let e : at + 0 ≡ at = omega arith in
-    record { place = omega arith; bytes = sym (ap (λ (k : ℕ). take at b ++ drop k b) e ∙ take-append-drop at b) }
-
--- one byte
-wrote_byte : (b : List ℕ) (at x : ℕ) → at < length b → Wrote b at (x ∷ []) (at + 1) (set b at x)
-wrote_byte b at x h =
-    let e : suc at ≡ at + 1 = omega arith in
-    record { place = omega arith; bytes = set_split b at x h ∙ ap (λ (k : ℕ). take at b ++ (x ∷ drop k b)) e }
+pub wrote_none : (w : Writer) → w.at ≤ length w.out.now → Wrote w [] w
+wrote_none w h =
+    record { buffer = refl; long = refl; place = omega arith; within = h; bytes = sym (take-append-drop w.at w.out.now) }
 
 -- s, then t
-pub wrote_then : {b : List ℕ} {at : ℕ} {s : List ℕ} {q : ℕ} {m t : List ℕ} {r : ℕ} {e : List ℕ} → Wrote b at s q m → q ≤ length b
-    → Wrote m q t r e
-    → Wrote b at (s ++ t) r e
-wrote_then {b} {at} {s} {q} {m} {t} {r} {e} f h g =
-    let p = take at b ++ s in
-    let rest = drop (at + length s) b in
-    let long : length p ≡ q = omega (arith, length-append (take at b) s, length-take-le at b (omega (arith, f.place)), f.place) in
-    let is : m ≡ p ++ rest = f.bytes ∙ sym (append_assoc (take at b) s rest) in
-    let front : take q m ≡ p = ap (take q) is ∙ take_at p rest q long in
-    let both : (at + length s) + length t ≡ at + length (s ++ t) = omega (arith, length-append s t) in
-    let back : drop (q + length t) m ≡ drop (at + length (s ++ t)) b =
-    ap₂ (λ (k : ℕ) (x : List ℕ). drop (k + length t) x) (sym long) is
+pub wrote_then : {u v w : Writer} {s t : List ℕ} → Wrote u s v → Wrote v t w → Wrote u (s ++ t) w
+wrote_then {u} {v} {w} {s} {t} f g =
+    let b = u.out.now in
+    let p = take u.at b ++ s in
+    let rest = drop v.at b in
+    let long : length p ≡ v.at = omega
+    (arith, length-append (take u.at b) s, length-take-le u.at b (omega (arith, f.place, f.within, f.long)), f.place) in
+    let is : v.out.now ≡ p ++ rest = f.bytes ∙ sym (append_assoc (take u.at b) s rest) in
+    let front : take v.at v.out.now ≡ p = ap (take v.at) is ∙ take_at p rest v.at long in
+    let back : drop w.at v.out.now ≡ drop w.at b =
+    ap₂ (λ (k : ℕ) (x : List ℕ). drop k x) (omega (arith, g.place, long)) is
     ∙ drop-append-add p rest (length t)
-    ∙ drop-drop (length t) (at + length s) b
-    ∙ ap (λ (k : ℕ). drop k b) both in
+    ∙ drop-drop (length t) v.at b
+    ∙ ap (λ (k : ℕ). drop k b) (sym g.place) in
     record {
+      buffer = g.buffer ∙ f.buffer;
+      long = g.long ∙ f.long;
       place = omega (arith, length-append s t, f.place, g.place);
+      within = g.within;
       bytes =
           g.bytes
           ∙ ap₂ (λ (x y : List ℕ). x ++ (t ++ y)) front back
-          ∙ append_assoc (take at b) s (t ++ drop (at + length (s ++ t)) b)
-          ∙ ap (λ (x : List ℕ). take at b ++ x) (sym (append_assoc s t (drop (at + length (s ++ t)) b)));
-    }
-
--- the whole of a copy
-pub wrote_copy : (b : List ℕ) (at : ℕ) (s : List ℕ) (i : ℕ) (e : List ℕ) → i ≤ length s → length s ≤ i → e ≡ paste b at s i
-    → Wrote b at s (at + i) e
-wrote_copy b at s i e g h is =
-    let same : i ≡ length s = omega arith in
-    record {
-      place = omega arith;
-      bytes =
-          is
-          ∙ ap (λ (k : ℕ). paste b at s k) same
-          ∙ ap (λ (x : List ℕ). take at b ++ x ++ drop (at + length s) b) (take-length s)
-          ∙ append_assoc (take at b) s (drop (at + length s) b);
+          ∙ append_assoc (take u.at b) s (t ++ drop w.at b)
+          ∙ ap (λ (x : List ℕ). take u.at b ++ x) (sym (append_assoc s t (drop w.at b)));
     }
 
 -- ---- decimal digits
@@ -106,21 +88,22 @@ decimal_length : (k n : ℕ) → n < 10 ^ suc k → length (decimal n) ≤ suc k
 decimal_length zero n h = longer 0 n (ltb n 10) refl (λ g. absurd (omega arith))
 decimal_length (suc k) n h = longer (suc k) n (ltb n 10) refl (λ g. decimal_length k (n / 10) (omega (arith, pow-suc 10 (suc k))))
 
--- a number of 64 bits has at most 19 digits before the last
+-- a number of 64 bits has at most 20, and at most 19 before the last
+pub decimal_few : (n : ℕ) → n < 18446744073709551616 → length (decimal n) ≤ 20
+decimal_few n h = decimal_length 19 n (omega (arith, h))
+
 pub few_higher : (n : ℕ) → n < 18446744073709551616 → length (decimal (n / 10)) ≤ 19
 few_higher n h =
     let i : n / 10 < 10000000000000000000 = omega arith in
     decimal_length 18 (n / 10) i
 
 -- the digit of a number below 10
-pub wrote_low : (b : List ℕ) (at n : ℕ) → n < 10 → at < length b → Wrote b at (decimal n) (at + 1) (set b at (48 + n))
-wrote_low b at n h i = rw (decimal_low n h) (wrote_byte b at (48 + n) i)
+pub wrote_low : {u w : Writer} {n : ℕ} → n < 10 → Wrote u ((48 + n % 10) ∷ []) w → Wrote u (decimal n) w
+wrote_low {n = n} h f = rw (decimal_low n h, ← mod-eq_of_lt h) f
 
 -- the last digit after the higher ones
-pub wrote_high : (b : List ℕ) (at n q : ℕ) (m : List ℕ) → 10 ≤ n → at + length (decimal (n / 10)) < length b → length m ≡ length b
-    → Wrote b at (decimal (n / 10)) q m → Wrote b at (decimal n) (q + 1) (set m q (48 + n % 10))
-wrote_high b at n q m h i e f =
-    rw (decimal_high n h) (wrote_then f (omega (arith, f.place)) (wrote_byte m q (48 + n % 10) (omega (arith, f.place))))
+pub wrote_high : {u v w : Writer} {n : ℕ} → 10 ≤ n → Wrote u (decimal (n / 10)) v → Wrote v ((48 + n % 10) ∷ []) w → Wrote u (decimal n) w
+wrote_high {n = n} h f g = rw (decimal_high n h) (wrote_then f g)
 
 -- ---- rows
 -- one row more
@@ -131,28 +114,32 @@ rows_snoc (x ∷ rows) r = ap (λ (t : List ℕ). row_text x ++ t) (rows_snoc ro
     (append_assoc (row_text x) (rows_text rows) (row_text r))
 
 -- no row
-pub wrote_no_rows : (c : Counts) (b : List ℕ) (at : ℕ) → Wrote b at (rows_text (rows_below c 0)) at b
+pub wrote_no_rows : (w : Writer) → w.at ≤ length w.out.now → Wrote w (rows_text []) w
 unfolding rows_text
-wrote_no_rows c b at = wrote_none b at
+wrote_no_rows w h = wrote_none w h
 
 -- the row of the next place
-pub wrote_row : (c : Counts) (i : ℕ) {row : Row} → row ≡ row_at c i → {b : List ℕ} {at q : ℕ} {m : List ℕ} {r : ℕ} {e : List ℕ}
-    → Wrote b at (rows_text (rows_below c i)) q m → q ≤ length b → Wrote m q (row_text row) r e
-    → Wrote b at (rows_text (rows_below c (i + 1))) r e
-wrote_row c i is f h g = rw (add-one i, rows_snoc (rows_below c i) (row_at c i)) (wrote_then f h (rw is at g))
+pub wrote_row : (c : Counts) (i : ℕ) {row : Row} {u v w : Writer} → row ≡ row_at c i → Wrote u (rows_text (rows_below c i)) v
+    → Wrote v (row_text row) w → Wrote u (rows_text (rows_below c (i + 1))) w
+wrote_row c i is f g = rw (add-one i, rows_snoc (rows_below c i) (row_at c i)) (wrote_then f (rw is at g))
 
 -- ---- the whole text
 -- of a refused run
-pub refused_text : (verdict : Verdict) (rows : List Row) {b : List ℕ} {r : ℕ} {e : List ℕ} → refused_verdict verdict ≡ true
-    → Wrote b 0 (last_line verdict) r e
-    → Wrote b 0 (text_of verdict rows) r e
+pub refused_text : (verdict : Verdict) (rows : List Row) {u w : Writer} → refused_verdict verdict ≡ true → Wrote u (last_line verdict) w
+    → Wrote u (text_of verdict rows) w
 unfolding text_of
 refused_text verdict rows h f = rw h f
 
 -- of any other run
-pub whole_text : (verdict : Verdict) (rows : List Row) {b : List ℕ} {q : ℕ} {m : List ℕ} {r : ℕ} {e : List ℕ}
-    → refused_verdict verdict ≡ false
-    → Wrote b 0 (ascii "place entries clauses\n" ++ rows_text rows) q m → q ≤ length b → Wrote m q (last_line verdict) r e
-    → Wrote b 0 (text_of verdict rows) r e
+pub whole_text : (verdict : Verdict) (rows : List Row) {u v x w : Writer} → refused_verdict verdict ≡ false
+    → Wrote u (ascii "place entries clauses\n") v → Wrote v (rows_text rows) x → Wrote x (last_line verdict) w
+    → Wrote u (text_of verdict rows) w
 unfolding text_of
-whole_text verdict rows h f i g = rw h (wrote_then f i g)
+whole_text verdict rows h f g k = rw h (wrote_then (wrote_then f g) k)
+
+-- in a buffer that was lent to a writer
+pub wrote_first : {u w : Writer} {s : List ℕ} → u.at ≡ 0 → Wrote u s w → WroteFirst u.out.now s w.at w.out.now
+wrote_first {u} {w} {s} z f = record {
+  place = omega (arith, f.place, z);
+  bytes = f.bytes ∙ ap (λ (k : ℕ). take k u.out.now ++ (s ++ drop w.at u.out.now)) z;
+}

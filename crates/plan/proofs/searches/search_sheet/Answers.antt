@@ -1,37 +1,20 @@
 -- `plan::searches::search_sheet` meets its contract. Assumes nothing.
-use mathlib.Core.Path.{◌∙◌, refl, sym}
-use Rattle.plan.proofs.laws.searches.SheetStarts.{can_search, search_is, search_stops}
-use Rattle.plan.proofs.laws.searches.ArrayMoves.{trues_long, falses_long}
+use mathlib.Core.Path.{◌∙◌}
+use Rattle.plan.proofs.laws.runs.CameTables.{came_table, came_refused}
+use Rattle.plan.proofs.laws.runs.SheetRuns.{movable}
+use Rattle.plan.proofs.laws.searches.SheetSearches.{search_is, search_stops}
 use Rattle.plan.proofs.searches.search_sheet.Goals as goal
 
-pub first_into-requires : goal.first_into-requires
-first_into-requires c =
-    record {
-      filled = c.requires.filled;
-      fresh = record { trues = refl; falses = refl };
-    }
+pub lengths-requires-clause-movable : goal.lengths-requires-clause-movable
+lengths-requires-clause-movable c =
+    movable c.args.sheet c.args.packed.now c.requires.filled (came_table c.first_into.ensures c.in-Ok.is c.entries.ensures)
 
-pub slice_bounds-lengths-end : goal.slice_bounds-lengths-end
-slice_bounds-lengths-end c = sym (trues_long (can_search c.args.sheet c.args.packed.now c.requires.filled _ _ _ c.first_into.ensures _
-    c.in-To.is))
+pub returns-in-Ok : goal.returns-in-Ok
+returns-in-Ok c =
+    c.lengths.ensures ∙ search_is c.args.sheet c.args.packed.now c.requires.filled c.args.limit
+    (came_table c.first_into.ensures c.in-Ok.is c.entries.ensures)
 
-pub slice_bounds-lengths-end-in-To : goal.slice_bounds-lengths-end-in-To
-slice_bounds-lengths-end-in-To c = sym (falses_long (can_search c.args.sheet c.args.packed.now c.requires.filled _ _ _
-    c.first_into.ensures _ c.in-To.is))
-
-pub lengths-requires : goal.lengths-requires
-lengths-requires c =
-    record {
-      searchable = (can_search c.args.sheet c.args.packed.now c.requires.filled _ _ _ c.first_into.ensures _ c.in-To.is);
-      limit_bound = c.requires.limit_bound;
-    }
-
-pub returns-in-To : goal.returns-in-To
-returns-in-To c =
-    c.lengths.ensures ∙ search_is c.args.sheet c.args.packed.now c.requires.filled _ _ _ c.first_into.ensures _
-    c.in-To.is c.args.limit
-
-pub returns-in-Refused : goal.returns-in-Refused
-returns-in-Refused c =
-    c.refuse_search.ensures ∙ search_stops c.args.sheet c.args.packed.now c.requires.filled _ _ _ c.first_into.ensures _ _
-    c.in-Refused.is c.args.limit
+pub returns-in-Err : goal.returns-in-Err
+returns-in-Err c =
+    c.refuse_search.ensures ∙ search_stops c.args.sheet c.args.packed.now c.requires.filled c.args.limit
+    (came_refused c.first_into.ensures c.in-Err.is)

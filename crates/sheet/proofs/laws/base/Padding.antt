@@ -1,5 +1,5 @@
--- Lists in more slots than they have members, filled up with one value (`pad`). For `plan_from` (ReadLoops), and slots in table and plan.
--- Assumes nothing.
+-- Lists in more slots than they have members, filled up with one value (`pad`). For the plan in its slots (src/reader.rt), and for slots in
+-- table and plan. Assumes nothing.
 use mathlib.Core.Path.{◌≡◌, refl, sym, ap}
 use mathlib.Core.List.{List, [], ◌∷◌, ◌++◌, map}
 use Prim.Native.Nat.{ℕ, zero, suc, ◌≤◌, ◌<◌}
@@ -31,6 +31,14 @@ module _ {A : Type 0} where
   length_pad zero d xs = refl
   length_pad (suc n) d [] = ap suc (length_pad n d [])
   length_pad (suc n) d (x ∷ xs) = ap suc (length_pad n d xs)
+
+  -- the list, and the slots after it
+  pub pad_rest : (n : ℕ) (d : A) (xs : List A) → length xs ≤ n → xs ++ drop (length xs) (pad n d []) ≡ pad n d xs
+  unfolding pad
+  pad_rest zero d [] h = refl
+  pad_rest zero d (x ∷ xs) h = absurd (not-suc-le-zero h)
+  pad_rest (suc n) d [] h = refl
+  pad_rest (suc n) d (x ∷ xs) h = ap (λ (r : List A). x ∷ r) (pad_rest n d xs (le_of_suc-le-suc h))
 
   pub pad_nil : (n : ℕ) (d : A) → pad n d [] ≡ replicate n d
   unfolding pad

@@ -1,5 +1,5 @@
 -- The rules of single bytes: when a count, a literal or a move number has no fault, and when each of its faults.
--- For `count_at`, `number_at`, `literal_fault` of src/reader.rt, for Encodings, and for `judge_2` to `judge_7`. Assumes nothing.
+-- For `count_fault`, `literal_fault`, `number_fault` of src/reader.rt, for Encodings, and for `judge_2` to `judge_7`. Assumes nothing.
 use mathlib.Core.Path.{◌≡◌, refl, sym, ◌∙◌}
 use mathlib.Core.Bool.{Bool, true, false, cond}
 use mathlib.Core.Logic.{◌⊎◌, inl, inr, ◌↔◌}
@@ -9,7 +9,7 @@ use native.Mathlib.Omega.{arith}
 use lib.Dec.{ltb, leb, eqb}
 use borrow.Author.Tests.{ltb-true, ltb-false, le-ltb, leb-true, leb-false, le-leb, lt-leb, eq-eqb, ne_eqb, eqb-true, eqb-false}
 use Rattle.sheet.specs.Format.{count_fault, literal_fault, number_fault}
-use Rattle.sheet.specs.inner.Marks.{literal_before}
+use Rattle.sheet.specs.inner.Reads.{literal_before}
 
 -- ---- a count
 pub count_0 : (low high b : ℕ) → (count_fault low high b ≡ 0) ↔ ((low ≤ b) × (b ≤ high))

@@ -8,11 +8,11 @@ use Prim.Native.Nat.{ℕ, ◌*◌, ◌/◌, ◌≤◌, ◌<◌}
 use native.Mathlib.Omega.{arith}
 use lib.ListN.{length, take, drop, length-drop, take-append-drop}
 use lib.Seq.{length-take-le, take-length}
-use Rattle.sheet.specs.declared.Answer.TheVariants.{Accepted, Refused}
+use Rattle.sheet.specs.declared.Fault.{Fault}
 use Rattle.sheet.specs.Problem.{Statement}
 use Rattle.sheet.specs.Form.{Form, done, byte, due, fault_of}
 use Rattle.sheet.specs.Format.{count_fault, literal_fault, number_fault, sheet, Judgement, accepted, refused, sheet_of}
-use Rattle.sheet.specs.Calls.{answer_of, judge_of}
+use Rattle.sheet.specs.Calls.{Accepted, Refused, answer_of, judge_of}
 use Rattle.sheet.specs.Faults.{FirstFault, ByteDue}
 use Rattle.sheet.proofs.laws.format.ByteRoles.{TellsRole, fine, of_count, of_literal, of_number, not_one, not_six, at_most_seven, Roles, roles_due, roles_sheet}
 use Rattle.sheet.proofs.laws.format.ByteRules.{count_2, first_most, literal_3, literal_4, literal_5, number_7}
@@ -33,7 +33,9 @@ judge_refuses s k p = (λ e. go (sheet_of s) refl e, λ e. ap answer_of e)
   where
     go : (j : Judgement) → sheet_of s ≡ j → answer_of j ≡ Refused k p → sheet_of s ≡ refused k p
     go (accepted x) q e = absurd (let z : ◌≡◌ {A = ℕ} 0 1 = cc in omega arith)
-    go (refused i r) q e = let f : ◌≡◌ {A = Judgement} (refused i r) (refused k p) = cc in q ∙ f
+    go (refused i r) q e =
+        let f : ◌≡◌ {A = Fault} (record { number = i; position = r }) (record { number = k; position = p }) = cc in
+        q ∙ ap (λ (x : Fault). refused x.number x.position) f
 
 -- ---- any number
 pub judge_refused : (s : List ℕ) (k p : ℕ) → (judge_of s ≡ Refused k p) ↔ FirstFault s k p

@@ -1,7 +1,7 @@
 -- Numbers in a packed array: what stands there, read part by part; and parts, sets, effects and items laid there.
 -- For src/packed.rt, for the functions of src/reader.rt that lay out, and for the packed arrays of table and plan. Assumes nothing.
 use mathlib.Core.Path.{◌≡◌, refl, sym, ap, ap₂, subst, ◌∙◌}
-use mathlib.Core.List.{List, [], ◌∷◌, ◌++◌, append_assoc, append-nil}
+use mathlib.Core.List.{List, [], ◌∷◌, ◌++◌}
 use Prim.Native.Nat.{ℕ, zero, suc, ◌+◌, ◌-◌, ◌*◌, ◌≤◌, ◌<◌}
 use native.Mathlib.Nat.{not-suc-le-zero, le_of_suc-le-suc}
 use native.Mathlib.Numerals.{add-one}
@@ -10,11 +10,11 @@ use borrow.Author.Tests.{ltb-true, ltb-false}
 use mathlib.Core.Bool.{Bool, true, false}
 use lib.Dec.{ltb}
 use lib.ListN.{length, set, get_or, take, drop, length-append, length-drop, take-append-drop, drop_of_length-le}
-use lib.Seq.{get_or-drop, take_at, drop_at, drop-drop, take-append-le, drop-append-le, length-take-le, sets-eq}
+use lib.Seq.{get_or-drop, take_at, drop_at, drop-drop, take-append-le, drop-append-le, length-take-le}
 use Rattle.sheet.specs.declared.Literals.{Literals}
 use Rattle.sheet.specs.declared.Effect.{Effect}
 use Rattle.sheet.specs.Lists.{All}
-use Rattle.sheet.specs.inner.Packed.{part, set_from, sets_at, masks_of, effect_at, effects_at, action_by, item_at, items_at, sets_in, action_from}
+use Rattle.sheet.specs.inner.Packed.{part, set_from, sets_at, masks_of, effect_at, effects_at, action_by, item_at, items_at, action_from}
 
 -- ---- reading
 pub from_later : (zs : List ℕ) (i j k : ℕ) → i + j ≡ k → set_from (drop i zs) j ≡ set_from zs k
@@ -224,6 +224,10 @@ pub sets_end : (n : ℕ) (zs : List ℕ) (i : ℕ) → n ≤ i → drop i (sets_
 unfolding sets_at
 sets_end = parts_end 2 (λ zs i. set_from zs (2 * i)) sets_at (λ zs. refl) (λ n zs. refl) set_later
 
+pub sets_get : (n : ℕ) (zs : List ℕ) (i : ℕ) (d : Literals) → i < n → get_or (sets_at n zs) i d ≡ set_from zs (2 * i)
+unfolding sets_at
+sets_get = part_at 2 (λ zs i. set_from zs (2 * i)) sets_at (λ zs. refl) (λ n zs. refl) set_later
+
 -- one set more is laid out after k
 pub sets_more : (k : ℕ) (zs : List ℕ) (a : Literals) → 2 * k + 2 ≤ length zs
     → sets_at (suc k) (set (set zs (2 * k) a.trues) (2 * k + 1) a.falses) ≡ sets_at k zs ++ (a ∷ [])
@@ -236,6 +240,19 @@ sets_more (suc k) (x ∷ y ∷ zs) a h =
     let q : 2 * suc k + 1 ≡ suc (suc (2 * k + 1)) = omega arith in
     (λ z. sets_at (suc (suc k)) (set (set (x ∷ y ∷ zs) (p z) a.trues) (q z) a.falses))
     ∙ ap (λ (r : List Literals). set_from (x ∷ y ∷ zs) 0 ∷ r) (sets_more k zs a (omega arith))
+
+-- the same, where a count stands before the sets
+pub sets_next : (k : ℕ) (zs : List ℕ) (a : Literals) → 2 * k + 3 ≤ length zs
+    → let ys = set (set zs (2 * k + 1) a.trues) (2 * k + 2) a.falses in
+    (sets_at (k + 1) (drop 1 ys) ≡ sets_at k (drop 1 zs) ++ (a ∷ [])) × (get_or ys 0 0 ≡ get_or zs 0 0)
+sets_next k [] a h = absurd (omega arith)
+sets_next k (x ∷ zs) a h =
+    let p : 2 * k + 1 ≡ suc (2 * k) = omega arith in
+    let q : 2 * k + 2 ≡ suc (2 * k + 1) = omega arith in (
+      (λ z. sets_at (k + 1) (drop 1 (set (set (x ∷ zs) (p z) a.trues) (q z) a.falses)))
+          ∙ ap (λ (n : ℕ). sets_at n (set (set zs (2 * k) a.trues) (2 * k + 1) a.falses)) (add-one k) ∙ sets_more k zs a (omega arith),
+      λ z. get_or (set (set (x ∷ zs) (p z) a.trues) (q z) a.falses) 0 0,
+    )
 
 -- ---- effects, four masks to an effect
 at_later : (zs : List ℕ) (i : ℕ) → effect_at (drop 4 zs) i ≡ effect_at zs (suc i)
@@ -258,18 +275,9 @@ pub effects_end : (n : ℕ) (zs : List ℕ) (i : ℕ) → n ≤ i → drop i (ef
 unfolding effects_at
 effects_end = parts_end 4 effect_at effects_at (λ zs. refl) (λ n zs. refl) at_later
 
-pub four_stores : (b : List ℕ) (at : ℕ) (e : Effect) → at + 4 ≤ length b
-    → set (set (set (set b at e.condition.trues) (at + 1) e.condition.falses) (at + 2) e.result.trues) (at + 3)
-    e.result.falses
-    ≡ take at b ++ (masks_of e ++ drop (at + 4) b)
-unfolding masks_of
-four_stores b at e h =
-    let p : at + 1 ≡ suc at = omega arith in
-    let q : at + 2 ≡ suc (suc at) = omega arith in
-    let r : at + 3 ≡ suc (suc (suc at)) = omega arith in
-    (λ k. set (set (set (set b at e.condition.trues) (p k) e.condition.falses) (q k) e.result.trues) (r k) e.result.falses)
-    ∙ sets-eq (masks_of e) b at h
-    ∙ append_assoc (take at b) (masks_of e) (drop (at + 4) b)
+pub effects_get : (n : ℕ) (zs : List ℕ) (i : ℕ) (d : Effect) → i < n → get_or (effects_at n zs) i d ≡ effect_at zs i
+unfolding effects_at
+effects_get = part_at 4 effect_at effects_at (λ zs. refl) (λ n zs. refl) at_later
 
 -- one effect more is laid out after k
 effects_laid : (k : ℕ) (zs : List ℕ) (e : Effect) → 4 * k + 4 ≤ length zs
@@ -291,14 +299,6 @@ pub effects_more : (k : ℕ) (zs : List ℕ) (e : Effect) → 4 * k + 4 ≤ leng
 effects_more k zs e h = rw (add-one k) (effects_laid k zs e h)
 
 -- ---- a count, and after it a borrow of its sets or effects
-pub sets_laid : (xs ys : List ℕ) (k : ℕ) → length xs ≡ 17 → let zs = set xs 0 k in sets_in (take 1 zs ++ (ys ++ drop 16 (drop 1 zs)))
-    ≡ sets_at k ys
-unfolding sets_in
-sets_laid [] ys k h = absurd (omega arith)
-sets_laid (x ∷ xs) ys k h =
-    let l : length xs ≤ 16 = omega arith in
-    ap (λ (z : List ℕ). sets_at k (ys ++ z)) (drop_of_length-le xs l) ∙ ap (sets_at k) (append-nil ys)
-
 pub action_laid : (xs ys : List ℕ) (p : Literals) (k : ℕ) → length xs ≡ 35 → length ys ≡ 32
     → let zs = set (set (set xs 0 p.trues) 1 p.falses) 2 k in action_from (take 3 zs ++ (ys ++ drop 32 (drop 3 zs))) ≡ action_by p k ys
 unfolding action_from set_from

@@ -1,82 +1,67 @@
 -- What was read of a sheet, by its answer; its sections laid in the packed array; what an accepted sheet keeps within its slots.
--- For `facts_at`, `sheet_in` and `judge`, and for the callers of `decode` in table and plan. Assumes nothing.
-use mathlib.Core.Path.{◌≡◌, refl, sym, ap, ap₂, ◌∙◌}
+-- For `facts`, `sheet_in` and `judge`, and for the callers of `decode` in table and plan. Assumes nothing.
+use mathlib.Core.Path.{◌≡◌, sym, ap, ap₂, ◌∙◌}
 use mathlib.Core.List.{List}
 use Prim.Native.Nat.{ℕ, ◌+◌, ◌≤◌, ◌<◌}
 use native.Mathlib.Omega.{arith}
 use lib.ListN.{length}
-use Rattle.sheet.specs.declared.Answer.{Answer}
-use Rattle.sheet.specs.declared.Answer.TheVariants.{Accepted, Refused}
+use Rattle.std.specs.Prelude.{Result, Ok, Err, IsErrAnd}
+use Rattle.sheet.specs.declared.Fault.{Fault}
 use Rattle.sheet.specs.declared.Literals.{Literals}
 use Rattle.sheet.specs.declared.Plan.{Plan}
 use Rattle.sheet.specs.declared.Sheet.{Sheet}
-use Rattle.sheet.specs.declared.Decoded.{Decoded}
-use Rattle.sheet.specs.declared.reader.Mark.{Mark}
-use Rattle.sheet.specs.declared.reader.Mark.TheVariants.{At, Fault}
 use Rattle.sheet.specs.Lists.{All}
-use Rattle.sheet.specs.Problem.{Problem, problem_of, Statement}
+use Rattle.sheet.specs.Problem.{Facts, Problem, problem_of}
 use Rattle.sheet.specs.declared.reader.Facts as read
-use Rattle.sheet.specs.Format.{Judgement, accepted, refused, sheet_of}
-use Rattle.sheet.specs.inner.Decoded.{plan_of, plan_in, problem_in, statement_in, judged_by, judgement_in, Filled}
+use Rattle.sheet.specs.Format.{accepted, refused, sheet_of}
+use Rattle.sheet.specs.inner.Decoded.{plan_in, problem_in, statement_in, judgement_in, Filled}
 use Rattle.sheet.specs.inner.Packed.{part, ors_in, oneofs_in, moves_in, sets_in, clauses_at, action_from, actions_at}
-use Rattle.sheet.specs.inner.Marks.{refused_by, facts_in}
-use Rattle.sheet.specs.Calls.{answer_of, judge_of}
+use Rattle.sheet.specs.inner.Reads.{facts_in}
+use Rattle.sheet.specs.Calls.{Answer, Accepted, Refused, answer_of, judge_of}
 use Rattle.sheet.specs.Encoding.{Counted, ProperClause, ProperAction, ProperStatement}
 use Rattle.sheet.proofs.laws.base.ListFacts.{all_map}
 use Rattle.sheet.proofs.laws.format.Encodings.{encoded_iff}
 use Rattle.sheet.proofs.laws.format.Judgements.{accepted_iff}
 use Rattle.sheet.proofs.laws.reader.PackedParts.{items_length, part_long, anew, anew_long, part_same, part_before, part_after}
-use Rattle.sheet.proofs.laws.base.Padding.{take_pad}
-
-pub plan_slots : (ks : List ℕ) → length ks ≤ 64 → plan_in (plan_of ks) ≡ ks
-unfolding plan_in plan_of
-plan_slots ks h = take_pad 64 0 ks h
 
 pub not_both : {X : Type 0} (a : Answer) (k p : ℕ) → a ≡ Accepted → a ≡ Refused k p → X
 not_both a k p e f = absurd (let z : ◌≡◌ {A = ℕ} 0 1 = cc in omega arith)
 
-answer_judged : (a : Answer) (x : Statement) → a ≡ answer_of (judged_by a x)
-unfolding answer_of
-answer_judged Accepted x = refl
-answer_judged (Refused k p) x = refl
+pub same_fault : {k p j q : ℕ} → Refused k p ≡ Refused j q → (k ≡ j) × (p ≡ q)
+same_fault {k} {p} {j} {q} e =
+    let f : ◌≡◌ {A = Fault} (record { number = k; position = p }) (record { number = j; position = q }) = cc in
+    (ap (λ (x : Fault). x.number) f, ap (λ (x : Fault). x.position) f)
 
-module _ (d : Decoded) (packed : List ℕ) where
-  -- ---- a refusal, whatever stands there
-  pub refused_with : (k p : ℕ) → d.answer ≡ Refused k p → judgement_in d packed ≡ refused k p
+-- an error goes out of a `?` as it came
+pub exit : {B : Type 0} {e : Fault} (r : Result B Fault) → IsErrAnd r (λ y. y ≡ e) → r ≡ Err e
+exit (Ok v) h = absurd h
+exit (Err f) h = ap Err h
+
+-- ---- what a sheet that was read says
+module _ {r : Result Sheet Fault} (packed s : List ℕ) (e : judgement_in r packed ≡ sheet_of s) where
+  pub refused_says : {f : Fault} → r ≡ Err f → sheet_of s ≡ refused f.number f.position
   unfolding judgement_in
-  refused_with k p a = rw a
+  refused_says h = sym e ∙ ap (λ (q : Result Sheet Fault). judgement_in q packed) h
 
-  refused_by_lem : (m : Mark) → d.answer ≡ answer_of (refused_by m) → judgement_in d packed ≡ refused_by m
-  unfolding refused_by answer_of
-  refused_by_lem (Fault k p) a = refused_with k p a
-  refused_by_lem (At p) a = refused_with 0 p a
+  pub refused_answer : {f : Fault} → r ≡ Err f → Err f ≡ judge_of s
+  unfolding judge_of answer_of
+  refused_answer h = ap answer_of (sym (refused_says h))
 
-  -- by the fault of a mark, with what else is known
-  pub refused_so : {N : Type 0} {j : Judgement} (m : Mark) → (d.answer ≡ answer_of (refused_by m)) × N → j ≡ refused_by m
-      → (judgement_in d packed ≡ j) × N
-  refused_so m a e = (refused_by_lem m a.0 ∙ sym e, a.1)
+  module _ {x : Sheet} (h : r ≡ Ok x) where
+    pub accepted_says : sheet_of s ≡ accepted (statement_in x packed)
+    unfolding judgement_in
+    accepted_says = sym e ∙ ap (λ (q : Result Sheet Fault). judgement_in q packed) h
 
-  -- ---- what a sheet that was read says
-  module _ (s : List ℕ) (e : judgement_in d packed ≡ sheet_of s) where
-    pub answer_says : d.answer ≡ judge_of s
-    unfolding judgement_in judge_of
-    answer_says = answer_judged d.answer _ ∙ ap answer_of e
+    pub accepted_answer : Accepted ≡ judge_of s
+    unfolding judge_of answer_of
+    accepted_answer = ap answer_of (sym accepted_says)
 
-    pub refused_says : (k p : ℕ) → d.answer ≡ Refused k p → sheet_of s ≡ refused k p
-    refused_says k p a = sym e ∙ refused_with k p a
+    pub accepted_proper : ProperStatement (statement_in x packed)
+    accepted_proper = ((encoded_iff s _).0 ((accepted_iff s _).0 accepted_says)).0
 
-    module _ (a : d.answer ≡ Accepted) where
-      pub accepted_says : sheet_of s ≡ accepted (statement_in d.sheet packed)
-      unfolding judgement_in
-      accepted_says = sym e ∙ rw a
-
-      pub accepted_proper : ProperStatement (statement_in d.sheet packed)
-      accepted_proper = ((encoded_iff s _).0 ((accepted_iff s _).0 accepted_says)).0
-
--- what `decode` gave of an accepted sheet
-pub filled : (d : Decoded) (packed s : List ℕ) → (judgement_in d packed ≡ sheet_of s) × (d.sheet.plan.count ≤ 64) → d.answer ≡ Accepted
-    → length packed ≡ 1409 → Filled d.sheet packed
-filled d packed s e a l = record { long = l; plan_most = e.1; proper = accepted_proper d packed s e.0 a }
+    -- what `decode` gave of an accepted sheet
+    pub filled : x.plan.count ≤ 64 → length packed ≡ 1409 → Filled x packed
+    filled most l = record { long = l; plan_most = most; proper = accepted_proper }
 
 -- ---- the sections laid in the packed array, each by a borrow of its numbers
 -- the clauses
@@ -91,12 +76,12 @@ module _ (xs ors : List ℕ) (long : length xs ≡ 1409) (ors-lent : length ors 
     oneofs_long : length oneofs ≡ 136
     oneofs_long = oneofs-lent ∙ part_long 136 136 (anew xs ors 0 136) (omega (arith, ors_kept))
 
-    pub facts_laid : (f : read.Facts)
-        → record { n = f.n; known = f.known; ors = clauses_at f.ors ors; oneofs = clauses_at f.oneofs oneofs }
-        ≡ facts_in f (anew (anew xs ors 0 136) oneofs 136 136)
-    unfolding facts_in
-    facts_laid f =
-        ap₂ (λ (a b : List ℕ). record { n = f.n; known = f.known; ors = clauses_at f.ors a; oneofs = clauses_at f.oneofs b })
+    pub facts_laid : (n : ℕ) (known : Literals) (a b : ℕ)
+        → let whole = anew (anew xs ors 0 136) oneofs 136 136 in
+        ◌≡◌ {A = Facts} (record { n = n; known = known; ors = clauses_at a ors; oneofs = clauses_at b oneofs })
+        (record { n = n; known = known; ors = clauses_at a (ors_in whole); oneofs = clauses_at b (oneofs_in whole) })
+    facts_laid n known a b =
+        ap₂ (λ (p q : List ℕ). record { n = n; known = known; ors = clauses_at a p; oneofs = clauses_at b q })
         (sym (part_before (anew xs ors 0 136) oneofs 136 136 (omega (arith, ors_kept)) oneofs_long 0 136 (omega arith)
         ∙ part_same xs ors 0 136 (omega (arith, long)) ors_long))
         (sym (part_same (anew xs ors 0 136) oneofs 136 136 (omega (arith, ors_kept)) oneofs_long))
@@ -119,9 +104,6 @@ module _ (xs moves : List ℕ) (long : length xs ≡ 1409) (moves-lent : length 
     goal_long : length goal ≡ 17
     goal_long = goal-lent ∙ part_long 272 17 one (omega (arith, moves_kept))
 
-    pub goal_kept : length whole ≡ 1409
-    goal_kept = anew_long one goal 272 17 (omega (arith, moves_kept)) goal_long ∙ moves_kept
-
     -- the clauses before both are kept
     clauses_kept : (at : ℕ) → at + 136 ≤ 272 → part at 136 xs ≡ part at 136 whole
     clauses_kept at h =
@@ -129,8 +111,8 @@ module _ (xs moves : List ℕ) (long : length xs ≡ 1409) (moves-lent : length 
         ∙ part_before xs moves 289 1120 (omega (arith, long)) moves_long at 136 (omega (arith, h)))
 
     pub problem_laid : (f : read.Facts) (k : ℕ) (plan : Plan) → problem_of (facts_in f xs) (actions_at k moves) (sets_in goal)
-        ≡ problem_in (record { n = f.n; known = f.known; ors = f.ors; oneofs = f.oneofs; moves = k; plan = plan }) whole
-    unfolding problem_in problem_of facts_in
+        ≡ problem_in (record { n = f.n.count; known = f.known; ors = f.ors; oneofs = f.oneofs; moves = k; plan = plan }) whole
+    unfolding problem_in problem_of
     problem_laid f k plan =
         ap₂ (λ (a b : List ℕ). made a b moves goal) (clauses_kept 0 (omega arith)) (clauses_kept 136 (omega arith))
         ∙ ap₂ (made (ors_in whole) (oneofs_in whole))
@@ -141,7 +123,7 @@ module _ (xs moves : List ℕ) (long : length xs ≡ 1409) (moves-lent : length 
         made : List ℕ → List ℕ → List ℕ → List ℕ → Problem
         made a b c d =
             record {
-              n = f.n;
+              n = f.n.count;
               known = f.known;
               ors = clauses_at f.ors a;
               oneofs = clauses_at f.oneofs b;

@@ -1,9 +1,7 @@
 -- `sheet::masks::lowest` meets its contract: the lowest set bit of both masks together is the lowest named proposition. Assumes nothing.
 use mathlib.Core.Path.{◌≡◌, sym, ◌∙◌}
-use Prim.Native.Nat.{ℕ, ◌*◌, ◌/◌, ◌^◌, ◌≤◌}
+use Prim.Native.Nat.{ℕ, ◌*◌, ◌≤◌}
 use native.Mathlib.Omega.{arith}
-use lib.Bits.{bit_or}
-use lib.Count.{trailing_le}
 use Rattle.sheet.specs.declared.Literals.{Literals}
 use Rattle.sheet.specs.inner.Masks.{next}
 use Rattle.sheet.proofs.laws.literals.LiteralBytes.{next_end}
@@ -21,25 +19,9 @@ returns-then-p-ge-PROPOSITIONS c = past _ _ c.requires c.if-p-ge-PROPOSITIONS.tr
 pub returns-then-named-eq0 : goal.returns-then-named-eq0
 returns-then-named-eq0 c = none_named _ _ c.requires c.if-named-eq0.true
 
-pub overflow_cast-l : goal.overflow_cast-l
-overflow_cast-l c =
-    omega (arith, trailing_le 32 (bit_or c.args.a.trues c.args.a.falses / 2 ^ c.args.p))
-
-pub overflow_add-l : goal.overflow_add-l
-overflow_add-l c =
-    omega (arith, trailing_le 32 (bit_or c.args.a.trues c.args.a.falses / 2 ^ c.args.p))
-
-pub overflow_mul-l : goal.overflow_mul-l
-overflow_mul-l c =
-    omega (arith, trailing_le 32 (bit_or c.args.a.trues c.args.a.falses / 2 ^ c.args.p))
-
 pub returns-then-contains : goal.returns-then-contains
 returns-then-contains c =
     first_true _ _ (omega arith) (omega arith) c.if-named-eq0.false (sym c.contains.ensures ∙ c.if-contains.true)
-
-pub overflow_add-result : goal.overflow_add-result
-overflow_add-result c =
-    omega (arith, trailing_le 32 (bit_or c.args.a.trues c.args.a.falses / 2 ^ c.args.p))
 
 pub returns : goal.returns
 returns c =

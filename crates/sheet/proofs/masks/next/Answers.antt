@@ -7,17 +7,11 @@ use Rattle.sheet.specs.inner.Masks as L
 use Rattle.sheet.proofs.laws.literals.LiteralBytes.{next_end, next_here, next_step}
 use Rattle.sheet.proofs.masks.next.Goals as goal
 
-even : (a : Literals) (l : ℕ) → l % 2 ≡ 0 → L.next a (2 * (l / 2)) ≡ L.next a l
-even a l e = let q : 2 * (l / 2) ≡ l = omega arith in ap (L.next a) q
-
 odd : (a : Literals) (l : ℕ) → (l % 2 ≡ 0 → ⊥) → L.next a (2 * (l / 2 + 1)) ≡ L.next a (l + 1)
 odd a l e = let q : 2 * (l / 2 + 1) ≡ l + 1 = omega arith in ap (L.next a) q
 
 pub returns-then-from-ge64 : goal.returns-then-from-ge64
 returns-then-from-ge64 c = sym (next_end _ _ c.if-from-ge64.true)
-
-pub returns-then-from-eq0 : goal.returns-then-from-eq0
-returns-then-from-eq0 c = c.lowest.ensures ∙ even _ _ c.if-from-eq0.true
 
 pub returns-then-contains : goal.returns-then-contains
 returns-then-contains c = sym (next_here _ _ c.if-from-ge64.false (sym c.contains.ensures ∙ c.if-contains.true))

@@ -11,8 +11,8 @@ use lib.Dec.{T, ltb}
 use lib.ListN.{length, replicate, length-replicate}
 use borrow.Author.Tests.{ltb-true, ltb-false}
 use Rattle.sheet.specs.declared.Literals.{Literals}
-use Rattle.sheet.specs.declared.Answer.{Answer}
-use Rattle.sheet.specs.declared.Answer.TheVariants.{Accepted, Refused}
+use Rattle.sheet.specs.Calls.{Answer, Accepted, Refused}
+use Rattle.sheet.proofs.laws.reader.ReadSheets.{same_fault}
 use Rattle.sheet.specs.Literals.{within, state}
 use Rattle.sheet.specs.Problem.{Action, Problem, Statement}
 use Rattle.sheet.specs.Format.{sheet_of}
@@ -267,7 +267,7 @@ module _ (s : List ℕ) (x : Statement) (says : Says s x) (t : Table) (m : ℕ) 
       Numbers = (q ≡ 0) × ((k ≡ 7) ⊎ ((k ≡ 22) ⊎ ((k ≡ 24) ⊎ ((k ≡ 25) ⊎ (k ≡ 21)))))
 
       position : (j : ℕ) → answer ≡ Refused j 0 → (q ≡ 0) × (k ≡ j)
-      position j f = let i : ◌≡◌ {A = Answer} (Refused k q) (Refused j 0) = sym e ∙ f in (cc, cc)
+      position j f = let i = same_fault (sym e ∙ f) in (i.1, i.0)
 
       known : OnSheet x m → AsDescribed x t → (o ≡ Outcome.refused 24)
           ⊎ ((o ≡ Outcome.refused 25) ⊎ ((o ≡ Outcome.refused 21) ⊎ ((v : List Literals) × (o ≡ Outcome.table v)))) → Numbers
@@ -322,16 +322,16 @@ module _ (s : List ℕ) (x : Statement) (says : Says s x) (t : Table) where
         Numbers = (q ≡ 0) × ((k ≡ 22) ⊎ ((k ≡ 21) ⊎ (k ≡ 23)))
 
         fit : (b : Bool) (c : ℕ) → (cond b (refusal 23 0) (record { answer = Accepted; clauses = c })).answer ≡ Refused k q → Numbers
-        fit true c f = unfold refusal in let i : k ≡ 23 = cc in (cc, inr (inr i))
+        fit true c f = unfold refusal in let i = same_fault f in (sym i.1, inr (inr (sym i.0)))
         fit false c f = absurd (let z : ◌≡◌ {A = ℕ} 0 1 = cc in omega arith)
 
         shown : (o : Option (List Literals)) → (given o len).answer ≡ Refused k q → Numbers
-        shown none f = unfold given refusal in let i : k ≡ 21 = cc in (cc, inr (inl i))
+        shown none f = unfold given refusal in let i = same_fault f in (sym i.1, inr (inl (sym i.0)))
         shown (some c) f = unfold given in fit (too_long c len) (length c) f
 
         go : (b : Bool) (o : Option (List Literals)) → (cond b (given o len) (refusal 22 0)).answer ≡ Refused k q → Numbers
         go true o f = shown o f
-        go false o f = unfold refusal in let i : k ≡ 22 = cc in (cc, inl i)
+        go false o f = unfold refusal in let i = same_fault f in (sym i.1, inl (sym i.0))
 
   pub picture_primes : AsDescribed x t → (c : List Literals) → picture (entries t) ≡ some c
       → Ascending c × (length c ≤ 256) × Exactly x.problem.n (In x.problem.n (entries t)) c

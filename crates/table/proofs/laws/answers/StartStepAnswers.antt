@@ -10,8 +10,7 @@ use lib.Dec.{ltb}
 use lib.ListN.{length}
 use borrow.Author.Tests.{ltb-true, ltb-false, lt-ltb, le-ltb}
 use Rattle.sheet.specs.declared.Literals.{Literals}
-use Rattle.sheet.specs.declared.Answer.{Answer}
-use Rattle.sheet.specs.declared.Answer.TheVariants.{Accepted, Refused}
+use Rattle.sheet.specs.Calls.{Answer, Accepted, Refused}
 use Rattle.sheet.specs.Problem.{Action, Statement}
 use Rattle.sheet.specs.Encoding.{ProperProblem}
 use Rattle.sheet.specs.Format.{Judgement, accepted, refused, sheet_of}
@@ -22,6 +21,7 @@ use Rattle.table.specs.Minimal.{Described, described, Outcome}
 use Rattle.table.specs.Start.{start_table}
 use Rattle.table.specs.Step.{step_table}
 use Rattle.table.specs.Entries.{entries, table_of}
+use Rattle.sheet.proofs.laws.reader.ReadSheets.{same_fault}
 use Rattle.table.specs.Calls.{or_given, start_of, action_at, step_known, step_move, step_of}
 use Rattle.table.proofs.laws.steps.StepWorlds.{at_proper}
 use Rattle.table.proofs.laws.steps.StepWorlds as stepping
@@ -32,7 +32,7 @@ pub not_both : {k p : ℕ} → Accepted ≡ Refused k p → ⊥
 not_both e = let z : ◌≡◌ {A = ℕ} 0 1 = cc in omega arith
 
 pub same_number : {k p j q : ℕ} → Refused k p ≡ Refused j q → k ≡ j
-same_number e = cc
+same_number e = (same_fault e).0
 
 -- an outcome, with the table that a refusal hands back
 module _ (t : Table) where
@@ -40,7 +40,7 @@ module _ (t : Table) where
   unfolding or_given
   given_refused (Outcome.refused j) k
       q = (
-        λ e. (let z : q ≡ 0 = cc in z, let i : j ≡ k = cc in ap Outcome.refused i),
+        λ e. let f = same_fault e in (sym f.1, ap Outcome.refused f.0),
         λ h. let i : j ≡ k = cc h.1 in let z : q ≡ 0 = h.0 in cc,
       )
   given_refused (Outcome.table u) k q = (λ e. absurd (not_both e), λ h. let i : ◌≡◌ {A = Answer} Accepted (Refused k q) = cc h.1 in i)

@@ -1,12 +1,12 @@
--- Compaction in place: the members that pass move up, and the slots behind them are zero. For `slots::remove`. Assumes nothing.
-use mathlib.Core.Path.{◌≡◌, refl, sym, ap, ap₂, ◌∙◌}
+-- Compaction in place: the members that pass move up, and the slots behind them are zero. For `Slots::remove`. Assumes nothing.
+use mathlib.Core.Path.{◌≡◌, sym, ap, ap₂, ◌∙◌}
 use mathlib.Core.Bool.{Bool, true, false}
 use mathlib.Core.List.{List, [], ◌∷◌, ◌++◌, map, map-append, append_assoc}
 use Prim.Native.Nat.{ℕ, suc, ◌+◌, ◌≤◌, ◌<◌}
 use native.Mathlib.Numerals.{add-one}
 use native.Mathlib.Omega.{arith}
-use lib.ListN.{length, get_or, take, drop, set, length-append, length-set, length-map}
-use lib.Seq.{take_all, drop-cons, set_at, get_or_at, set-append_left}
+use lib.ListN.{length, get_or, take, drop, set, length-append, length-map}
+use lib.Seq.{take_all, length-take-le, drop-cons, set_at, get_or_at, set-append_left}
 use Rattle.sheet.specs.declared.Literals.{Literals}
 use Rattle.sheet.specs.Literals.{no_literal}
 use Rattle.sheet.specs.Lists.{keep, pad}
@@ -14,7 +14,7 @@ use Rattle.sheet.proofs.laws.base.Padding.{pad_set, length_pad, pad_suc, pad_ove
 use Rattle.table.specs.Entries.{trues_of, falses_of, entries_of}
 use Rattle.table.specs.inner.Slots.{Holds, Held}
 use Rattle.table.proofs.laws.arrays.KeptMembers.{keep_length, keep_more, keep_less}
-use Rattle.table.proofs.laws.arrays.HeldLists.{stored, length_entries_of, get_d_entries_of, take_entries_of, holds_falses_long}
+use Rattle.table.proofs.laws.arrays.HeldLists.{stored, length_entries_of, get_d_entries_of, holds_trues_long, holds_falses_long}
 
 -- ---- one array
 
@@ -43,44 +43,42 @@ unread xs old i lt = rw (drop-cons old i 0 lt) (get_or_at (pad i 0 xs) (get_or o
 pub record Moved (f : Literals → Bool) (n : ℕ) (ts₀ fs₀ : List ℕ) (ts fs : List ℕ) (k i : ℕ) : Type 0 where
   pub upto : i ≤ n
   pub behind : k ≤ i
-  pub trues_long : length ts ≡ length ts₀
-  pub falses_long : length fs ≡ length ts₀
   pub count_is : k ≡ length (keep f (take i (entries_of n ts₀ fs₀)))
   pub trues_are : ts ≡ pad i 0 (trues_of (keep f (take i (entries_of n ts₀ fs₀)))) ++ drop i ts₀
   pub falses_are : fs ≡ pad i 0 (falses_of (keep f (take i (entries_of n ts₀ fs₀)))) ++ drop i fs₀
 
-module _ (f : Literals → Bool) (n : ℕ) (ts₀ fs₀ : List ℕ) (held : Held (length ts₀) n ts₀ fs₀) where
-  falses_long₀ : length fs₀ ≡ length ts₀
+module _ (f : Literals → Bool) {cap n : ℕ} {ts₀ fs₀ : List ℕ} (held : Held cap n ts₀ fs₀) where
+  trues_long₀ : length ts₀ ≡ cap
+  trues_long₀ = holds_trues_long held
+
+  falses_long₀ : length fs₀ ≡ cap
   falses_long₀ = holds_falses_long held
 
   -- the first i entries, all of them kept, stand where they are
-  pub moved_start : (i : ℕ) → i ≤ n → keep f (entries_of i ts₀ fs₀) ≡ entries_of i ts₀ fs₀ → Moved f n ts₀ fs₀ ts₀ fs₀ i i
-  moved_start i le all = record {
+  pub moved_start : (i : ℕ) → i ≤ n → keep f (take i (entries_of n ts₀ fs₀)) ≡ take i (entries_of n ts₀ fs₀) → Moved f n ts₀ fs₀ ts₀ fs₀ i i
+  moved_start i le kept = record {
     upto = le;
     behind = omega arith;
-    trues_long = refl;
-    falses_long = falses_long₀;
-    count_is = sym (ap length kept ∙ length_entries_of i ts₀ fs₀);
+    count_is = sym (ap length kept ∙ length-take-le i (entries_of n ts₀ fs₀) (inside_up le));
     trues_are = stand (λ (e : Literals). e.trues) held.trues_are;
     falses_are = stand (λ (e : Literals). e.falses) held.falses_are;
   }
     where
-      kept : keep f (take i (entries_of n ts₀ fs₀)) ≡ entries_of i ts₀ fs₀
-      kept = ap (keep f) (take_entries_of i n ts₀ fs₀ le) ∙ all
+      inside_up : i ≤ n → i ≤ length (entries_of n ts₀ fs₀)
+      inside_up h = omega (arith, length_entries_of n ts₀ fs₀)
 
-      stand : (g : Literals → ℕ) {xs : List ℕ} → xs ≡ pad (length ts₀) 0 (map g (entries_of n ts₀ fs₀))
+      stand : (g : Literals → ℕ) {xs : List ℕ} → xs ≡ pad cap 0 (map g (entries_of n ts₀ fs₀))
           → xs ≡ pad i 0 (map g (keep f (take i (entries_of n ts₀ fs₀)))) ++ drop i xs
       stand g h =
           h
-          ∙ pad_front g i (length ts₀) 0 (entries_of n ts₀ fs₀) (omega (arith, length_entries_of n ts₀ fs₀))
-          (omega (arith, length_entries_of n ts₀ fs₀, held.room))
-          ∙ ap₂ (λ (x : List Literals) (r : List ℕ). pad i 0 (map g x) ++ drop i r) (take_entries_of i n ts₀ fs₀ le ∙ sym kept) (sym h)
+          ∙ pad_front g i cap 0 (entries_of n ts₀ fs₀) (inside_up le) (omega (arith, length_entries_of n ts₀ fs₀, held.room))
+          ∙ ap₂ (λ (x : List Literals) (r : List ℕ). pad i 0 (map g x) ++ drop i r) (sym kept) (sym h)
 
-  module _ (ts fs : List ℕ) (k i : ℕ) (m : Moved f n ts₀ fs₀ ts fs k i) where
+  module _ {ts fs : List ℕ} {k i : ℕ} (m : Moved f n ts₀ fs₀ ts fs k i) where
     -- the set in slot i, which is not read yet
     pub moved_read : i < n → get_or (entries_of n ts₀ fs₀) i no_literal ≡ stored ts fs i
     moved_read lt =
-        let a : i < length ts₀ = omega (arith, held.room) in
+        let a : i < length ts₀ = omega (arith, held.room, trues_long₀) in
         let b : i < length fs₀ = omega (arith, held.room, falses_long₀) in
         let p : get_or ts i 0 ≡ get_or ts₀ i 0 = ap (λ (l : List ℕ). get_or l i 0) m.trues_are ∙ unread _ ts₀ i a in
         let q : get_or fs i 0 ≡ get_or fs₀ i 0 = ap (λ (l : List ℕ). get_or l i 0) m.falses_are ∙ unread _ fs₀ i b in
@@ -97,7 +95,7 @@ module _ (f : Literals → Bool) (n : ℕ) (ts₀ fs₀ : List ℕ) (held : Held
     zero_trues lt =
         ap (λ (l : List ℕ). set l i 0) m.trues_are
         ∙ zeroed (trues_of kept) ts₀ i (omega (arith, m.count_is, m.behind, length-map kept (λ (e : Literals). e.trues)))
-        (omega (arith, held.room))
+        (omega (arith, held.room, trues_long₀))
 
     zero_falses : i < n → set fs i 0 ≡ pad (i + 1) 0 (falses_of kept) ++ drop (i + 1) fs₀
     zero_falses lt =
@@ -113,8 +111,6 @@ module _ (f : Literals → Bool) (n : ℕ) (ts₀ fs₀ : List ℕ) (held : Held
         record {
           upto = omega arith;
           behind = omega (arith, m.behind);
-          trues_long = length-set ts i 0 ∙ m.trues_long;
-          falses_long = length-set fs i 0 ∙ m.falses_long;
           count_is = m.count_is ∙ sym (ap length s);
           trues_are = zero_trues lt ∙ ap (λ (x : List Literals). pad (i + 1) 0 (trues_of x) ++ drop (i + 1) ts₀) (sym s);
           falses_are = zero_falses lt ∙ ap (λ (x : List Literals). pad (i + 1) 0 (falses_of x) ++ drop (i + 1) fs₀) (sym s);
@@ -130,8 +126,6 @@ module _ (f : Literals → Bool) (n : ℕ) (ts₀ fs₀ : List ℕ) (held : Held
         record {
           upto = omega arith;
           behind = omega (arith, m.behind);
-          trues_long = length-set (set ts i 0) k (get_or ts i 0) ∙ length-set ts i 0 ∙ m.trues_long;
-          falses_long = length-set (set fs i 0) k (get_or fs i 0) ∙ length-set fs i 0 ∙ m.falses_long;
           count_is = omega (arith, m.count_is, ap length s, length-append kept (e ∷ []));
           trues_are =
               ap (λ (l : List ℕ). set l k (get_or ts i 0)) (zero_trues lt)
@@ -143,7 +137,7 @@ module _ (f : Literals → Bool) (n : ℕ) (ts₀ fs₀ : List ℕ) (held : Held
               ∙ ap (λ (x : List Literals). pad (i + 1) 0 (falses_of x) ++ drop (i + 1) fs₀) (sym s);
         }
 
-    pub moved_end : n ≤ i → Holds (length ts₀) (keep f (entries_of n ts₀ fs₀)) k ts fs
+    pub moved_end : n ≤ i → Holds cap (keep f (entries_of n ts₀ fs₀)) k ts fs
     moved_end le = record {
       count_is = m.count_is ∙ ap (λ (x : List Literals). length (keep f x)) whole;
       room = omega (arith, m.behind, held.room);
@@ -158,18 +152,18 @@ module _ (f : Literals → Bool) (n : ℕ) (ts₀ fs₀ : List ℕ) (held : Held
         whole = take_all i es (omega (arith, length_entries_of n ts₀ fs₀))
 
         over : (g : Literals → ℕ) (xs old : List ℕ) → xs ≡ pad i 0 (map g (keep f (take i es))) ++ drop i old
-            → old ≡ pad (length ts₀) 0 (map g es) → xs ≡ pad (length ts₀) 0 (map g (keep f es))
+            → old ≡ pad cap 0 (map g es) → xs ≡ pad cap 0 (map g (keep f es))
         over g xs old p q =
             let j : i ≡ n = omega (arith, m.upto) in
             p
             ∙ ap (λ (x : List Literals). pad i 0 (map g (keep f x)) ++ drop i old) whole
             ∙ ap (λ (x : ℕ). pad x 0 (map g (keep f es)) ++ drop x old) j
             ∙ ap (λ (x : List ℕ). pad n 0 (map g (keep f es)) ++ drop n x) q
-            ∙ pad_over n (length ts₀) 0 (map g (keep f es)) (map g es)
+            ∙ pad_over n cap 0 (map g (keep f es)) (map g es)
             (omega (arith, keep_length f es, length_entries_of n ts₀ fs₀, length-map (keep f es) g))
             (length-map es g ∙ length_entries_of n ts₀ fs₀) held.room
 
 -- the same at equal values
-pub moved_is : (f : Literals → Bool) (n : ℕ) (ts₀ fs₀ ts fs ts' fs' : List ℕ) (k k' i : ℕ) → ts' ≡ ts → fs' ≡ fs → k' ≡ k
+pub moved_is : {f : Literals → Bool} {n : ℕ} {ts₀ fs₀ ts fs ts' fs' : List ℕ} {k k' i : ℕ} → ts' ≡ ts → fs' ≡ fs → k' ≡ k
     → Moved f n ts₀ fs₀ ts fs k i → Moved f n ts₀ fs₀ ts' fs' k' i
-moved_is f n ts₀ fs₀ ts fs ts' fs' k k' i p q r m = rw (p, q, r) m
+moved_is p q r m = rw (p, q, r) m

@@ -1,115 +1,88 @@
 -- The clauses of a table: clauses joined with clauses from a place on, and one entry joined in after the other. For
--- `picture_clauses::join_lists`, `picture_clauses::fold` and `picture_clauses::clauses_of`. Assumes nothing.
-use mathlib.Core.Path.{◌≡◌, sym, ap, ◌∙◌, subst}
-use mathlib.Core.Bool.{true, false}
+-- `picture_clauses::join_lists` and `picture_clauses::clauses_of`. Assumes nothing.
+use mathlib.Core.Path.{◌≡◌, refl, sym, ap, ◌∙◌, subst}
 use mathlib.Core.List.{List, [], ◌++◌, map}
-use mathlib.Core.Option.{Option}
 use Prim.Native.Nat.{ℕ, ◌+◌, ◌≤◌, ◌<◌}
-use native.Mathlib.Omega.{arith}
-use lib.ListN.{length, drop, replicate}
+use lib.ListN.{length, get_or, drop}
+use Rattle.std.specs.Prelude as std
+use Rattle.std.specs.Prelude.{Result, Ok, Err}
+use Rattle.std.specs.Result.{result_ok}
+use Rattle.std.proofs.lemmas.Option.{none-some}
+use Rattle.std.proofs.lemmas.List.{drop_more, drop_all}
+use Rattle.std.proofs.Math.Option.{Option}
 use Rattle.sheet.specs.declared.Literals.{Literals}
-use Rattle.table.specs.declared.slots.Grown.{Grown}
-use Rattle.table.specs.declared.slots.Grown.TheVariants.{To, Full}
+use Rattle.sheet.specs.Literals.{no_literal, join, consistent}
+use Rattle.sheet.specs.Lists.{keep}
+use Rattle.table.specs.declared.slots.Full.{Full}
 use Rattle.table.specs.Worlds.{and_then}
 use Rattle.table.specs.Minimal.{put_all}
 use Rattle.table.specs.Picture.{units, unions, fold, primes}
-use Rattle.table.specs.Entries.{entries_of}
-use Rattle.table.specs.inner.Slots.{Holds, Held, Grew, Puts}
-use Rattle.table.specs.inner.PictureClauses.{clause_slots}
-use Rattle.table.proofs.laws.arrays.HeldLists.{stored, holds_entries, holds_trues_long, holds_falses_long, held as held_of, entries_none}
-use Rattle.sheet.proofs.laws.base.Padding.{pad_nil}
-use Rattle.table.proofs.laws.arrays.EntryLoops.{entries_stored, entries_done}
-use Rattle.sheet.specs.Literals.{join, consistent}
-use Rattle.sheet.specs.Lists.{keep}
-use Rattle.table.proofs.laws.slots.ConsistentCandidates.{collect_entry, collect_none}
-use Rattle.table.proofs.laws.pictures.HandedClauses.{Handed}
+use Rattle.table.specs.inner.Puts.{Grew, Puts}
+use Rattle.table.specs.inner.PictureClauses.{as_option}
+use Rattle.table.proofs.laws.slots.ConsistentCandidates.{collect_here, collect_past}
 
 -- ---- the clause at i joined with the clauses u, and those after it
-module _ (n : ℕ) (ts fs : List ℕ) (i : ℕ) (u : List Literals) where
-  pub unions_step : i < n
-      → unions (drop i (entries_of n ts fs)) u ≡ keep consistent (map (join (stored ts fs i)) u)
-      ++ unions (drop (i + 1) (entries_of n ts fs)) u
+module _ (s : List Literals) (i : ℕ) (u : List Literals) where
+  pub unions_here : {c : Literals} → i < length s → c ≡ get_or s i no_literal
+      → unions (drop i s) u ≡ keep consistent (map (join c) u) ++ unions (drop (i + 1) s) u
   unfolding unions
-  unions_step lt = collect_entry n ts fs i (λ c. map (join c) u) lt
+  unions_here lt e = collect_here s i (λ c. map (join c) u) lt e
 
-  pub unions_end : n ≤ i → unions (drop i (entries_of n ts fs)) u ≡ []
+  pub unions_past : length s ≤ i → unions (drop i s) u ≡ []
   unfolding unions
-  unions_end le = collect_none n ts fs i (λ c. map (join c) u) le
+  unions_past le = collect_past s i (λ c. map (join c) u) le
 
 -- ---- one entry joined in after the other
 
--- the second list of clauses is that of an entry
-pub folded : (s : List Literals) (e : Literals) (cap m : ℕ) (us vs : List ℕ) (ts fs : List ℕ) (r : Grown) (ts' fs' : List ℕ)
-    → Holds cap (units e) m us vs
-    → Puts (unions s (entries_of m us vs)) 0 ts fs r ts' fs' → Puts (unions s (units e)) 0 ts fs r ts' fs'
-folded s e cap m us vs ts fs r ts' fs' h w = subst (λ (u : List Literals). Puts (unions s u) 0 ts fs r ts' fs') (holds_entries h)
-    w
+-- with the entries before i joined in, the clauses s and the entries from i on give those of all
+pub record Folding (es : List Literals) (i : ℕ) (s : List Literals) : Type 0 where
+  pub onwards : fold 256 s (drop i es) ≡ primes 256 es
 
--- with i entries joined in, those that are left give z
-pub record Folds (z : Option (List Literals)) (es : List Literals) (i n : ℕ) (ts fs : List ℕ) : Type 0 where
-  pub room : n ≤ 256
-  pub trues_long : length ts ≡ 256
-  pub falses_long : length fs ≡ 256
-  pub held : Held 256 n ts fs
-  pub onwards : fold 256 (entries_of n ts fs) (drop i es) ≡ z
-
-folds : (z : Option (List Literals)) (es : List Literals) (i n : ℕ) (ts fs : List ℕ) → Held 256 n ts fs
-    → fold 256 (entries_of n ts fs) (drop i es) ≡ z → Folds z es i n ts fs
-folds z es i n ts fs h o = record {
-  room = h.room;
-  trues_long = holds_trues_long h;
-  falses_long = holds_falses_long h;
-  held = h;
-  onwards = o;
-}
-
-module _ (count : ℕ) (xs ys : List ℕ) where
-  pub folds_start : (n : ℕ) (ts fs : List ℕ) → 1 ≤ count → Holds 256 (units (stored xs ys 0)) n ts fs
-      → Folds (primes 256 (entries_of count xs ys)) (entries_of count xs ys) 1 n ts fs
+module _ (es : List Literals) where
+  pub folding_start : {e : Literals} {s : List Literals} → 1 ≤ length es → e ≡ get_or es 0 no_literal → s ≡ units e → Folding es 1 s
   unfolding primes
-  folds_start n ts fs le h =
-      folds _ _ 1 n ts fs (held_of h)
-      (ap (λ (x : List Literals). fold 256 x (drop 1 (entries_of count xs ys))) (holds_entries h)
-      ∙ sym (ap (primes 256) (entries_stored count xs ys 0 le)))
+  folding_start {e} {s} le q p = record {
+    onwards =
+        ap (λ (x : List Literals). fold 256 x (drop 1 es)) (p ∙ ap units q)
+        ∙ sym (ap (primes 256) (drop_more es 0 no_literal le));
+  }
 
-  module _ (z : Option (List Literals)) (i n : ℕ) (ts fs : List ℕ) (g : Folds z (entries_of count xs ys) i n ts fs) where
-    module _ (lt : i < count) (r : Grown) (zs ws ts' fs' : List ℕ) (long : length zs ≡ 256)
-        (w : Puts (unions (entries_of n ts fs) (units (stored xs ys i))) 0 zs ws r ts' fs') where
-      abbrev candidates : List Literals
-      candidates = unions (entries_of n ts fs) (units (stored xs ys i))
+  module _ {i : ℕ} {s : List Literals} (g : Folding es i s) where
+    module _ {e : Literals} {r : Result Unit Full} {s' us : List Literals} (lt : i < length es) (q : e ≡ get_or es i no_literal)
+        (empty : s' ≡ []) (w : Puts 256 (unions s (units e)) s' r us) where
+      abbrev rest_of : Option (List Literals) → Option (List Literals)
+      rest_of o = and_then o (λ x. fold 256 x (drop (i + 1) es))
 
-      told : (x : Grown) → r ≡ x → Grew 256 (put_all 256 candidates []) x ts' fs'
-      told x q =
-          subst (λ (s : List Literals). Grew 256 (put_all 256 candidates s) x ts' fs') (entries_none zs ws)
-          (subst (λ (k : ℕ). Grew k (put_all k candidates (entries_of 0 zs ws)) x ts' fs') long
-          (subst (λ (y : Grown). Grew (length zs) (put_all (length zs) candidates (entries_of 0 zs ws)) y ts' fs') q w.grew))
+      told : (x : Result Unit Full) → r ≡ x → Grew (put_all 256 (unions s (units e)) []) x us
+      told x p =
+          subst (λ (y : List Literals). Grew (put_all 256 (unions s (units e)) y) x us) empty
+          (subst (λ (y : Result Unit Full). Grew (put_all 256 (unions s (units e)) s') y us) p w.grew)
 
-      cut : and_then (put_all 256 candidates []) (λ y. fold 256 y (drop (i + 1) (entries_of count xs ys))) ≡ z
+      turn : rest_of (put_all 256 (unions s (units e)) []) ≡ primes 256 es
       unfolding fold
-      cut = sym (ap (fold 256 (entries_of n ts fs))
-          (entries_stored count xs ys i lt)) ∙ g.onwards
+      turn =
+          ap (λ (x : Literals). rest_of (put_all 256 (unions s (units x)) [])) q
+          ∙ sym (ap (fold 256 s) (drop_more es i no_literal lt)) ∙ g.onwards
 
-      pub folds_on : (k : ℕ) → r ≡ To k → Folds z (entries_of count xs ys) (i + 1) k ts' fs'
-      folds_on k q =
-          let m = told (To k) q in
-          folds z _ (i + 1) k ts' fs' m.1
-          (sym (ap (λ (o : Option (List Literals)). and_then o (λ y. fold 256 y (drop (i + 1) (entries_of count xs ys)))) m.0) ∙ cut)
+      -- what a call said by an Option
+      module _ {o : std.Option Unit} (h : o ≡ result_ok r) where
+        pub folding_on : {done : Unit} → o ≡ std.Some done → Folding es (i + 1) us
+        folding_on {done} p = by r refl (sym h ∙ p)
+          where
+            by : (x : Result Unit Full) → r ≡ x → result_ok x ≡ std.Some done → Folding es (i + 1) us
+            by (Ok d) q f = record { onwards = sym (ap rest_of (told (Ok d) q)) ∙ turn }
+            by (Err full) q f = absurd (none-some done f)
 
-      pub folds_full : r ≡ Full → Handed z (record { full = true; count = 0; trues = replicate 256 0; falses = replicate 256 0 })
-      unfolding clause_slots
-      folds_full q = (
-        (λ k. record { full = true; count = 0; trues = sym (pad_nil 256 0) k; falses = sym (pad_nil 256 0) k })
-            ∙ ap clause_slots (sym (ap (λ (o : Option (List Literals)). and_then o
-            (λ y. fold 256 y (drop (i + 1) (entries_of count xs ys))))
-            (told Full q)) ∙ cut),
-        omega arith,
-      )
+        pub folding_full : o ≡ std.None → std.None ≡ as_option (primes 256 es)
+        folding_full p = by r refl (sym h ∙ p)
+          where
+            by : (x : Result Unit Full) → r ≡ x → result_ok x ≡ std.None → std.None ≡ as_option (primes 256 es)
+            by (Ok d) q f = absurd (none-some d (sym f))
+            by (Err full) q f = ap as_option (sym (ap rest_of (told (Err full) q)) ∙ turn)
 
-    pub folds_end : count ≤ i → Handed z (record { full = false; count = n; trues = ts; falses = fs })
-    unfolding fold clause_slots
-    folds_end le =
-        let h = g.held in (
-          (λ k. record { full = false; count = h.count_is k; trues = h.trues_are k; falses = h.falses_are k })
-              ∙ ap clause_slots (sym (ap (fold 256 (entries_of n ts fs)) (entries_done count xs ys i le)) ∙ g.onwards),
-          g.room,
-        )
+    pub folding_end : length es ≤ i → std.Some s ≡ as_option (primes 256 es)
+    unfolding fold
+    folding_end le = ap as_option (sym (ap (fold 256 s) (drop_all i es le)) ∙ g.onwards)
+
+-- a turn of the loop of `picture_clauses::clauses_of`
+pub ruleset folding = (folding_start, folding_on, folding_full, folding_end)

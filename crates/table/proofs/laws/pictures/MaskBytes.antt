@@ -1,11 +1,13 @@
 -- Masks written into a buffer, one after the other. For `picture_bytes::write_mask` and `picture_bytes::write_picture`. Assumes nothing.
 use mathlib.Core.Path.{◌≡◌, refl, sym, ap, ap₂, ◌∙◌}
-use mathlib.Core.List.{List, [], ◌∷◌, ◌++◌, append_assoc, append-nil}
-use Prim.Native.Nat.{ℕ, suc, ◌+◌, ◌*◌, ◌/◌, ◌%◌, ◌≤◌, ◌<◌}
+use mathlib.Core.List.{List, [], ◌∷◌, ◌++◌, append_assoc}
+use Prim.Native.Nat.{ℕ, ◌+◌, ◌*◌, ◌/◌, ◌%◌, ◌≤◌, ◌<◌}
 use native.Mathlib.Numerals.{add-one}
 use native.Mathlib.Omega.{arith}
-use lib.ListN.{length, set, get_or, take, drop, length-append, length-drop, take-append-drop}
-use lib.Seq.{take-suc, take_at, drop-drop, drop-set-lt, drop-append-add, take_all, length-take-le, sets-eq}
+use lib.ListN.{length, get_or, take, drop, length-append, take-append-drop}
+use lib.Seq.{take-suc, take_at, drop-drop, drop-append-add, take_all, length-take-le}
+use borrow.Rule.Slice.PartMut.{put_mid}
+use Rattle.std.proofs.lemmas.Slice.{take-put_mid, drop-put_mid}
 use Rattle.sheet.specs.declared.Literals.{Literals}
 use Rattle.sheet.specs.Literals.{no_literal}
 use Rattle.table.specs.Picture.{mask_bytes, clause_bytes, picture_bytes}
@@ -15,22 +17,17 @@ unfolding clause_bytes mask_bytes
 clause_bytes_length [] = refl
 clause_bytes_length (c ∷ s) = omega (arith, clause_bytes_length s)
 
--- the four stores of a mask
-pub four_stores : (b : List ℕ) (at m : ℕ) → at + 4 ≤ length b
-    → set (set (set (set b at (m / 16777216 % 256)) (at + 1) (m / 65536 % 256)) (at + 2) (m / 256 % 256)) (at + 3) (m % 256)
-    ≡ take at b ++ mask_bytes m (drop (at + 4) b)
+-- the four bytes of a mask, copied to their place
+pub mask_put : (b ys : List ℕ) (at k m : ℕ) → at + 4 ≤ length b → k ≡ 4
+    → ys ≡ m / 16777216 % 256 ∷ m / 65536 % 256 ∷ m / 256 % 256 ∷ m % 256 ∷ []
+    → put_mid at k b ys ≡ take at b ++ mask_bytes m (drop (at + 4) b)
 unfolding mask_bytes
-four_stores b at m h =
-    let p : at + 1 ≡ suc at = omega arith in
-    let q : at + 2 ≡ suc (suc at) = omega arith in
-    let r : at + 3 ≡ suc (suc (suc at)) = omega arith in
-    let x = m / 16777216 % 256 in
-    let y = m / 65536 % 256 in
-    let z = m / 256 % 256 in
-    let w = m % 256 in
-    (λ k. set (set (set (set b at x) (p k) y) (q k) z) (r k) w)
-    ∙ sets-eq (x ∷ y ∷ z ∷ w ∷ []) b at h
-    ∙ append_assoc (take at b) (x ∷ y ∷ z ∷ w ∷ []) (drop (at + 4) b)
+mask_put b ys at k m h four e =
+    sym (take-append-drop (at + 4) (put_mid at k b ys))
+    ∙ ap₂ ◌++◌ (take-put_mid at k b ys (at + 4) (omega (arith, ap length e)) (omega arith))
+    (drop-put_mid at k b ys (at + 4) (omega arith) (omega arith) (omega (arith, ap length e)))
+    ∙ append_assoc (take at b) ys (drop (at + 4) b)
+    ∙ ap (λ (x : List ℕ). take at b ++ (x ++ drop (at + 4) b)) e
 
 mask_apart : (m : ℕ) (r : List ℕ) → mask_bytes m r ≡ mask_bytes m [] ++ r
 unfolding mask_bytes
@@ -69,80 +66,51 @@ unfolding clause_bytes mask_bytes
 clause_bytes_append [] r = refl
 clause_bytes_append (c ∷ s) r = ap (λ (z : List ℕ). mask_bytes c.trues (mask_bytes c.falses z)) (clause_bytes_append s r)
 
--- after i clauses: the two bytes of count, the clauses, and the rest of the buffer b
+-- the count in two bytes
+abbrev count_bytes : ℕ → List ℕ
+count_bytes n = n / 256 % 256 ∷ n % 256 ∷ []
+
+-- after i clauses: the two bytes of the count, the clauses, and the rest of the buffer b
 pub record Wrote (es : List Literals) (b : List ℕ) (i : ℕ) (buf : List ℕ) : Type 0 where
-  pub upto : i ≤ length es
-  pub fits : 2 + 8 * length es ≤ length b
-  pub long : length buf ≡ length b
-  pub is : buf ≡ (take 2 b ++ clause_bytes (take i es)) ++ drop (2 + 8 * i) b
+  pub is : buf ≡ (count_bytes (length es) ++ clause_bytes (take i es)) ++ drop (2 + 8 * i) b
 
-module _ (es : List Literals) (b : List ℕ) (fits : 2 + 8 * length es ≤ length b) where
-  head_long : (i : ℕ) → i ≤ length es → length (take 2 b ++ clause_bytes (take i es)) ≡ 2 + 8 * i
-  head_long i h =
-      let t : length (take 2 b) ≡ 2 = length-take-le 2 b (omega arith) in
-      let u : length (take i es) ≡ i = length-take-le i es h in
-      omega (arith, length-append (take 2 b) (clause_bytes (take i es)), clause_bytes_length (take i es))
-
-  wrote : (i : ℕ) (buf : List ℕ) → i ≤ length es → buf ≡ (take 2 b ++ clause_bytes (take i es)) ++ drop (2 + 8 * i) b → Wrote es b i buf
-  wrote i buf h e = record {
-    upto = h;
-    fits = fits;
-    long = ap length e ∙ omega
-        (arith, length-append (take 2 b ++ clause_bytes (take i es)) (drop (2 + 8 * i) b), head_long i h, length-drop (2 + 8 * i) b);
-    is = e;
-  }
-
-  pub wrote_start : Wrote es b 0 b
+module _ (es : List Literals) (b : List ℕ) where
+  pub wrote_start : {n : ℕ} {ys : List ℕ} → n ≡ length es → ys ≡ count_bytes n → Wrote es b 0 (ys ++ drop 2 b)
   unfolding clause_bytes
-  wrote_start = wrote 0 b (omega arith) (sym (ap (λ (x : List ℕ). x ++ drop 2 b) (append-nil (take 2 b)) ∙ take-append-drop 2 b))
+  wrote_start q e = record { is = ap (λ (x : List ℕ). x ++ drop 2 b) (e ∙ ap count_bytes q) }
 
-pub wrote_step : (es : List Literals) (b : List ℕ) (i : ℕ) (buf one two : List ℕ) (c : Literals) → Wrote es b i buf → i < length es
-    → c ≡ get_or es i no_literal
-    → one ≡ take (2 + 8 * i) buf ++ mask_bytes c.trues (drop ((2 + 8 * i) + 4) buf)
-    → two ≡ take ((2 + 8 * i) + 4) one ++ mask_bytes c.falses (drop (((2 + 8 * i) + 4) + 4) one)
-    → Wrote es b (i + 1) two
-unfolding clause_bytes
-wrote_step es b i buf one two c g lt q first second =
-    let more : clause_bytes (take (i + 1) es) ≡ clause_bytes (take i es) ++ mask_bytes c.trues (mask_bytes c.falses []) =
-    ap (λ (k : ℕ). clause_bytes (take k es)) (add-one i) ∙ ap clause_bytes (take-suc es i no_literal lt)
-    ∙ clause_bytes_append (take i es) (get_or es i no_literal ∷ [])
-    ∙ ap (λ (x : Literals). clause_bytes (take i es) ++ mask_bytes x.trues (mask_bytes x.falses [])) (sym q) in
-    let at : (2 + 8 * i) + 8 ≡ 2 + 8 * (i + 1) = omega arith in
-    wrote es b g.fits (i + 1) two (omega arith)
-    (two_masked (take 2 b ++ clause_bytes (take i es)) b buf one two (2 + 8 * i) c.trues c.falses
-    (head_long es b g.fits i g.upto) g.is first second
-    ∙ ap (λ (k : ℕ). (take 2 b ++ clause_bytes (take i es)) ++ mask_bytes c.trues (mask_bytes c.falses (drop k b))) at
-    ∙ ap (λ (x : List ℕ). (take 2 b ++ clause_bytes (take i es)) ++ x) (both c.trues c.falses (drop (2 + 8 * (i + 1)) b))
-    ∙ sym (append_assoc (take 2 b ++ clause_bytes (take i es)) (mask_bytes c.trues (mask_bytes c.falses [])) (drop (2 + 8 * (i + 1)) b))
-    ∙ ap (λ (x : List ℕ). x ++ drop (2 + 8 * (i + 1)) b)
-    (append_assoc (take 2 b) (clause_bytes (take i es)) (mask_bytes c.trues (mask_bytes c.falses []))
-    ∙ ap (λ (x : List ℕ). take 2 b ++ x) (sym more)))
-  where
-    both : (x y : ℕ) (r : List ℕ) → mask_bytes x (mask_bytes y r) ≡ mask_bytes x (mask_bytes y []) ++ r
-    both x y r = mask_apart x (mask_bytes y r) ∙ ap (λ (z : List ℕ). mask_bytes x [] ++ z) (mask_apart y r)
-        ∙ sym (append_assoc (mask_bytes x []) (mask_bytes y []) r)
-        ∙ ap (λ (z : List ℕ). z ++ r) (sym (mask_apart x (mask_bytes y [])))
+  pub wrote_step : {i : ℕ} {buf one two : List ℕ} {c : Literals} → Wrote es b i buf → i < length es → c ≡ get_or es i no_literal
+      → one ≡ take (2 + 8 * i) buf ++ mask_bytes c.trues (drop ((2 + 8 * i) + 4) buf)
+      → two ≡ take ((2 + 8 * i) + 4) one ++ mask_bytes c.falses (drop (((2 + 8 * i) + 4) + 4) one)
+      → Wrote es b (i + 1) two
+  unfolding clause_bytes
+  wrote_step {i} {buf} {one} {two} {c} g lt q first second =
+      let done = count_bytes (length es) ++ clause_bytes (take i es) in
+      let long : length done ≡ 2 + 8 * i = omega (arith, clause_bytes_length (take i es), length-take-le i es (omega arith)) in
+      let more : clause_bytes (take (i + 1) es) ≡ clause_bytes (take i es) ++ mask_bytes c.trues (mask_bytes c.falses []) =
+      ap (λ (k : ℕ). clause_bytes (take k es)) (add-one i) ∙ ap clause_bytes (take-suc es i no_literal lt)
+      ∙ clause_bytes_append (take i es) (get_or es i no_literal ∷ [])
+      ∙ ap (λ (x : Literals). clause_bytes (take i es) ++ mask_bytes x.trues (mask_bytes x.falses [])) (sym q) in
+      let at : (2 + 8 * i) + 8 ≡ 2 + 8 * (i + 1) = omega arith in
+      record {
+        is =
+            two_masked done b buf one two (2 + 8 * i) c.trues c.falses long g.is first second
+            ∙ ap (λ (k : ℕ). done ++ mask_bytes c.trues (mask_bytes c.falses (drop k b))) at
+            ∙ ap (λ (x : List ℕ). done ++ x) (both c.trues c.falses (drop (2 + 8 * (i + 1)) b))
+            ∙ sym (append_assoc done (mask_bytes c.trues (mask_bytes c.falses [])) (drop (2 + 8 * (i + 1)) b))
+            ∙ ap (λ (x : List ℕ). x ++ drop (2 + 8 * (i + 1)) b)
+            (append_assoc (count_bytes (length es)) (clause_bytes (take i es)) (mask_bytes c.trues (mask_bytes c.falses []))
+            ∙ ap (λ (x : List ℕ). count_bytes (length es) ++ x) (sym more));
+      }
+    where
+      both : (x y : ℕ) (r : List ℕ) → mask_bytes x (mask_bytes y r) ≡ mask_bytes x (mask_bytes y []) ++ r
+      both x y r = mask_apart x (mask_bytes y r) ∙ ap (λ (z : List ℕ). mask_bytes x [] ++ z) (mask_apart y r)
+          ∙ sym (append_assoc (mask_bytes x []) (mask_bytes y []) r)
+          ∙ ap (λ (z : List ℕ). z ++ r) (sym (mask_apart x (mask_bytes y [])))
 
--- the whole, where b is the buffer with the count in its first two bytes
-pub wrote_end : (es : List Literals) (n i : ℕ) (buf given : List ℕ) → n ≡ length es → 2 + 8 * n ≤ length given → n ≤ i
-    → Wrote es (set (set given 0 (n / 256 % 256)) 1 (n % 256)) i buf → buf ≡ picture_bytes es ++ drop (2 + 8 * n) given
-unfolding picture_bytes
-wrote_end es n i buf given q fits h g =
-    let same : i ≡ n = omega (arith, g.upto) in
-    let h0 = n / 256 % 256 in
-    let h1 = n % 256 in
-    g.is
-    ∙ ap (λ (k : ℕ). (take 2 (set (set given 0 h0) 1 h1) ++ clause_bytes (take k es)) ++ drop (2 + 8 * k) (set (set given 0 h0) 1 h1)) same
-    ∙ ap₂ (λ (x : List Literals) (y : List ℕ). (take 2 (set (set given 0 h0) 1 h1) ++ clause_bytes x) ++ y) (take_all n es (omega arith))
-    kept
-    ∙ ap (λ (x : List ℕ). (x ++ clause_bytes es) ++ drop (2 + 8 * n) given) (head given (omega arith))
-    ∙ ap (λ (k : ℕ). (k / 256 % 256 ∷ k % 256 ∷ clause_bytes es) ++ drop (2 + 8 * n) given) q
-  where
-    kept : drop (2 + 8 * n) (set (set given 0 (n / 256 % 256)) 1 (n % 256)) ≡ drop (2 + 8 * n) given
-    kept = drop-set-lt (2 + 8 * n) (set given 0 (n / 256 % 256)) 1 (n % 256) (omega arith)
-        ∙ drop-set-lt (2 + 8 * n) given 0 (n / 256 % 256) (omega arith)
-
-    head : (b : List ℕ) → 2 ≤ length b → take 2 (set (set b 0 (n / 256 % 256)) 1 (n % 256)) ≡ n / 256 % 256 ∷ n % 256 ∷ []
-    head [] h = absurd (omega arith)
-    head (x ∷ []) h = absurd (omega arith)
-    head (x ∷ y ∷ r) h = refl
+  pub wrote_end : {i : ℕ} {buf : List ℕ} → i ≡ length es → Wrote es b i buf → buf ≡ picture_bytes es ++ drop (2 + 8 * length es) b
+  unfolding picture_bytes
+  wrote_end {i} q g =
+      g.is
+      ∙ ap₂ (λ (x : List Literals) (k : ℕ). (count_bytes (length es) ++ clause_bytes x) ++ drop (2 + 8 * k) b)
+      (take_all i es (omega arith)) q

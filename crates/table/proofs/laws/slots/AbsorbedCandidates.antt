@@ -5,11 +5,12 @@ use mathlib.Core.Bool.{Bool, true, false, not}
 use mathlib.Core.List.{List, [], ◌∷◌, ◌++◌, map, append-nil}
 use mathlib.Core.Logic.{◌⊎◌, inl, inr}
 use mathlib.Core.Option.{Option, none, some, none-ne-some}
-use Prim.Native.Nat.{ℕ, ◌+◌, ◌-◌, ◌≤◌, ◌<◌}
+use Prim.Native.Nat.{ℕ, ◌+◌, ◌≤◌, ◌<◌}
 use native.Mathlib.Omega.{arith}
 use lib.Dec.{T, eqb}
 use lib.ListN.{length, length-append, length-map}
 use borrow.Author.Tests.{ne_eqb}
+use Rattle.std.specs.Prelude.{Result}
 use Rattle.sheet.specs.declared.Literals.{Literals}
 use Rattle.sheet.specs.Literals.{within, consistent, join}
 use Rattle.sheet.specs.Lists.{Any, All, any_of, add_if, keep}
@@ -18,12 +19,10 @@ use Rattle.sheet.proofs.laws.base.ListFacts.{all_map, all_by, any_map, any_appen
 use Rattle.sheet.proofs.laws.literals.LiteralSets as sets
 use Rattle.sheet.proofs.laws.base.ListMembers.{any_passed}
 use Rattle.sheet.proofs.laws.literals.LiteralSets.{within_refl, within_trans, within_join_l}
-use Rattle.table.specs.declared.slots.Grown.{Grown}
+use Rattle.table.specs.declared.slots.Full.{Full}
 use Rattle.table.specs.Worlds.{and_then}
 use Rattle.table.specs.Minimal.{put_last, put_new, put, put_all}
-use Rattle.table.specs.Entries.{entries_of}
-use Rattle.table.specs.inner.Slots.{Held, Grew, Puts}
-use Rattle.table.proofs.laws.arrays.HeldLists.{length_entries_of, holds_trues_long}
+use Rattle.table.specs.inner.Puts.{Grew, Puts}
 use Rattle.table.proofs.laws.arrays.KeptMembers.{keep_length, keep_append}
 use Rattle.table.proofs.laws.slots.PutFates.{put_dropped, put_added}
 use Rattle.table.proofs.laws.slots.PutInvariants.{others, Placed, put_cases}
@@ -182,12 +181,6 @@ module _ (c : Literals) (us : List Literals) (h : Any (λ u. T (within u c)) us)
       go false q = ap (λ (x : List Literals). put_all cap x t) (left_out c q ∙ sym (none_joined q))
 
   -- where there is room for all, the clause alone is put
-  pub puts_alone : (cap m k : ℕ) (ts fs : List ℕ) (r : Grown) (ts' fs' : List ℕ) → Held cap k ts fs → m ≡ length us → m ≤ length ts - k
-      → Puts (keep consistent (c ∷ [])) k ts fs r ts' fs' → Puts joined k ts fs r ts' fs'
-  puts_alone cap m k ts fs r ts' fs' g e l w =
-      let room : length (entries_of k ts fs) + length us ≤ length
-      ts = omega (arith, e, l, length_entries_of k ts fs, g.room, holds_trues_long g) in
-      record {
-        grew = subst (λ (o : Option (List Literals)). Grew (length ts) o r ts' fs') (alone (length ts) (entries_of k ts fs) room)
-            w.grew;
-      }
+  pub puts_alone : {cap : ℕ} {t vs : List Literals} {r : Result Unit Full} → length t + length us ≤ cap
+      → Puts cap (keep consistent (c ∷ [])) t r vs → Puts cap joined t r vs
+  puts_alone {cap} {t} {vs} {r} l w = record { grew = subst (λ (o : Option (List Literals)). Grew o r vs) (alone cap t l) w.grew }

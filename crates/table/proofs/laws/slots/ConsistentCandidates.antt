@@ -4,15 +4,13 @@ use Prim.Native.Nat.{ℕ, ◌+◌, ◌≤◌, ◌<◌}
 use mathlib.Core.Path.{◌≡◌, sym, ap, ◌∙◌}
 use mathlib.Core.Bool.{Bool, true, false}
 use mathlib.Core.List.{List, [], ◌∷◌, ◌++◌, map}
-use lib.ListN.{drop}
+use lib.ListN.{length, get_or, drop}
+use Rattle.std.proofs.lemmas.List.{drop_more, drop_all}
 use Rattle.sheet.specs.declared.Literals.{Literals}
-use Rattle.sheet.specs.Literals.{join, consistent}
+use Rattle.sheet.specs.Literals.{no_literal, join, consistent}
 use Rattle.sheet.specs.Lists.{add_if, keep, collect}
 use Rattle.sheet.proofs.laws.literals.LiteralSets.{consistent_join}
 use Rattle.table.proofs.laws.arrays.KeptMembers.{keep_append}
-use Rattle.table.specs.Entries.{entries_of}
-use Rattle.table.proofs.laws.arrays.EntryLoops.{entries_stored, entries_done}
-use Rattle.table.proofs.laws.arrays.HeldLists.{stored}
 
 -- ---- one candidate
 
@@ -50,20 +48,20 @@ module _ (f : Literals → List Literals) where
   pub collect_end : (xs : List Literals) → xs ≡ [] → keep consistent (collect f xs) ≡ []
   collect_end xs q = ap (λ (r : List Literals). keep consistent (collect f r)) q
 
--- ---- the same over the entries of two arrays, from i on
-module _ (n : ℕ) (ts fs : List ℕ) (i : ℕ) where
-  pub joined_entry : (d x : Literals) → i < n → x ≡ join d (stored ts fs i)
-      → keep consistent (map (join d) (drop i (entries_of n ts fs))) ≡ keep consistent (x ∷ [])
-      ++ keep consistent (map (join d) (drop (i + 1) (entries_of n ts fs)))
-  joined_entry d x lt is = joined_step d _ x _ _ (entries_stored n ts fs i lt) is
+-- ---- the same over the members from number i on
+module _ (xs : List Literals) (i : ℕ) where
+  pub joined_here : (d : Literals) {a x : Literals} → i < length xs → a ≡ get_or xs i no_literal → x ≡ join d a
+      → keep consistent (map (λ y. join d y) (drop i xs))
+      ≡ keep consistent (x ∷ []) ++ keep consistent (map (λ y. join d y) (drop (i + 1) xs))
+  joined_here d lt e q = joined_step d _ _ _ _ (drop_more xs i no_literal lt) (q ∙ ap (join d) e)
 
-  pub joined_none : (d : Literals) → n ≤ i → keep consistent (map (join d) (drop i (entries_of n ts fs))) ≡ []
-  joined_none d le = joined_end d _ (entries_done n ts fs i le)
+  pub joined_past : (d : Literals) → length xs ≤ i → keep consistent (map (λ y. join d y) (drop i xs)) ≡ []
+  joined_past d le = joined_end d _ (drop_all i xs le)
 
-  pub collect_entry : (f : Literals → List Literals) → i < n
-      → keep consistent (collect f (drop i (entries_of n ts fs))) ≡ keep consistent (f (stored ts fs i))
-      ++ keep consistent (collect f (drop (i + 1) (entries_of n ts fs)))
-  collect_entry f lt = collect_step f _ _ _ (entries_stored n ts fs i lt)
+  pub collect_here : (f : Literals → List Literals) {e : Literals} → i < length xs → e ≡ get_or xs i no_literal
+      → keep consistent (collect f (drop i xs)) ≡ keep consistent (f e) ++ keep consistent (collect f (drop (i + 1) xs))
+  collect_here f lt q =
+      collect_step f _ _ _ (drop_more xs i no_literal lt ∙ ap (λ (x : Literals). x ∷ drop (i + 1) xs) (sym q))
 
-  pub collect_none : (f : Literals → List Literals) → n ≤ i → keep consistent (collect f (drop i (entries_of n ts fs))) ≡ []
-  collect_none f le = collect_end f _ (entries_done n ts fs i le)
+  pub collect_past : (f : Literals → List Literals) → length xs ≤ i → keep consistent (collect f (drop i xs)) ≡ []
+  collect_past f le = collect_end f _ (drop_all i xs le)

@@ -1,12 +1,15 @@
--- The test of a table is what document 01 says of tables. For `described_iff` in proofs/Demands, `steps/StepCall`, `pictures/PictureCall`
+-- The test of a table is what document 01 says of tables. For `described_iff` in proofs/Demands, `steps/StepCall`, `pictures/HandedClauses`
 -- and TH4. Assumes nothing.
-use mathlib.Core.Path.{◌≡◌}
-use mathlib.Core.Bool.{true, not, ◌&&◌, ◌||◌}
+use mathlib.Core.Path.{◌≡◌, refl, sym, ap, ◌∙◌}
+use mathlib.Core.Bool.{Bool, true, false, not, ◌&&◌, ◌||◌, cond}
 use mathlib.Core.List.{List, [], ◌∷◌}
 use mathlib.Core.Logic.{◌↔◌, ⊎_elim}
-use Prim.Native.Nat.{ℕ}
+use Prim.Native.Nat.{ℕ, ◌≤◌}
+use native.Mathlib.Omega.{arith}
 use lib.Dec.{T, leb, leb→le, le→leb}
 use lib.ListN.{length}
+use Rattle.std.specs.Prelude.{Option, Some, None}
+use Rattle.std.proofs.lemmas.Option.{none-some, same_Some}
 use Rattle.sheet.specs.declared.Literals.{Literals}
 use Rattle.sheet.specs.Literals.{within, consistent, below, Proper}
 use Rattle.sheet.specs.Lists.{all_of}
@@ -67,3 +70,12 @@ described_iff cap n t = (λ e. go (true_T (described cap n t) e), λ d. T_true (
         (and_in (leb (length t) cap) (all_of (proper n) t && antichain t) (le→leb (length t) cap d.most)
         (and_in (all_of (proper n) t) (antichain t)
         (all_tested (proper n) t (all_map (Proper n) (λ e. T (proper n e)) (proper_by n) t d.proper)) (antichain_by t d.apart)))
+
+-- the entries that the test hands out are one or more
+pub least_handed : (cap n : ℕ) (t u : List Literals) (o : Option (List Literals)) → o ≡ cond (described cap n t) (Some t) None → o ≡ Some u
+    → 1 ≤ length u
+least_handed cap n t u o h q = go (described cap n t) refl (sym q ∙ h)
+  where
+    go : (b : Bool) → described cap n t ≡ b → Some u ≡ cond b (Some t) None → 1 ≤ length u
+    go true e k = omega (arith, ((described_iff cap n t).0 e).least, ap length (same_Some u t k))
+    go false e k = absurd (none-some u (sym k))

@@ -1,158 +1,132 @@
--- A scan from the last member to the first. For W3 (`request_w3` in proofs/Demands), `slots::last_within` and what it calls,
--- `slots::first_above`, `slots::put` and `slots::offer_by_newest`. Assumes nothing.
+-- A scan from the last member to the first. For W3 (`request_w3` in proofs/Demands), `Entries::last_within` and what it calls, and
+-- `Slots::put`. Assumes nothing.
 use mathlib.Core.Path.{◌≡◌, refl, sym, ap, ◌∙◌, subst}
-use mathlib.Core.Bool.{Bool, true, false, not, ◌||◌, cond}
+use mathlib.Core.Bool.{Bool, true, false, not, ◌||◌, cond, true≢false}
 use mathlib.Core.List.{List, [], ◌∷◌, ◌++◌}
 use mathlib.Core.Logic.{◌↔◌}
-use Prim.Native.Nat.{ℕ, zero, suc, ◌+◌, ◌≤◌, ◌<◌}
+use Prim.Native.Nat.{ℕ, zero, suc, ◌+◌, ◌-◌, ◌≤◌, ◌<◌}
 use native.Mathlib.Nat.{not-suc-le-zero, le_of_suc-le-suc}
 use native.Mathlib.Omega.{arith}
 use lib.Dec.{T}
-use lib.ListN.{length, get_or, take}
-use lib.Seq.{take-suc}
+use lib.ListN.{length, get_or, take, drop}
+use lib.Seq.{take-add, length-take-le}
 use Rattle.sheet.specs.declared.Literals.{Literals}
-use Rattle.table.specs.declared.slots.Found.{Found}
-use Rattle.table.specs.declared.slots.Found.TheVariants.{At, Nothing}
-use Rattle.sheet.specs.Lists.{All, any_of, pad}
-use Rattle.table.specs.Fates.{shifted, last_of, last_within}
-use Rattle.table.specs.Entries.{pairs, entries_of}
-use Rattle.table.specs.inner.Slots.{slot, four_within}
-use Rattle.sheet.specs.Literals.{within, no_literal}
-use Rattle.sheet.proofs.laws.base.Bools.{T_true, T_false, true_T, false_T, or_not_l, or_not_r}
+use Rattle.std.specs.Prelude.{Option, Some, None}
+use Rattle.std.specs.Option.{is_some}
+use Rattle.sheet.specs.Lists.{All, any_of}
+use Rattle.table.specs.Fates.{shifted, last_of}
+use Rattle.sheet.specs.Literals.{no_literal}
+use Rattle.sheet.proofs.laws.base.Bools.{T_true, T_false, true_T, false_T}
 use Rattle.sheet.proofs.laws.base.ListFacts.{all_at, all_places, any_none}
-use Rattle.table.proofs.laws.arrays.HeldLists.{length_entries_of, get_d_entries_of, take_entries_of}
+use Rattle.std.proofs.lemmas.List.{take_more, at_drop_more}
 
 -- one member more at the end
-last_more : (f : Literals → Bool) (xs : List Literals) (x : Literals) → last_of f (xs ++ x ∷ []) ≡ cond (f x) (At (length xs))
+last_more : (f : Literals → Bool) (xs : List Literals) (x : Literals) → last_of f (xs ++ x ∷ []) ≡ cond (f x) (Some (length xs))
     (last_of f xs)
 unfolding last_of shifted
 last_more f [] x = refl
 last_more f (y ∷ ys) x = ap (shifted (f y)) (last_more f ys x) ∙ at (f x)
   where
-    at : (b : Bool) → shifted (f y) (cond b (At (length ys)) (last_of f ys)) ≡ cond b (At (suc (length ys))) (shifted (f y) (last_of f ys))
+    at : (b : Bool) → shifted (f y) (cond b (Some (length ys)) (last_of f ys))
+        ≡ cond b (Some (suc (length ys))) (shifted (f y) (last_of f ys))
     at true = refl
     at false = refl
 
--- a place was found
-abbrev there : Found → Bool
-there (At j) = true
-there Nothing = false
-
-there_shifted : (b : Bool) (r : Found) → there (shifted b r) ≡ (b || there r)
+is_some_shifted : (b : Bool) (r : Option ℕ) → is_some (shifted b r) ≡ (b || is_some r)
 unfolding shifted
-there_shifted true (At j) = refl
-there_shifted true Nothing = refl
-there_shifted false (At j) = refl
-there_shifted false Nothing = refl
+is_some_shifted true (Some j) = refl
+is_some_shifted true None = refl
+is_some_shifted false (Some j) = refl
+is_some_shifted false None = refl
 
 -- a place is found exactly if some member passes
-found_any : (f : Literals → Bool) (xs : List Literals) → there (last_of f xs) ≡ any_of f xs
+found_any : (f : Literals → Bool) (xs : List Literals) → is_some (last_of f xs) ≡ any_of f xs
 unfolding last_of
 found_any f [] = refl
-found_any f (x ∷ xs) = there_shifted (f x) (last_of f xs) ∙ ap (λ (b : Bool). f x || b) (found_any f xs)
+found_any f (x ∷ xs) = is_some_shifted (f x) (last_of f xs) ∙ ap (λ (b : Bool). f x || b) (found_any f xs)
 
-pub found_some : (f : Literals → Bool) (xs : List Literals) (r : Found) (i : ℕ) → r ≡ last_of f xs → r ≡ At i → any_of f xs ≡ true
-found_some f xs r i e q = sym (found_any f xs) ∙ ap there (sym e ∙ q)
+pub found_some : (f : Literals → Bool) (xs : List Literals) (r : Option ℕ) (i : ℕ) → r ≡ last_of f xs → r ≡ Some i → any_of f xs ≡ true
+found_some f xs r i e q = sym (found_any f xs) ∙ ap is_some (sym e ∙ q)
 
-pub found_none : (f : Literals → Bool) (xs : List Literals) (r : Found) → r ≡ last_of f xs → r ≡ Nothing → any_of f xs ≡ false
-found_none f xs r e q = sym (found_any f xs) ∙ ap there (sym e ∙ q)
+-- whether a place is found, by the names that the list and the result have
+pub found_is : (f : Literals → Bool) {xs ys : List Literals} {r : Option ℕ} {b : Bool} → b ≡ is_some r → r ≡ last_of f ys → ys ≡ xs
+    → any_of f xs ≡ b
+found_is f {xs} p q e = sym (p ∙ ap is_some q ∙ found_any f _ ∙ ap (any_of f) e)
 
--- ---- the first k entries of two arrays, by the last of them
-module _ (f : Literals → Bool) (ts fs : List ℕ) (k j : ℕ) (is : k ≡ suc j) where
-  front : entries_of k ts fs ≡ entries_of j ts fs ++ slot ts fs j ∷ []
-  unfolding slot
-  front =
-      let lt : j < k = omega arith in
-      sym (take_entries_of k k ts fs (omega arith))
-      ∙ ap (λ (x : ℕ). take x (entries_of k ts fs)) is
-      ∙ take-suc (entries_of k ts fs) j no_literal (omega (arith, length_entries_of k ts fs))
-      ∙ (λ x. take_entries_of j k ts fs (omega arith) x ++ get_d_entries_of k ts fs j lt x ∷ [])
+pub found_none : (f : Literals → Bool) (xs : List Literals) (r : Option ℕ) → r ≡ last_of f xs → r ≡ None → any_of f xs ≡ false
+found_none f xs r e q = sym (found_any f xs) ∙ ap is_some (sym e ∙ q)
 
-  by_last : last_of f (entries_of k ts fs) ≡ cond (f (slot ts fs j)) (At j) (last_of f (entries_of j ts fs))
-  by_last =
-      ap (last_of f) front
-      ∙ last_more f (entries_of j ts fs) (slot ts fs j)
-      ∙ ap (λ (x : ℕ). cond (f (slot ts fs j)) (At x) (last_of f (entries_of j ts fs))) (length_entries_of j ts fs)
+-- ---- the first i members, by the last of them
+pub last_down : (f : Literals → Bool) (xs : List Literals) (i : ℕ) → 0 < i → i ≤ length xs
+    → last_of f (take i xs) ≡ cond (f (get_or xs (i - 1) no_literal)) (Some (i - 1)) (last_of f (take (i - 1) xs))
+last_down f xs i pos le =
+    let back : i ≡ (i - 1) + 1 = omega arith in
+    ap (λ (j : ℕ). last_of f (take j xs)) back
+    ∙ ap (last_of f) (take_more xs (i - 1) no_literal (omega arith))
+    ∙ last_more f (take (i - 1) xs) (get_or xs (i - 1) no_literal)
+    ∙ ap (λ (j : ℕ). cond (f (get_or xs (i - 1) no_literal)) (Some j) (last_of f (take (i - 1) xs)))
+    (length-take-le (i - 1) xs (omega arith))
 
-  pub hit : f (slot ts fs j) ≡ true → last_of f (entries_of k ts fs) ≡ At j
-  hit t = by_last ∙ ap (λ (b : Bool). cond b (At j) (last_of f (entries_of j ts fs))) t
+pub last_nothing : (f : Literals → Bool) (xs : List Literals) (i : ℕ) → i ≤ 0 → last_of f (take i xs) ≡ None
+unfolding last_of
+last_nothing f xs i z = let e : i ≡ 0 = omega arith in ap (λ (j : ℕ). last_of f (take j xs)) e
 
-  pub missed : f (slot ts fs j) ≡ false → last_of f (entries_of k ts fs) ≡ last_of f (entries_of j ts fs)
-  missed t = by_last ∙ ap (λ (b : Bool). cond b (At j) (last_of f (entries_of j ts fs))) t
+-- ---- the last four of the first k members at once
+module _ (f : Literals → Bool) where
+  is_none : (r : Option ℕ) → is_some r ≡ false → r ≡ None
+  is_none (Some j) e = absurd (true≢false e)
+  is_none None e = refl
 
-pub none_left : (f : Literals → Bool) (ts fs : List ℕ) (i : ℕ) → i ≤ 0 → last_of f (entries_of i ts fs) ≡ Nothing
-unfolding last_of entries_of pairs pad
-none_left f ts fs i h = let z : i ≡ 0 = omega arith in ap (λ (k : ℕ). last_of f (entries_of k ts fs)) z
+  last_before : (xs ys : List Literals) → any_of f ys ≡ false → last_of f (xs ++ ys) ≡ last_of f xs
+  unfolding last_of
+  last_before [] ys e = is_none (last_of f ys) (found_any f ys ∙ e)
+  last_before (x ∷ xs) ys e = ap (shifted (f x)) (last_before xs ys e)
 
--- ---- four entries at once
-neither : (a b : Bool) → (a || b) ≡ false → (a ≡ false) × (b ≡ false)
-neither a b e = (T_false a (or_not_l a b (false_T (a || b) e)), T_false b (or_not_r a b (false_T (a || b) e)))
+  -- the tests of four members from place i on
+  front_tested : (n : ℕ) (xs : List Literals) (i j : ℕ) → j ≡ i + 1 → i < length xs
+      → any_of f (take (suc n) (drop i xs)) ≡ (f (get_or xs i no_literal) || any_of f (take n (drop j xs)))
+  front_tested n xs i j is lt =
+      at_drop_more (λ ys. any_of f (take (suc n) ys)) xs i no_literal lt
+      ∙ ap (λ (k : ℕ). f (get_or xs i no_literal) || any_of f (take n (drop k xs))) (sym is)
 
-module _ (ts fs : List ℕ) (i : ℕ) (l : Literals) where
-  abbrev test : ℕ → Bool
-  test k = within (slot ts fs (i + k)) l
+  in_turn : (a b c d : Bool) → (a || (b || (c || (d || false)))) ≡ (a || b || c || d)
+  in_turn true b c d = refl
+  in_turn false true c d = refl
+  in_turn false false true d = refl
+  in_turn false false false true = refl
+  in_turn false false false false = refl
 
-  abbrev last : ℕ → Found
-  last k = last_within (entries_of (i + k) ts fs) l
+  pub four_tested : (xs : List Literals) (k : ℕ) → 4 ≤ k → k ≤ length xs → any_of f (take 4 (drop (k - 4) xs))
+      ≡ (f (get_or xs (k - 4) no_literal) || f (get_or xs (k - 3) no_literal) || f (get_or xs (k - 2) no_literal)
+      || f (get_or xs (k - 1) no_literal))
+  four_tested xs k h le =
+      let t : ℕ → Bool = λ i. f (get_or xs (k - i) no_literal) in
+      front_tested 3 xs (k - 4) (k - 3) (omega arith) (omega arith)
+      ∙ ap (λ b. t 4 || b) (front_tested 2 xs (k - 3) (k - 2) (omega arith) (omega arith)
+      ∙ ap (λ b. t 3 || b) (front_tested 1 xs (k - 2) (k - 1) (omega arith) (omega arith)
+      ∙ ap (λ b. t 2 || b) (front_tested 0 xs (k - 1) k (omega arith) (omega arith))))
+      ∙ in_turn (t 4) (t 3) (t 2) (t 1)
 
-  at : (k : ℕ) → test k ≡ true → last (suc k) ≡ At (i + k)
-  at k t = hit (λ e. within e l) ts fs (i + suc k) (i + k) (omega arith) t
-
-  on : (k : ℕ) → test k ≡ false → last (suc k) ≡ last k
-  on k t = missed (λ e. within e l) ts fs (i + suc k) (i + k) (omega arith) t
-
-  pub last_3 : test 3 ≡ true → last 4 ≡ At (i + 3)
-  last_3 = at 3
-
-  pub last_2 : test 3 ≡ false → test 2 ≡ true → last 4 ≡ At (i + 2)
-  last_2 c t = on 3 c ∙ at 2 t
-
-  pub last_1 : test 3 ≡ false → test 2 ≡ false → test 1 ≡ true → last 4 ≡ At (i + 1)
-  last_1 c b t = on 3 c ∙ on 2 b ∙ at 1 t
-
-  pub last_0 : test 3 ≡ false → test 2 ≡ false → test 1 ≡ false → four_within ts fs i l ≡ true → last 4 ≡ At i
-  last_0 c b a t = on 3 c ∙ on 2 b ∙ on 1 a ∙ hit (λ e. within e l) ts fs (i + 1) i (omega arith)
-      (first (within (slot ts fs i) l) _ _ _ a b c t)
-    where
-      first : (x p q r : Bool) → p ≡ false → q ≡ false → r ≡ false → (x || p || q || r) ≡ true → x ≡ true
-      first true p q r u v w e = refl
-      first false p q r u v w e = (λ k. sym u k || sym v k || sym w k) ∙ e
-
-  pub four_none : four_within ts fs i l ≡ false → last 4 ≡ last_within (entries_of i ts fs) l
-  four_none e =
-      let u = neither _ (test 3) e in
-      let v = neither _ (test 2) u.0 in
-      let w = neither (within (slot ts fs i) l) (test 1) v.0 in
-      on 3 u.1 ∙ on 2 v.1 ∙ on 1 w.1 ∙ missed (λ e. within e l) ts fs (i + 1) i (omega arith) w.0
-
--- what a test of an entry that was read says
-pub tested : {r : Bool} {e x : Literals} (l : Literals) → r ≡ within e l → e ≡ x → r ≡ within x l
-tested {r} {e} {x} l p q = p ∙ ap (λ (y : Literals). within y l) q
-
--- and what came of it
-pub shown : {r b : Bool} {e x : Literals} (l : Literals) → r ≡ within e l → e ≡ x → r ≡ b → within x l ≡ b
-shown l p q k = sym (tested l p q) ∙ k
-
--- ---- a turn over four entries, the last of the first k
-module _ (ts fs : List ℕ) (k i : ℕ) (l : Literals) (is : i + 4 ≡ k) where
-  pub turn_found : {r : ℕ} → At r ≡ last_within (entries_of (i + 4) ts fs) l → At r ≡ last_within (entries_of k ts fs) l
-  turn_found e = e ∙ ap (λ (j : ℕ). last_within (entries_of j ts fs) l) is
-
-  pub turn_none : four_within ts fs i l ≡ false → last_within (entries_of i ts fs) l ≡ last_within (entries_of k ts fs) l
-  turn_none e = sym (four_none ts fs i l e) ∙ ap (λ (j : ℕ). last_within (entries_of j ts fs) l) is
+  pub four_missed : (xs : List Literals) (i j k : ℕ) → any_of f (take 4 (drop (k - 4) xs)) ≡ false → i + 4 ≡ k → j ≡ k
+      → last_of f (take i xs) ≡ last_of f (take j xs)
+  four_missed xs i j k e is js =
+      let back : i ≡ k - 4 = omega arith in
+      sym (last_before (take i xs) (take 4 (drop i xs)) (ap (λ (h : ℕ). any_of f (take 4 (drop h xs))) back ∙ e))
+      ∙ ap (last_of f) (sym (take-add i 4 xs))
+      ∙ ap (λ (h : ℕ). last_of f (take h xs)) (is ∙ sym js)
 
 -- ---- what the scan gives, by places, for any test and any list
 -- nothing is found exactly if no member passes
-none_found : (f : Literals → Bool) (xs : List Literals) → last_of f xs ≡ Nothing → All (λ x. T (not (f x))) xs
-none_found f xs e = any_none f xs (false_T (any_of f xs) (found_none f xs Nothing (sym e) refl))
+none_found : (f : Literals → Bool) (xs : List Literals) → last_of f xs ≡ None → All (λ x. T (not (f x))) xs
+none_found f xs e = any_none f xs (false_T (any_of f xs) (found_none f xs None (sym e) refl))
 
-found_nothing : (f : Literals → Bool) (xs : List Literals) → All (λ x. T (not (f x))) xs → last_of f xs ≡ Nothing
+found_nothing : (f : Literals → Bool) (xs : List Literals) → All (λ x. T (not (f x))) xs → last_of f xs ≡ None
 unfolding last_of shifted
 found_nothing f [] h = refl
 found_nothing f (x ∷ xs) h = ap (shifted (f x)) (found_nothing f xs h.1)
-    ∙ ap (λ (b : Bool). cond b (At 0) Nothing) (T_false (f x) h.0)
+    ∙ ap (λ (b : Bool). cond b (Some 0) None) (T_false (f x) h.0)
 
-pub last_none : (f : Literals → Bool) (xs : List Literals) → (last_of f xs ≡ Nothing) ↔ All (λ x. T (not (f x))) xs
+pub last_none : (f : Literals → Bool) (xs : List Literals) → (last_of f xs ≡ None) ↔ All (λ x. T (not (f x))) xs
 last_none f xs = (none_found f xs, found_nothing f xs)
 
 -- the member at place i passes, and none after it does
@@ -167,7 +141,7 @@ last_behind f x xs i h = (omega (arith, h.0), h.1, later)
     later zero a b = absurd (not-suc-le-zero a)
     later (suc j) a b = h.2 j (le_of_suc-le-suc a) (le_of_suc-le-suc b)
 
-last_front : (f : Literals → Bool) (x : Literals) (xs : List Literals) → f x ≡ true → last_of f xs ≡ Nothing → LastAt f (x ∷ xs) 0
+last_front : (f : Literals → Bool) (x : Literals) (xs : List Literals) → f x ≡ true → last_of f xs ≡ None → LastAt f (x ∷ xs) 0
 last_front f x xs t e = (omega arith, true_T (f x) t, later)
   where
     later : (j : ℕ) → 0 < j → j < length (x ∷ xs) → T (not (f (get_or (x ∷ xs) j no_literal)))
@@ -175,39 +149,39 @@ last_front f x xs t e = (omega arith, true_T (f x) t, later)
     later (suc j) a b = all_at (λ y. T (not (f y))) xs j no_literal (le_of_suc-le-suc b) (none_found f xs e)
 
 -- the place that was found
-abbrev place : Found → ℕ
-place (At j) = j
-place Nothing = 0
+abbrev place : Option ℕ → ℕ
+place (Some j) = j
+place None = 0
 
-found_last : (f : Literals → Bool) (xs : List Literals) (i : ℕ) → last_of f xs ≡ At i → LastAt f xs i
+found_last : (f : Literals → Bool) (xs : List Literals) (i : ℕ) → last_of f xs ≡ Some i → LastAt f xs i
 unfolding last_of shifted
-found_last f [] i e = absurd (true_T false (ap there e))
+found_last f [] i e = absurd (true_T false (ap is_some e))
 found_last f (x ∷ xs) i e = go (last_of f xs) refl (found_last f xs) e
   where
-    front : (b : Bool) → f x ≡ b → last_of f xs ≡ Nothing → cond b (At 0) Nothing ≡ At i → LastAt f (x ∷ xs) i
+    front : (b : Bool) → f x ≡ b → last_of f xs ≡ None → cond b (Some 0) None ≡ Some i → LastAt f (x ∷ xs) i
     front true t q e = subst (LastAt f (x ∷ xs)) (ap place e) (last_front f x xs t q)
-    front false t q e = absurd (true_T false (ap there e))
+    front false t q e = absurd (true_T false (ap is_some e))
 
-    go : (r : Found) → last_of f xs ≡ r → ((k : ℕ) → last_of f xs ≡ At k → LastAt f xs k) → shifted (f x) r ≡ At i → LastAt f (x ∷ xs) i
-    go (At k) q more e = subst (LastAt f (x ∷ xs)) (ap place e) (last_behind f x xs k (more k q))
-    go Nothing q more e = front (f x) refl q e
+    go : (r : Option ℕ) → last_of f xs ≡ r → ((k : ℕ) → last_of f xs ≡ Some k → LastAt f xs k) → shifted (f x) r ≡ Some i → LastAt f (x ∷ xs) i
+    go (Some k) q more e = subst (LastAt f (x ∷ xs)) (ap place e) (last_behind f x xs k (more k q))
+    go None q more e = front (f x) refl q e
 
-last_found : (f : Literals → Bool) (xs : List Literals) (i : ℕ) → LastAt f xs i → last_of f xs ≡ At i
+last_found : (f : Literals → Bool) (xs : List Literals) (i : ℕ) → LastAt f xs i → last_of f xs ≡ Some i
 unfolding last_of shifted
 last_found f [] i h = absurd (not-suc-le-zero h.0)
 last_found f (x ∷ xs) zero h =
     ap (shifted (f x)) (found_nothing f xs (all_places (λ y. T (not (f y))) xs no_literal (λ j l. h.2 (suc j) (omega arith) (omega arith))))
-    ∙ ap (λ (b : Bool). cond b (At 0) Nothing) (T_true (f x) h.1)
+    ∙ ap (λ (b : Bool). cond b (Some 0) None) (T_true (f x) h.1)
 last_found f (x ∷ xs) (suc i) h =
     ap (shifted (f x)) (last_found f xs i (le_of_suc-le-suc h.0, h.1, λ j a b. h.2 (suc j) (omega arith) (omega arith)))
 
-pub last_at : (f : Literals → Bool) (xs : List Literals) (i : ℕ) → (last_of f xs ≡ At i) ↔ LastAt f xs i
+pub last_at : (f : Literals → Bool) (xs : List Literals) (i : ℕ) → (last_of f xs ≡ Some i) ↔ LastAt f xs i
 last_at f xs i = (found_last f xs i, last_found f xs i)
 
 -- where some member passes, a place is found
-pub some_found : (f : Literals → Bool) (xs : List Literals) → any_of f xs ≡ true → (i : ℕ) × (last_of f xs ≡ At i)
+pub some_found : (f : Literals → Bool) (xs : List Literals) → any_of f xs ≡ true → (i : ℕ) × (last_of f xs ≡ Some i)
 some_found f xs e = go (last_of f xs) refl
   where
-    go : (r : Found) → last_of f xs ≡ r → (i : ℕ) × (last_of f xs ≡ At i)
-    go (At i) q = (i, q)
-    go Nothing q = absurd (true_T false (sym (found_none f xs Nothing (sym q) refl) ∙ e))
+    go : (r : Option ℕ) → last_of f xs ≡ r → (i : ℕ) × (last_of f xs ≡ Some i)
+    go (Some i) q = (i, q)
+    go None q = absurd (true_T false (sym (found_none f xs None (sym q) refl) ∙ e))

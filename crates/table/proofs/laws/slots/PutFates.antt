@@ -1,36 +1,39 @@
--- The three fates of a candidate that is put: dropped, added, no room; on lists, and on the slices that hold them. For `slots::put`,
--- `slots::offer`, `slots::offer_by_newest` and W3 (proofs/Demands). Assumes nothing.
-use Prim.Native.Nat.{ℕ, ◌+◌, ◌-◌, ◌≤◌, ◌<◌}
-use mathlib.Core.Path.{◌≡◌, refl, sym, ap, ap₂, ◌∙◌, subst}
+-- The three fates of a candidate that is put: dropped, added, no room. For `Slots::put`, `Slots::offer`, `Slots::offer_by_newest` and W3
+-- (proofs/Demands). Assumes nothing.
+use Prim.Native.Nat.{ℕ, ◌+◌, ◌-◌, ◌≤◌}
+use mathlib.Core.Path.{◌≡◌, refl, sym, ap, ap₂, ◌∙◌}
 use mathlib.Core.Bool.{Bool, true, false, not, cond}
 use mathlib.Core.List.{List, [], ◌∷◌, ◌++◌}
 use mathlib.Core.Option.{Option, none, some}
 use native.Mathlib.Omega.{arith}
-use lib.ListN.{length, set, length-append}
+use lib.ListN.{length}
 use lib.Dec.{eqb}
 use borrow.Author.Tests.{eq-eqb, ne_eqb}
+use Rattle.std.specs.Prelude.{Ok, Err}
 use Rattle.sheet.specs.declared.Literals.{Literals}
 use Rattle.sheet.specs.Literals.{within}
 use Rattle.sheet.specs.Lists.{any_of}
 use Rattle.sheet.proofs.laws.base.Bools.{true_T}
 use Rattle.table.specs.declared.slots.Fate.{Fate}
 use Rattle.table.specs.declared.slots.Fate.TheVariants.{Dropped, Added, Full}
-use Rattle.table.specs.declared.slots.Grown.{Grown}
-use Rattle.table.specs.declared.slots.Grown.TheVariants as grown
+use Rattle.table.specs.declared.slots.Full.{Full as SlotsFull}
 use Rattle.table.specs.Worlds.{and_then}
 use Rattle.table.specs.Minimal.{put_last, put_new, put, put_all}
 use Rattle.table.specs.Fates.{left, fate_of}
-use Rattle.table.specs.inner.Slots.{or_else, list_after, Holds, Held, Grew, Puts}
-use Rattle.table.specs.Entries.{entries_of}
-use Rattle.table.proofs.laws.arrays.HeldLists.{length_entries_of, holds_push, holds_entries, held as held_of}
+use Rattle.table.specs.inner.Slots.{or_else, list_after}
+use Rattle.table.specs.inner.Puts.{Puts}
 use Rattle.table.proofs.laws.arrays.KeptMembers.{keep_length, keep_all}
-
--- ---- lists
 
 abbrev is_dropped : Fate → Bool
 is_dropped Dropped = true
 is_dropped (Added r k) = false
 is_dropped Full = false
+
+-- the list us after a candidate, or none where it is full
+abbrev pub put_as : Fate → List Literals → Option (List Literals)
+put_as Dropped us = some us
+put_as (Added removed count) us = some us
+put_as Full us = none
 
 module _ (cap : ℕ) (es : List Literals) (l : Literals) where
   abbrev pub some_within : Bool
@@ -77,115 +80,81 @@ module _ (cap : ℕ) (es : List Literals) (l : Literals) where
       at false true p q = absurd (true_T false (ap is_dropped (sym (fate_full p q) ∙ e)))
       at false false p q = absurd (true_T false (ap is_dropped (sym (fate_added p q) ∙ e)))
 
-  pub after_is : (r : List Literals) (o : Option (List Literals)) → put cap es l ≡ o → or_else es o ≡ r → list_after cap es l ≡ r
-  unfolding list_after
-  after_is r o p q = ap (or_else es) p ∙ q
+  pub after_dropped : some_within ≡ true → list_after cap es l ≡ es
+  unfolding list_after or_else
+  after_dropped s = ap (or_else es) (put_dropped s)
 
--- ---- slices
+  after_full : some_within ≡ false → no_room ≡ true → list_after cap es l ≡ es
+  unfolding list_after or_else
+  after_full s q = ap (or_else es) (put_full s q)
 
--- the count is the list's length
-at_length : (cap : ℕ) (es xs : List Literals) (n : ℕ) (ts fs : List ℕ) → Holds cap es n ts fs → xs ≡ es → Holds cap xs (length xs) ts fs
-at_length cap es xs n ts fs h e =
-    subst (λ (y : List Literals). Holds cap y (length y) ts fs) (sym e) (subst (λ (k : ℕ). Holds cap es k ts fs) h.count_is h)
+  after_added : some_within ≡ false → no_room ≡ false → list_after cap es l ≡ left es l ++ l ∷ []
+  unfolding list_after or_else
+  after_added s q = ap (or_else es) (put_added s q)
 
-abbrev pub Put : ℕ → List Literals → Literals → Fate → List ℕ → List ℕ → Type 0
-Put cap es l r ts fs = (r ≡ fate_of cap es l) × Holds cap (list_after cap es l) (length (list_after cap es l)) ts fs
+  -- what putting gives, by the fate and the list after it
+  pub put_fated : put cap es l ≡ put_as (fate_of cap es l) (list_after cap es l)
+  put_fated = at some_within no_room refl refl
+    where
+      both_known : (f : Fate) (us : List Literals) → fate_of cap es l ≡ f → list_after cap es l ≡ us
+          → put_as f us ≡ put_as (fate_of cap es l) (list_after cap es l)
+      both_known f us p q = sym (ap₂ put_as p q)
 
-module _ (cap n : ℕ) (ts fs : List ℕ) (l : Literals) (held : Held cap n ts fs) where
-  pub dropped : any_of (λ e. within e l) (entries_of n ts fs) ≡ true → Put cap (entries_of n ts fs) l Dropped ts fs
-  unfolding or_else
-  dropped s = (
-    sym (fate_dropped cap (entries_of n ts fs) l s),
-    at_length _ _ _ _ _ _ held (after_is cap (entries_of n ts fs) l (entries_of n ts fs) _ (put_dropped cap (entries_of n ts fs) l s) refl),
-  )
+      at : (a b : Bool) → some_within ≡ a → no_room ≡ b → put cap es l ≡ put_as (fate_of cap es l) (list_after cap es l)
+      at true b p q = put_dropped p ∙ both_known _ _ (fate_dropped p) (after_dropped p)
+      at false true p q = put_full p q ∙ both_known _ _ (fate_full p q) (after_full p q)
+      at false false p q = put_added p q ∙ both_known _ _ (fate_added p q) (after_added p q)
 
-  module _ (k : ℕ) (ts' fs' : List ℕ) (removed : Holds cap (left (entries_of n ts fs) l) k ts' fs')
-      (s : any_of (λ e. within e l) (entries_of n ts fs) ≡ false) where
-    pub full : k ≡ cap → Put cap (entries_of n ts fs) l Full ts' fs'
-    unfolding or_else
-    full e =
-        let c : k ≡ length (left (entries_of n ts fs) l) = removed.count_is in
-        let q : eqb (length (left (entries_of n ts fs) l)) cap ≡ true = eq-eqb _ _ (sym c ∙ e) in
-        let all : left (entries_of n ts fs) l ≡ entries_of n ts fs = keep_all _ (entries_of n ts fs)
-        (omega (arith, removed.count_is, held.room, length_entries_of n ts fs)) in (
-          sym (fate_full cap (entries_of n ts fs) l s q),
-          at_length _ _ _ _ _ _ removed
-              (after_is cap (entries_of n ts fs) l (entries_of n ts fs) _ (put_full cap (entries_of n ts fs) l s q) refl ∙ sym all),
-        )
-
-    pub placed : (k ≡ cap → ⊥) → Put cap (entries_of n ts fs) l (Added (n - k) (k + 1)) (set ts' k l.trues) (set fs' k l.falses)
-    unfolding or_else
-    placed e =
-        let c : k ≡ length (left (entries_of n ts fs) l) = removed.count_is in
-        let q : eqb (length (left (entries_of n ts fs) l)) cap ≡ false = ne_eqb _ _ (λ z. e (c ∙ z)) in
-        let lt : k < cap = omega (arith, removed.room) in
-        let d : n ≡ length (entries_of n ts fs) = sym (length_entries_of n ts fs) in (
-          ap₂ (λ (x y : ℕ). Added (x - y) (y + 1)) d c ∙ sym (fate_added cap (entries_of n ts fs) l s q),
-          at_length _ _ _ _ _ _ (holds_push removed lt l)
-              (after_is cap (entries_of n ts fs) l (left (entries_of n ts fs) l ++ l ∷ []) _ (put_added cap (entries_of n ts fs) l s q)
-              refl),
-        )
-
-    -- no more are left than there were
+  -- ---- the members that do not contain the candidate are left, k of n
+  module _ {rest : List Literals} {n k : ℕ} (is : rest ≡ left es l) (before : n ≡ length es) (remaining : k ≡ length rest) where
     pub fewer : k ≤ n
-    fewer = omega (arith, removed.count_is, keep_length (λ e. not (within l e)) (entries_of n ts fs), length_entries_of n ts fs)
+    fewer = omega (arith, ap length is, keep_length (λ e. not (within l e)) es)
 
--- ---- one candidate, and how many entries there are then
+    module _ (s : some_within ≡ false) where
+      full_is : k ≡ cap → no_room ≡ true
+      full_is e = eq-eqb _ _ (sym (remaining ∙ ap length is) ∙ e)
 
-put_all_one : (cap : ℕ) (s : List Literals) (c : Literals) → put cap s c ≡ put_all cap (c ∷ []) s
+      pub full_fate : k ≡ cap → Full ≡ fate_of cap es l
+      full_fate e = sym (fate_full s (full_is e))
+
+      pub full_after : k ≡ cap → n ≤ cap → rest ≡ list_after cap es l
+      full_after e most =
+          is ∙ keep_all _ es (omega (arith, ap length is)) ∙ sym (after_full s (full_is e))
+
+      room_is : (k ≡ cap → ⊥) → no_room ≡ false
+      room_is e = ne_eqb _ _ (λ z. e (remaining ∙ ap length is ∙ z))
+
+      pub added_fate : (k ≡ cap → ⊥) → Added (n - k) (k + 1) ≡ fate_of cap es l
+      added_fate e = ap₂ (λ (x y : ℕ). Added (x - y) (y + 1)) before (remaining ∙ ap length is) ∙ sym (fate_added s (room_is e))
+
+      pub added_after : (k ≡ cap → ⊥) → rest ++ l ∷ [] ≡ list_after cap es l
+      added_after e = ap (λ (x : List Literals). x ++ l ∷ []) is ∙ sym (after_added s (room_is e))
+
+-- ---- one candidate alone
+
+put_all_one : (cap : ℕ) (s : List Literals) (c : Literals) → put_all cap (c ∷ []) s ≡ put cap s c
 put_all_one cap s c = at (put cap s c)
   where
-    at : (o : Option (List Literals)) → o ≡ and_then o (λ r. some r)
+    at : (o : Option (List Literals)) → and_then o (λ r. some r) ≡ o
     at none = refl
     at (some r) = refl
 
-abbrev pub grown_after : ℕ → Fate → Grown
-grown_after n Dropped = grown.To n
-grown_after n (Added removed count) = grown.To count
-grown_after n Full = grown.Full
+module _ (cap : ℕ) (es : List Literals) (c : Literals) {f : Fate} {us : List Literals}
+    (value : f ≡ fate_of cap es c) (list : us ≡ list_after cap es c) where
+  gives : put_all cap (c ∷ []) es ≡ put_as f us
+  gives = put_all_one cap es c ∙ put_fated cap es c ∙ sym (ap₂ put_as value list)
 
-grew_of : (cap : ℕ) (es xs : List Literals) (n k : ℕ) (ts fs : List ℕ) → Holds cap es n ts fs → es ≡ xs → n ≡ k
-    → Grew cap (some xs) (grown.To k) ts fs
-grew_of cap es xs n k ts fs h e q =
-    let m : Holds cap xs k ts fs = subst (λ (y : List Literals). Holds cap y k ts fs) e (subst (λ (j : ℕ). Holds cap es j ts fs) q h) in
-    (ap some (sym (holds_entries m)), held_of m)
+  pub offered_full : {full : SlotsFull} → f ≡ Full → Puts cap (c ∷ []) es (Err full) us
+  offered_full e = record { grew = gives ∙ ap (λ (x : Fate). put_as x us) e }
 
-module _ (cap n : ℕ) (ts fs : List ℕ) (c : Literals) where
-  abbrev before : List Literals
-  before = entries_of n ts fs
-
-  grew_put : (ts' fs' : List ℕ) → Holds cap (list_after cap before c) (length (list_after cap before c)) ts' fs'
-      → Grew cap (put cap before c) (grown_after n (fate_of cap before c)) ts' fs'
-  unfolding or_else
-  grew_put ts' fs' h = at (any_of (λ e. within e c) before) (eqb (length (left before c)) cap) refl refl
+  pub offered : (f ≡ Full → ⊥) → Puts cap (c ∷ []) es (Ok tt) us
+  offered e = record { grew = gives ∙ room f e }
     where
-      known : (o : Option (List Literals)) (f : Fate) → put cap before c ≡ o → fate_of cap before c ≡ f
-          → Grew cap o (grown_after n f) ts' fs' → Grew cap (put cap before c) (grown_after n (fate_of cap before c)) ts' fs'
-      known o f p q r =
-          subst (λ (x : Option (List Literals)). Grew cap x (grown_after n (fate_of cap before c)) ts' fs') (sym p)
-          (subst (λ (x : Fate). Grew cap o (grown_after n x) ts' fs') (sym q) r)
+      room : (x : Fate) → (x ≡ Full → ⊥) → put_as x us ≡ some us
+      room Dropped e = refl
+      room (Added removed count) e = refl
+      room Full e = absurd (e refl)
 
-      at : (a b : Bool) → any_of (λ e. within e c) before ≡ a → eqb (length (left before c)) cap ≡ b
-          → Grew cap (put cap before c) (grown_after n (fate_of cap before c)) ts' fs'
-      at true b p q =
-          let e : list_after cap before c ≡ before = after_is cap before c before _ (put_dropped cap before c p) refl in
-          known (some before) Dropped (put_dropped cap before c p) (fate_dropped cap before c p)
-          (grew_of cap _ before _ n ts' fs' h e (ap length e ∙ length_entries_of n ts fs))
-      at false true p q = known none Full (put_full cap before c p q) (fate_full cap before c p q) refl
-      at false false p q =
-          let e : list_after cap before c ≡ left before c ++ c ∷ [] = after_is cap before c (left before c ++ c ∷ []) _
-          (put_added cap before c p q) refl in
-          known (some (left before c ++ c ∷ [])) (added cap before c) (put_added cap before c p q) (fate_added cap before c p q)
-          (grew_of cap _ (left before c ++ c ∷ []) _ (length (left before c) + 1) ts' fs' h e
-          (ap length e ∙ length-append (left before c) (c ∷ [])))
-
-pub offered : (n : ℕ) (ts fs : List ℕ) (c : Literals) (ts' fs' : List ℕ) (f g : Fate) → f ≡ fate_of (length ts) (entries_of n ts fs) c → f
-    ≡ g
-    → Holds (length ts) (list_after (length ts) (entries_of n ts fs) c) (length (list_after (length ts) (entries_of n ts fs) c)) ts' fs'
-    → Puts (c ∷ []) n ts fs (grown_after n g) ts' fs'
-offered n ts fs c ts' fs' f g p q h = record {
-  grew =
-      subst (λ (x : Option (List Literals)). Grew (length ts) x (grown_after n g) ts' fs') (put_all_one (length ts) (entries_of n ts fs) c)
-      (subst (λ (x : Fate). Grew (length ts) (put (length ts) (entries_of n ts fs) c) (grown_after n x) ts' fs') (sym p ∙ q)
-      (grew_put (length ts) n ts fs c ts' fs' h));
-}
+-- a candidate that some member lies in changes nothing
+pub already_there : {cap : ℕ} {es : List Literals} {c : Literals} → any_of (λ e. within e c) es ≡ true → Puts cap (c ∷ []) es (Ok tt) es
+already_there {cap} {es} {c} s = record { grew = put_all_one cap es c ∙ put_dropped cap es c s }

@@ -6,6 +6,7 @@ use mathlib.Core.Bool.{Bool, true, false, not, and-eq-true_iff}
 use mathlib.Core.List.{List, [], ◌∷◌, ◌++◌}
 use native.Mathlib.Omega.{arith}
 use lib.ListN.{length, drop}
+use Rattle.std.proofs.lemmas.List.{drop_all}
 use borrow.Author.Tests.{not-true}
 use Rattle.sheet.specs.declared.Literals.{Literals}
 use Rattle.sheet.specs.Literals.{single, sign, join, consistent, flip, literal, contains, members}
@@ -18,15 +19,13 @@ use Rattle.sheet.proofs.laws.literals.LiteralBytes.{next_found, members_nil}
 use Rattle.table.specs.Start.{falsify}
 use Rattle.table.specs.Step.{missing}
 use Rattle.table.proofs.laws.starts.LackedLiterals.{contains_lacks, members_lacks, members_first}
-use Rattle.sheet.specs.inner.Packed.{sets_at}
 use Rattle.table.proofs.laws.arrays.KeptMembers.{keep_append}
-use Rattle.sheet.proofs.laws.reader.PackedParts.{sets_end}
 use Rattle.table.proofs.laws.slots.ConsistentCandidates.{kept_one, left_out, stays_inconsistent, keep_split}
 
 -- ---- no alternative is left, or the piece is inconsistent
-pub chosen_all : (n : ℕ) (laid : List ℕ) (i : ℕ) (d : Literals) → n ≤ i → consistent d ≡ true
-    → d ∷ [] ≡ keep consistent (falsify (drop i (sets_at n laid)) d)
-chosen_all n laid i d h e = sym (ap (λ (x : List Literals). keep consistent (falsify x d)) (sets_end n laid i h) ∙ kept_one d e)
+pub chosen_all : (xs : List Literals) (i : ℕ) {d : Literals} {n : ℕ} → n ≡ length xs → n ≤ i → consistent d ≡ true
+    → d ∷ [] ≡ keep consistent (falsify (drop i xs) d)
+chosen_all xs i {d} l h e = sym (ap (λ (x : List Literals). keep consistent (falsify x d)) (drop_all i xs (omega arith)) ∙ kept_one d e)
 
 keep_none : {A : Type 0} (f : Literals → Bool) (g : A → List Literals) → ((x : A) → keep f (g x) ≡ []) → (xs : List A)
     → keep f (collect g xs) ≡ []
@@ -69,13 +68,22 @@ denied d l h =
       not_twice (sign l),
     ) refl
 
--- so the choice of a literal that is left is consistent
-pub chosen_steady : (d rest one f w : Literals) (l : ℕ) → consistent d ≡ true → Free rest d → l ≡ next rest 0 → l < 64 → one ≡ literal l
-    → f ≡ flip one → w ≡ join d f
-    → consistent w ≡ true
-chosen_steady d rest one f w l h g e k p q r =
-    let found : contains rest l ≡ true = ap (contains rest) e ∙ next_found rest 0 (omega (arith, e, k)) in
-    ap consistent (r ∙ ap (join d) (q ∙ ap flip p)) ∙ denied d l h ∙ ap not (g l found)
+-- the first literal l of those left is chosen: w is d with its complement
+pub record Chosen (d rest : Literals) (l : ℕ) (w : Literals) : Type 0 where
+  pub least : l ≡ next rest 0
+  pub found : l < 64
+  pub is : w ≡ join d (flip (literal l))
+
+pub chosen_by : {d rest one f w : Literals} {l : ℕ} → l ≡ next rest 0 → l < 64 → one ≡ literal l → f ≡ flip one → w ≡ join d f
+    → Chosen d rest l w
+chosen_by {d} e h p q r = record { least = e; found = h; is = r ∙ ap (join d) (q ∙ ap flip p) }
+
+-- it is consistent
+pub chosen_steady : {d rest w : Literals} {l : ℕ} → Chosen d rest l w → consistent d ≡ true → Free rest d → consistent w ≡ true
+chosen_steady {d} {rest} {w} {l} k h g =
+    let e = k.least in
+    let found : contains rest l ≡ true = ap (contains rest) e ∙ next_found rest 0 (omega (arith, k.found)) in
+    ap consistent k.is ∙ denied d l h ∙ ap not (g l found)
 
 -- what is left out has nothing to be kept
 keep_less : (f : Literals → Bool) (g : ℕ → List Literals) (b : ℕ → Bool) → ((x : ℕ) → b x ≡ false → keep f (g x) ≡ []) → (xs : List ℕ)
@@ -102,17 +110,16 @@ module _ (os : List Literals) (d : Literals) where
       ∙ ap (λ (x : List ℕ). keep consistent (collect (λ j. falsify os (join d (flip (literal j)))) x))
       (sym (ap (λ (x : Literals). members x 0) e ∙ members_lacks a d))
 
-  pub choices_step : (rest less one f w : Literals) (l : ℕ) → l ≡ next rest 0 → l < 64 → one ≡ literal l → f ≡ flip one → w ≡ join d f
-      → less ≡ minus rest one
+  pub choices_step : {rest less w : Literals} {l : ℕ} → Chosen d rest l w → less ≡ minus rest (literal l)
       → keep consistent (choices_of os rest d) ≡ keep consistent (falsify os w) ++ keep consistent (choices_of os less d)
   unfolding choices_of
-  choices_step rest less one f w l e h p q r s = keep_split (choices_of os rest d) (falsify os w) (choices_of os less d) split_up
+  choices_step {rest} {less} {w} {l} k s = keep_split (choices_of os rest d) (falsify os w) (choices_of os less d) split_up
     where
       split_up : choices_of os rest d ≡ falsify os w ++ choices_of os less d
       split_up =
-          ap (collect (λ j. falsify os (join d (flip (literal j))))) (members_first rest l e h)
+          ap (collect (λ j. falsify os (join d (flip (literal j))))) (members_first rest l k.least k.found)
           ∙ ap₂ (λ (x y : Literals). falsify os x ++ collect (λ j. falsify os (join d (flip (literal j)))) (members y 0))
-          (sym (r ∙ ap (join d) (q ∙ ap flip p))) (sym (s ∙ ap (minus rest) p))
+          (sym k.is) (sym s)
 
   pub choices_end : (rest : Literals) (l : ℕ) → l ≡ next rest 0 → 64 ≤ l → keep consistent (choices_of os rest d) ≡ []
   unfolding choices_of
@@ -120,9 +127,9 @@ module _ (os : List Literals) (d : Literals) where
       (members_nil rest 0 (omega (arith, e, h)))
 
 -- there are fewer literals
-pub choices_less : (rest less one : Literals) (l : ℕ) → l ≡ next rest 0 → l < 64 → one ≡ literal l → less ≡ minus rest one
+pub choices_less : {d rest w less : Literals} {l : ℕ} → Chosen d rest l w → less ≡ minus rest (literal l)
     → length (members less 0) < length (members rest 0)
-choices_less rest less one l e h p s =
-    let a = ap length (members_first rest l e h) in
-    let b = ap (λ (x : Literals). length (members x 0)) (s ∙ ap (minus rest) p) in
+choices_less {rest = rest} {l = l} k s =
+    let a = ap length (members_first rest l k.least k.found) in
+    let b = ap (λ (x : Literals). length (members x 0)) s in
     omega (arith, a, b)

@@ -1,11 +1,12 @@
 -- The ways of a oneof-clause, one chosen alternative after the other, the others made false. For `starts::widen_oneof`. Assumes nothing.
-use Prim.Native.Nat.{ℕ, ◌+◌, ◌<◌}
+use Prim.Native.Nat.{ℕ, ◌+◌, ◌≤◌, ◌<◌}
 use mathlib.Core.Path.{◌≡◌, refl, sym, ap, ap₂, ◌∙◌}
 use mathlib.Core.List.{List, [], ◌∷◌, ◌++◌}
 use native.Mathlib.Numerals.{add-one}
 use native.Mathlib.Omega.{arith}
 use lib.ListN.{length, drop, take, get_or}
 use lib.Seq.{drop-cons, take-suc}
+use Rattle.std.proofs.lemmas.List.{drop_all}
 use Rattle.sheet.specs.declared.Literals.{Literals}
 use Rattle.sheet.specs.Literals.{no_literal, join, consistent}
 use Rattle.sheet.specs.Lists.{keep, collect}
@@ -22,32 +23,36 @@ pub ways_start : (xs : List Literals) (d : Literals) → keep consistent (candid
 unfolding ways_from
 ways_start xs d = refl
 
-pub ways_step : (xs : List Literals) (d : Literals) (i : ℕ) → i < length xs
-    → keep consistent (ways_from xs d i) ≡ keep consistent (falsify (others i 0 xs) (join d (get_or xs i no_literal)))
-    ++ keep consistent (ways_from xs d (i + 1))
-unfolding ways_from
-ways_step xs d i lt = keep_split (ways_from xs d i) (falsify (others i 0 xs) (join d a)) (ways_from xs d (i + 1)) split_up
-  where
-    a : Literals
-    a = get_or xs i no_literal
+module _ (xs : List Literals) (d : Literals) {n i : ℕ} (l : n ≡ length xs) where
+  pub ways_step : i < n → keep consistent (ways_from xs d i) ≡ keep consistent (falsify (others i 0 xs) (join d (get_or xs i no_literal)))
+      ++ keep consistent (ways_from xs d (i + 1))
+  unfolding ways_from
+  ways_step lt = keep_split (ways_from xs d i) (falsify (others i 0 xs) (join d a)) (ways_from xs d (i + 1)) split_up
+    where
+      a : Literals
+      a = get_or xs i no_literal
 
-    way : Pick → List Literals
-    way k = falsify k.rest (join d k.chosen)
+      way : Pick → List Literals
+      way k = falsify k.rest (join d k.chosen)
 
-    zero_plus : i ≡ 0 + i
-    zero_plus = omega arith
+      here : i < length xs
+      here = omega arith
 
-    more : take i xs ++ a ∷ [] ≡ take (i + 1) xs
-    more = sym (take-suc xs i no_literal lt) ∙ ap (λ (k : ℕ). take k xs) (sym (add-one i))
+      zero_plus : i ≡ 0 + i
+      zero_plus = omega arith
 
-    split_up : ways_from xs d i ≡ falsify (others i 0 xs) (join d a) ++ ways_from xs d (i + 1)
-    split_up =
-        ap (λ (r : List Literals). collect way (picks (take i xs) r)) (drop-cons xs i no_literal lt)
-        ∙ ap₂ (λ (y z : List Literals). y ++ z)
-        (ap (λ (y : List Literals). falsify y (join d a)) (sym (ap (λ (k : ℕ). others k 0 xs) zero_plus ∙ without 0 i xs)))
-        (ap₂ (λ (y z : List Literals). collect way (picks y z)) more (ap (λ (k : ℕ). drop k xs) (sym (add-one i))))
+      more : take i xs ++ a ∷ [] ≡ take (i + 1) xs
+      more = sym (take-suc xs i no_literal here) ∙ ap (λ (k : ℕ). take k xs) (sym (add-one i))
 
-pub ways_end : (xs : List Literals) (d : Literals) (i : ℕ) → drop i xs ≡ [] → keep consistent (ways_from xs d i) ≡ []
-unfolding ways_from
-ways_end xs d i e =
-    ap (λ (r : List Literals). keep consistent (collect (λ k. falsify k.rest (join d k.chosen)) (picks (take i xs) r))) e
+      split_up : ways_from xs d i ≡ falsify (others i 0 xs) (join d a) ++ ways_from xs d (i + 1)
+      split_up =
+          ap (λ (r : List Literals). collect way (picks (take i xs) r)) (drop-cons xs i no_literal here)
+          ∙ ap₂ (λ (y z : List Literals). y ++ z)
+          (ap (λ (y : List Literals). falsify y (join d a)) (sym (ap (λ (k : ℕ). others k 0 xs) zero_plus ∙ without 0 i xs)))
+          (ap₂ (λ (y z : List Literals). collect way (picks y z)) more (ap (λ (k : ℕ). drop k xs) (sym (add-one i))))
+
+  pub ways_end : n ≤ i → keep consistent (ways_from xs d i) ≡ []
+  unfolding ways_from
+  ways_end le =
+      ap (λ (r : List Literals). keep consistent (collect (λ k. falsify k.rest (join d k.chosen)) (picks (take i xs) r)))
+      (drop_all i xs (omega arith))

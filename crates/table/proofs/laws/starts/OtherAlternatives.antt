@@ -1,17 +1,16 @@
--- The alternatives of a clause but one: left out of the list, and laid out as masks one after the other. For `starts::lay_others` and
--- `starts::widen_oneof`. Assumes nothing.
-use Prim.Native.Nat.{ℕ, zero, suc, ◌+◌, ◌*◌, ◌≤◌, ◌<◌}
+-- The alternatives of a clause but one: left out of the list, and put into a list of their own one after the other. For `starts::others`
+-- and `starts::widen_oneof`. Assumes nothing.
+use Prim.Native.Nat.{ℕ, zero, suc, ◌+◌, ◌≤◌, ◌<◌}
 use mathlib.Core.Path.{◌≡◌, refl, sym, ap, ◌∙◌}
 use mathlib.Core.Bool.{Bool, cond}
 use mathlib.Core.List.{List, [], ◌∷◌, ◌++◌, append_assoc, append-nil}
-use native.Mathlib.Numerals.{add-one}
 use native.Mathlib.Omega.{arith}
-use lib.ListN.{length, set, drop, take}
+use lib.ListN.{length, get_or, drop, take, length-append}
+use Rattle.std.proofs.lemmas.List.{drop_more, drop_all}
 use borrow.Author.Tests.{eq-eqb, ne_eqb}
 use Rattle.sheet.specs.declared.Literals.{Literals}
+use Rattle.sheet.specs.Literals.{no_literal}
 use Rattle.table.specs.inner.Starts.{others}
-use Rattle.sheet.specs.inner.Packed.{sets_at}
-use Rattle.sheet.proofs.laws.reader.PackedParts.{sets_more}
 
 -- ---- left out of the list
 
@@ -39,33 +38,31 @@ without at (suc j) (x ∷ xs) =
     ∙ ap (λ (k : ℕ). x ∷ others k (at + 1) xs) e
     ∙ ap (λ (r : List Literals). x ∷ r) (without (at + 1) j xs)
 
--- ---- the alternatives but one, laid out as masks: k of those below j, and those from j on are still to come
-pub record Laying (xs : List Literals) (i j k : ℕ) (laid : List ℕ) : Type 0 where
-  pub few : k ≤ j
-  pub is : sets_at k laid ++ others i j (drop j xs) ≡ others i 0 xs
+-- ---- the alternatives but one, in a list of their own: those below j are there, and those from j on are still to come
+pub record Laying (xs : List Literals) (i j : ℕ) (rest : List Literals) : Type 0 where
+  pub few : length rest ≤ j
+  pub is : rest ++ others i j (drop j xs) ≡ others i 0 xs
 
-pub laying_start : (xs : List Literals) (i : ℕ) (laid : List ℕ) → Laying xs i 0 0 laid
-unfolding sets_at
-laying_start xs i laid = record { few = omega arith; is = refl }
+module _ (xs : List Literals) {i j n : ℕ} {rest : List Literals} (l : n ≡ length xs) (g : Laying xs i j rest) where
+  here : j < n → drop j xs ≡ get_or xs j no_literal ∷ drop (j + 1) xs
+  here h = drop_more xs j no_literal (omega arith)
 
-module _ (xs : List Literals) (i j k : ℕ) (laid : List ℕ) (a : Literals) (g : Laying xs i j k laid) where
-  pub laying_one : drop j xs ≡ a ∷ drop (j + 1) xs → (j ≡ i → ⊥) → 2 * k + 2 ≤ length laid
-      → Laying xs i (j + 1) (k + 1) (set (set laid (2 * k) a.trues) (2 * k + 1) a.falses)
-  laying_one e n h = record {
-    few = omega (arith, g.few);
-    is = ap (λ (y : List Literals). y ++ others i (j + 1) (drop (j + 1) xs))
-        (ap (λ (m : ℕ). sets_at m (set (set laid (2 * k) a.trues) (2 * k + 1) a.falses)) (add-one k) ∙ sets_more k laid a h)
-        ∙ append_assoc (sets_at k laid) (a ∷ []) (others i (j + 1) (drop (j + 1) xs))
-        ∙ ap (λ (y : List Literals). sets_at k laid ++ y) (sym (others_keep i j a (drop j xs) (drop (j + 1) xs) e n))
+  pub laying_one : {a : Literals} → j < n → a ≡ get_or xs j no_literal → (j ≡ i → ⊥) → Laying xs i (j + 1) (rest ++ a ∷ [])
+  laying_one {a} h e ne = record {
+    few = omega (arith, g.few, length-append rest (a ∷ []));
+    is = append_assoc rest (a ∷ []) (others i (j + 1) (drop (j + 1) xs))
+        ∙ ap (λ (y : List Literals). rest ++ y)
+        (ap (λ (x : Literals). x ∷ others i (j + 1) (drop (j + 1) xs)) e ∙ sym (others_keep i j _ (drop j xs) _ (here h) ne))
         ∙ g.is;
   }
 
-  pub laying_none : drop j xs ≡ a ∷ drop (j + 1) xs → j ≡ i → Laying xs i (j + 1) k laid
-  laying_none e n = record {
+  pub laying_none : j < n → j ≡ i → Laying xs i (j + 1) rest
+  laying_none h e = record {
     few = omega (arith, g.few);
-    is = ap (λ (y : List Literals). sets_at k laid ++ y) (sym (others_skip i j a (drop j xs) (drop (j + 1) xs) e n)) ∙ g.is;
+    is = ap (λ (y : List Literals). rest ++ y) (sym (others_skip i j _ (drop j xs) _ (here h) e)) ∙ g.is;
   }
 
-pub laying_end : (xs : List Literals) (i j k : ℕ) (laid : List ℕ) → Laying xs i j k laid → drop j xs ≡ [] → sets_at k laid ≡ others i 0 xs
-laying_end xs i j k laid g e =
-    sym (append-nil (sets_at k laid)) ∙ ap (λ (y : List Literals). sets_at k laid ++ others i j y) (sym e) ∙ g.is
+  pub laying_end : n ≤ j → rest ≡ others i 0 xs
+  laying_end h =
+      let e : drop j xs ≡ [] = drop_all j xs (omega arith) in
+      sym (append-nil rest) ∙ ap (λ (y : List Literals). rest ++ others i j y) (sym e) ∙ g.is

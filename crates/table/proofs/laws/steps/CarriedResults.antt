@@ -1,18 +1,19 @@
 -- What is carried down where a piece is split, one condition after the other: the results of the conditions that were passed. For
 -- `steps::skip_decided`, `steps::split`, `steps::branch` and `steps::branch_all`. Assumes nothing.
-use mathlib.Core.Path.{◌≡◌, refl, sym, ap, ap₂, ◌∙◌, subst}
+use mathlib.Core.Path.{◌≡◌, refl, sym, ap, ap₂, ◌∙◌}
 use mathlib.Core.Bool.{Bool, true, false, not, ◌||◌, and-eq-true_iff, true≢false}
 use mathlib.Core.List.{List, [], ◌∷◌, ◌++◌, map, append-nil}
-use Prim.Native.Nat.{ℕ, zero, suc, ◌+◌, ◌/◌, ◌<◌}
+use Prim.Native.Nat.{ℕ, zero, suc, ◌+◌, ◌/◌, ◌<◌, ◌≤◌}
 use native.Mathlib.Numerals.{add-one}
 use native.Mathlib.Omega.{arith}
 use borrow.Author.Tests.{not-true}
-use lib.ListN.{take, drop, take-append-drop}
+use lib.ListN.{length, get_or, take, drop, take-append-drop, drop_of_length-le}
+use Rattle.std.proofs.lemmas.List.{drop_more, take_more}
+use Rattle.std.specs.Prelude.{Result}
 use Rattle.sheet.specs.declared.Literals.{Literals}
 use Rattle.sheet.specs.declared.Effect.{Effect}
 use Rattle.sheet.specs.Literals.{no_literal, mem, within, clash, consistent, join, flip, replace, single, sign, literal, contains}
-use Rattle.sheet.specs.Lists.{All}
-use Rattle.sheet.proofs.laws.base.ListFacts.{all_parts}
+use Rattle.sheet.proofs.laws.base.ListFacts.{all_at}
 use lib.Dec.{T}
 use Rattle.sheet.proofs.laws.base.Bools.{T_true, true_T, or_right, not_twice}
 use Rattle.sheet.proofs.laws.literals.LiteralSets.{within_of, within_refl, within_trans, within_join_l, within_join_r, join_comm, join_assoc, clash_here, clash_sym, clash_within, clash_single, consistent_clash, consistent_join, consistent_single, mem_self}
@@ -20,14 +21,15 @@ use Rattle.sheet.proofs.laws.literals.LiteralBytes.{next_found}
 use Rattle.sheet.proofs.laws.literals.ProperSets.{flip_literal}
 use Rattle.table.specs.Worlds.{add_result, results}
 use Rattle.table.specs.Step.{pieces, image}
-use Rattle.table.specs.declared.slots.Grown.{Grown}
+use Rattle.table.specs.declared.slots.Full.{Full}
 use Rattle.table.specs.declared.steps.Undecided.{Undecided}
-use Rattle.table.specs.inner.Slots.{Puts}
-use Rattle.table.specs.inner.Carry.{Steady, Carried, Skips, part_at, carried_at}
+use Rattle.table.specs.inner.Puts.{Puts}
+use Rattle.table.specs.inner.Carry.{Steady, Carried, Splits, Skips, SplitFits, part_at, carried_at}
 use Rattle.sheet.specs.inner.Masks.{minus}
-use Rattle.table.proofs.laws.slots.PutLoops.{puts_is}
+use Rattle.sheet.specs.inner.Packed.{no_effect}
+use Rattle.table.proofs.laws.slots.Putting.{puts_is}
 use Rattle.table.proofs.laws.starts.LackedLiterals.{contains_lacks}
-use Rattle.table.proofs.laws.steps.PieceWalk.{Turn, at_leaf, at_whole}
+use Rattle.table.proofs.laws.steps.PieceWalk.{Turn, parts_from, parts_start, at_leaf, at_whole}
 
 -- ---- the results of one effect more
 swapped : (a b : Bool) (r s t : Literals) → add_result a r (add_result b s t) ≡ add_result b s (add_result a r t)
@@ -42,12 +44,6 @@ results_more (f ∷ es) e q =
     ap (add_result (within f.condition q) f.result) (results_more es e q)
     ∙ swapped (within f.condition q) (within e.condition q) f.result e.result (results es q)
 
-take_more : (es hs : List Effect) (i : ℕ) (e : Effect) → drop i es ≡ e ∷ hs → take (suc i) es ≡ take i es ++ e ∷ []
-take_more [] hs zero e q = let z : ◌≡◌ {A = ℕ} 0 1 = cc in absurd (omega arith)
-take_more [] hs (suc i) e q = let z : ◌≡◌ {A = ℕ} 0 1 = cc in absurd (omega arith)
-take_more (x ∷ es) hs zero e q = cc
-take_more (x ∷ es) hs (suc i) e q = ap (λ (r : List Effect). x ∷ r) (take_more es hs i e q)
-
 -- a consistent set contains nothing that clashes with a part of it
 outside : (c p q : Literals) → clash c p ≡ true → consistent q ≡ true → within p q ≡ true → within c q ≡ false
 outside c p q k s w = go (within c q) refl
@@ -58,17 +54,17 @@ outside c p q k s w = go (within c q) refl
         absurd (true≢false (sym s ∙ consistent_clash q
         ∙ ap not (clash_within p q q w (clash_sym p q ∙ clash_within c q p e k))))
 
--- what is true of each member is true of the one at i
-pub all_here : {A : Type 0} (P : A → Type 0) (xs ys : List A) (i : ℕ) (x : A) → drop i xs ≡ x ∷ ys → All P xs → P x
-all_here P xs ys i x q h = (subst (All P) q (all_parts P (take i xs) (drop i xs) (rw take-append-drop h)).1).0
-
 -- no effect was passed
 pub carried_start : (es : List Effect) (d : Literals) → Steady es → consistent d ≡ true → Carried es 0 d (record { trues = 0; falses = 0 })
 unfolding no_literal
 carried_start es d h s = record { piece_steady = s; steady = h; sum_is = λ q t k. refl }
 
 -- ---- past the effect at i, to a piece p that contains the piece d
-module _ (es hs : List Effect) (i : ℕ) (e : Effect) (at : drop i es ≡ e ∷ hs) (d sum : Literals) (c : Carried es i d sum) where
+module _ (es : List Effect) (i : ℕ) (e : Effect) (lt : i < length es) (is : e ≡ get_or es i no_effect) (d sum : Literals)
+    (c : Carried es i d sum) where
+  here : drop i es ≡ e ∷ drop (i + 1) es
+  here = rw is (drop_more es i no_effect lt)
+
   past : (b : Bool) (p : Literals) → consistent p ≡ true → T (within d p)
       → ((q : Literals) → consistent q ≡ true → within p q ≡ true → within e.condition q ≡ b)
       → Carried es (i + 1) p (add_result b e.result sum)
@@ -77,8 +73,7 @@ module _ (es hs : List Effect) (i : ℕ) (e : Effect) (at : drop i es ≡ e ∷ 
         piece_steady = s;
         steady = c.steady;
         sum_is = λ q t k.
-            ap (λ (j : ℕ). results (take j es) q) (add-one i)
-            ∙ ap (λ (x : List Effect). results x q) (take_more es hs i e at)
+            ap (λ (x : List Effect). results x q) (take_more es i no_effect lt ∙ ap (λ (x : Effect). take i es ++ x ∷ []) (sym is))
             ∙ results_more (take i es) e q
             ∙ ap₂ (λ (x : Bool) (r : Literals). add_result x e.result r) (f q t k)
             (c.sum_is q t (T_true (within d q) (within_trans d p q w (true_T (within p q) k))));
@@ -95,7 +90,7 @@ module _ (es hs : List Effect) (i : ℕ) (e : Effect) (at : drop i es ≡ e ∷ 
   past_clash h = past false d c.piece_steady (within_refl d) (λ q t k. outside e.condition d q h t k)
 
   condition_steady : consistent e.condition ≡ true
-  condition_steady = all_here (λ e. consistent e.condition ≡ true) es hs i e at c.steady
+  condition_steady = rw is (all_at (λ e. consistent e.condition ≡ true) es i no_effect lt c.steady)
 
   -- the piece is joined with the whole condition
   past_joined : clash e.condition d ≡ false → (w more : Literals) → w ≡ join d e.condition → more ≡ join e.result sum
@@ -131,32 +126,51 @@ module _ (es hs : List Effect) (i : ℕ) (e : Effect) (at : drop i es ≡ e ∷ 
       → (w more : Literals)
       → w ≡ part_at d e.condition t → more ≡ carried_at sum e.result t → Carried es (i + 1) w more
   unfolding part_at carried_at
-  past_part m is k zero h f w more p r = past_joined k w more p r
-  past_part m is k (suc l) h f w more p r =
+  past_part m q k zero h f w more p r = past_joined k w more p r
+  past_part m q k (suc l) h f w more p r =
       let a = f l (sym (add-one l)) in
       let found : contains m l ≡ true = ap (contains m) (sym a) ∙ next_found m l (rw a (omega (arith, h))) in
-      let both = (and-eq-true_iff _ _).0 (sym (contains_lacks e.condition d l) ∙ ap (λ (x : Literals). contains x l) (sym is) ∙ found) in
+      let both = (and-eq-true_iff _ _).0 (sym (contains_lacks e.condition d l) ∙ ap (λ (x : Literals). contains x l) (sym q) ∙ found) in
       rw (p, r) (past_without l both.0 (not-true _ both.1))
+
+-- ---- a piece that the effect e, the one at u, splits; it lacks the literals m of its condition
+module _ {es : List Effect} {u : Undecided} {d : Literals} (f : SplitFits es u d) {e : Effect} (is : e ≡ get_or es u.at no_effect)
+    {m : Literals} (q : m ≡ minus e.condition d) where
+  splits : Splits e.condition d
+  splits = rw is f.splits
+
+  -- what becomes of it, by all parts
+  pub split_parts : map (image es) (pieces (drop u.at es) d) ≡ parts_from es (drop (u.at + 1) es) e.condition d m 0
+  split_parts =
+      parts_start es (drop u.at es) (drop (u.at + 1) es) e d (here es u.at e f.below is d u.results f.carried) m
+      (rw (splits.lacking, splits.apart)) q
+
+  -- what is carried into part t
+  pub split_carried : {t : ℕ} → t < 65 → Turn m t → {w more : Literals} → w ≡ part_at d e.condition t
+      → more ≡ carried_at u.results e.result t → Carried es (u.at + 1) w more
+  split_carried {t} h g {w} {more} p r = past_part es u.at e f.below is d u.results f.carried m q splits.apart t h g w more p r
 
 -- ---- a walk from `at` on that left the piece whole
 pub settles_start : (es : List Effect) (at : ℕ) (d sum : Literals) → Carried es at d sum → Skips es at d (record { at = at; results = sum })
 settles_start es at d sum c = record { upto = omega arith; carried = c; whole = refl }
 
 module _ (es : List Effect) (at : ℕ) (d : Literals) (r : Undecided) (g : Skips es at d r) where
-  pub settles_puts : (k : ℕ) (ts fs : List ℕ) (o : Grown) (us gs : List ℕ)
-      → Puts (map (image es) (pieces (drop r.at es) d)) k ts fs o us gs
-      → Puts (map (image es) (pieces (drop at es) d)) k ts fs o us gs
-  settles_puts k ts fs o us gs w = puts_is (ap (map (image es)) g.whole) w
+  pub settles_puts : {cap : ℕ} {xs us : List Literals} {o : Result Unit Full}
+      → Puts cap (map (image es) (pieces (drop r.at es) d)) xs o us
+      → Puts cap (map (image es) (pieces (drop at es) d)) xs o us
+  settles_puts w = puts_is (ap (map (image es)) g.whole) w
 
   -- no effect is left
-  pub settles_leaf : drop r.at es ≡ [] → (w : Literals) → w ≡ replace d r.results
-      → (k : ℕ) (ts fs : List ℕ) (o : Grown) (us gs : List ℕ)
-      → Puts (w ∷ []) k ts fs o us gs → Puts (map (image es) (pieces (drop at es) d)) k ts fs o us gs
+  pub settles_leaf : length es ≤ r.at → (w : Literals) → w ≡ replace d r.results
+      → {cap : ℕ} {xs us : List Literals} {o : Result Unit Full}
+      → Puts cap (w ∷ []) xs o us → Puts cap (map (image es) (pieces (drop at es) d)) xs o us
   unfolding image
-  settles_leaf q w e k ts fs o us gs p =
-      settles_puts k ts fs o us gs
-      (puts_is (ap (λ (x : Literals). x ∷ []) (e ∙ ap (replace d) (sym last)) ∙ at_leaf es (drop r.at es) d q) p)
+  settles_leaf h w e p =
+      settles_puts (puts_is (ap (λ (x : Literals). x ∷ []) (e ∙ ap (replace d) (sym last)) ∙ at_leaf es (drop r.at es) d q) p)
     where
+      q : drop r.at es ≡ []
+      q = drop_of_length-le es {i = r.at} h
+
       all : take r.at es ≡ es
       all = sym (append-nil (take r.at es)) ∙ ap (λ (x : List Effect). take r.at es ++ x) (sym q) ∙ take-append-drop r.at es
 
@@ -164,22 +178,21 @@ module _ (es : List Effect) (at : ℕ) (d : Literals) (r : Undecided) (g : Skips
       last = ap (λ (x : List Effect). results x d) (sym all)
           ∙ g.carried.sum_is d g.carried.piece_steady (T_true (within d d) (within_refl d))
 
-  module _ (e : Effect) (q : drop r.at es ≡ e ∷ drop (r.at + 1) es) where
+  module _ (e : Effect) (lt : r.at < length es) (is : e ≡ get_or es r.at no_effect) where
     on : (more : Literals) → (within e.condition d || clash e.condition d) ≡ true → Carried es (r.at + 1) d more
         → Skips es at d (record { at = r.at + 1; results = more })
     on more t c =
         record {
           upto = omega (arith, g.upto);
           carried = c;
-          whole = at_whole es (drop r.at es) (drop (r.at + 1) es) e d q t ∙ g.whole;
+          whole = at_whole es (drop r.at es) (drop (r.at + 1) es) e d (here es r.at e lt is d r.results g.carried) t ∙ g.whole;
         }
 
     pub on_within : (more : Literals) → within e.condition d ≡ true → more ≡ join e.result r.results
         → Skips es at d (record { at = r.at + 1; results = more })
-    on_within more h m = on more (rw h) (rw m (past_within es (drop (r.at + 1) es) r.at e q d r.results g.carried h))
+    on_within more h m = on more (rw h) (rw m (past_within es r.at e lt is d r.results g.carried h))
 
     pub on_clash : (more : Literals) → clash e.condition d ≡ true → more ≡ r.results
         → Skips es at d (record { at = r.at + 1; results = more })
     on_clash more h m =
-        on more (or_right (within e.condition d) (clash e.condition d) h)
-        (rw m (past_clash es (drop (r.at + 1) es) r.at e q d r.results g.carried h))
+        on more (or_right (within e.condition d) (clash e.condition d) h) (rw m (past_clash es r.at e lt is d r.results g.carried h))

@@ -1,5 +1,5 @@
 -- Contradictory results by pairs: some piece has them exactly if two effects with clashing results can hold together. For
--- `pairs_contradict` in proofs/Demands and for `steps::step_at` (`steps/StepArrays`). Assumes nothing.
+-- `pairs_contradict` in proofs/Demands and for `steps::step_at` (`steps/StepOutcomes`). Assumes nothing.
 use mathlib.Core.Path.{◌≡◌, refl, sym, subst, ap₂, ◌∙◌, ap}
 use mathlib.Core.Bool.{Bool, true, false, not, ◌&&◌, ◌||◌, and-false}
 use mathlib.Core.List.{List, [], ◌∷◌, ◌++◌}

@@ -2,6 +2,9 @@
 use mathlib.Core.Path.{◌≡◌, refl, sym, ap, ◌∙◌}
 use mathlib.Core.Bool.{Bool, true, false, ◌&&◌, ◌||◌}
 use mathlib.Core.List.{List, [], ◌∷◌}
+use Prim.Native.Nat.{ℕ, ◌+◌, ◌<◌, ◌≤◌}
+use lib.ListN.{length, get_or, drop, drop_of_length-le}
+use Rattle.std.proofs.lemmas.List.{at_drop_more}
 use Rattle.sheet.specs.declared.Literals.{Literals}
 use Rattle.sheet.specs.declared.Effect.{Effect}
 use Rattle.sheet.specs.Literals.{join, clash, consistent}
@@ -29,29 +32,22 @@ module _ {A : Type 0} where
   any_swap p xs [] = no_any xs
   any_swap p xs (y ∷ ys) = any_or (λ x. p x y) (λ x. any_of (p x) ys) xs ∙ ap (λ (b : Bool). any_of (λ x. p x y) xs || b) (any_swap p xs ys)
 
--- ---- one pair of effects: their results clash, or they do not
-module _ (e f : Effect) (t : List Literals) where
-  opposed_if : (k : Bool) → clash e.result f.result ≡ k
-      → any_of (λ d. opposed e d f) t ≡ any_of (λ d. k && consistent (join d (join e.condition f.condition))) t
-  opposed_if k h = ap (λ (b : Bool). any_of (λ d. b && consistent (join d (join e.condition f.condition))) t) h
+-- ---- two effects whose results do not clash are opposed nowhere
+pub agreeing : (e f : Effect) (t : List Literals) → clash e.result f.result ≡ false → any_of (λ d. opposed e d f) t ≡ false
+agreeing e f t h = ap (λ (b : Bool). any_of (λ d. b && consistent (join d (join e.condition f.condition))) t) h ∙ no_any t
 
-  pub clashing : (c : Literals) (b : Bool) → clash e.result f.result ≡ true → c ≡ join e.condition f.condition
-      → b ≡ any_of (λ d. consistent (join d c)) t → b ≡ any_of (λ d. opposed e d f) t
-  clashing c b h q r = r ∙ ap (λ (x : Literals). any_of (λ d. consistent (join d x)) t) q ∙ sym (opposed_if true h)
-
-  pub agreeing : clash e.result f.result ≡ false → false ≡ any_of (λ d. opposed e d f) t
-  agreeing h = sym (opposed_if false h ∙ no_any t)
-
--- ---- the effects es are e and those after it, and b is whether e is opposed to one of them; or there are none
-module _ (es : List Effect) (t : List Literals) where
-  pub pairs_turn : (e : Effect) (hs : List Effect) (b v : Bool) → es ≡ e ∷ hs → b ≡ any_of (λ f. any_of (λ d. opposed e d f) t) hs → b ≡ v
-      → any_of (λ d. contradicts es d) t ≡ (v || any_of (λ d. contradicts hs d) t)
+-- ---- the effects from i on: the one at i, e, is opposed to one of those after it, or two of those after it are opposed; none is left
+module _ (es : List Effect) (t : List Literals) (i : ℕ) where
+  pub pairs_turn : (d e : Effect) → i < length es → e ≡ get_or es i d
+      → any_of (contradicts (drop i es)) t
+      ≡ (any_of (λ f. any_of (λ w. opposed e w f) t) (drop (i + 1) es) || any_of (contradicts (drop (i + 1) es)) t)
   unfolding contradicts
-  pairs_turn e hs b v q is k =
-      ap (λ (x : List Effect). any_of (λ d. contradicts x d) t) q
-      ∙ any_or (λ d. any_of (opposed e d) hs) (λ d. contradicts hs d) t
-      ∙ ap (λ (x : Bool). x || any_of (λ d. contradicts hs d) t) (any_swap (opposed e) t hs ∙ sym is ∙ k)
+  pairs_turn d e h is =
+      at_drop_more (λ (x : List Effect). any_of (contradicts x) t) es i d h
+      ∙ ap (λ (x : Effect). any_of (contradicts (x ∷ drop (i + 1) es)) t) (sym is)
+      ∙ any_or (λ x. any_of (opposed e x) (drop (i + 1) es)) (contradicts (drop (i + 1) es)) t
+      ∙ ap (λ (x : Bool). x || any_of (contradicts (drop (i + 1) es)) t) (any_swap (opposed e) t (drop (i + 1) es))
 
-  pub pairs_end : es ≡ [] → any_of (λ d. contradicts es d) t ≡ false
+  pub pairs_end : length es ≤ i → any_of (contradicts (drop i es)) t ≡ false
   unfolding contradicts
-  pairs_end q = ap (λ (x : List Effect). any_of (λ d. contradicts x d) t) q ∙ no_any t
+  pairs_end h = ap (λ (x : List Effect). any_of (contradicts x) t) (drop_of_length-le es {i = i} h) ∙ no_any t

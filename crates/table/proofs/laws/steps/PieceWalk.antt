@@ -15,10 +15,8 @@ use Rattle.sheet.proofs.laws.literals.LiteralBytes.{scan, next_end, next_here, n
 use Rattle.table.specs.Step.{split_by, split, pieces, image}
 use Rattle.table.specs.inner.Carry.{part_at}
 use Rattle.table.proofs.laws.starts.LackedLiterals.{members_lacks}
-use lib.ListN.{drop}
-use Rattle.table.specs.Entries.{entries_of}
-use Rattle.table.specs.inner.Slots.{slot}
-use Rattle.table.proofs.laws.arrays.EntryLoops.{entries_next, entries_done}
+use lib.ListN.{length, get_or, drop, drop_of_length-le}
+use Rattle.std.proofs.lemmas.List.{at_drop_more}
 
 -- the next literal is one
 next_fixed : (c : Literals) (l m : ℕ) → m ≡ next c l → next c m ≡ m
@@ -88,31 +86,34 @@ module _ (c d m : Literals) where
       (members_loop m l (f l (sym (add-one l))) (omega (arith, h)) ∙ ap (λ (x : ℕ). l ∷ members m x) (ap (next m) (add-one l) ∙ sym q))
       ∙ ap (λ (x : ℕ). join d (flip (literal l)) ∷ part_list c d m x) (sym (add-one n))
 
-  pub parts_turn : (es hs : List Effect) (t n : ℕ) → t < 65 → Turn m t → n ≡ next m t → (w : Literals) → w ≡ part_at d c t
+-- ---- the parts from turn t on
+module _ (es hs : List Effect) (c d m : Literals) (t : ℕ) where
+  pub parts_turn : t < 65 → Turn m t → {n : ℕ} → n ≡ next m t → {w : Literals} → w ≡ part_at d c t
       → parts_from es hs c d m t ≡ map (image es) (pieces hs w) ++ parts_from es hs c d m (n + 1)
   unfolding parts_from
-  parts_turn es hs t n h f q w p =
-      ap (λ (x : List Literals). map (image es) (collect (pieces hs) x)) (list_turn t n h f q)
+  parts_turn h f {n} q {w} p =
+      ap (λ (x : List Literals). map (image es) (collect (pieces hs) x)) (list_turn c d m t n h f q)
       ∙ map-append (image es) (pieces hs (part_at d c t)) (collect (pieces hs) (part_list c d m (n + 1)))
       ∙ ap (λ (x : Literals). map (image es) (pieces hs x) ++ parts_from es hs c d m (n + 1)) (sym p)
 
-  pub parts_end : (es hs : List Effect) (t : ℕ) → 65 ≤ t → parts_from es hs c d m t ≡ []
-  unfolding parts_from part_list
-  parts_end es hs zero h = absurd (omega (arith, h))
-  parts_end es hs (suc l) h =
-      ap (λ (x : List ℕ). map (image es) (collect (pieces hs) (map (λ j. join d (flip (literal j))) x)))
-      (members_end m l (omega (arith, h)))
+pub parts_end : (es hs : List Effect) (c d m : Literals) (t : ℕ) → 65 ≤ t → parts_from es hs c d m t ≡ []
+unfolding parts_from part_list
+parts_end es hs c d m zero h = absurd (omega (arith, h))
+parts_end es hs c d m (suc l) h =
+    ap (λ (x : List ℕ). map (image es) (collect (pieces hs) (map (λ j. join d (flip (literal j))) x)))
+    (members_end m l (omega (arith, h)))
 
 -- ---- the entries from i on, one after the other
-module _ (es : List Effect) (n : ℕ) (ts fs : List ℕ) (i : ℕ) where
+module _ (es : List Effect) (xs : List Literals) (i : ℕ) where
   abbrev images : List Literals → List Literals
-  images xs = map (image es) (collect (pieces es) xs)
+  images ys = map (image es) (collect (pieces es) ys)
 
-  pub images_step : (e : Literals) → i < n → e ≡ slot ts fs i → images (drop i (entries_of n ts fs))
-      ≡ map (image es) (pieces es e) ++ images (drop (i + 1) (entries_of n ts fs))
-  images_step e lt read =
-      ap images (entries_next n ts fs i e lt read)
-      ∙ map-append (image es) (pieces es e) (collect (pieces es) (drop (i + 1) (entries_of n ts fs)))
+  pub images_at : (d : Literals) → i < length xs → {e : Literals} → e ≡ get_or xs i d
+      → images (drop i xs) ≡ map (image es) (pieces es e) ++ images (drop (i + 1) xs)
+  images_at d h {e} is =
+      at_drop_more images xs i d h
+      ∙ map-append (image es) (pieces es (get_or xs i d)) (collect (pieces es) (drop (i + 1) xs))
+      ∙ ap (λ (x : Literals). map (image es) (pieces es x) ++ images (drop (i + 1) xs)) (sym is)
 
-  pub images_end : n ≤ i → images (drop i (entries_of n ts fs)) ≡ []
-  images_end le = ap images (entries_done n ts fs i le)
+  pub images_done : length xs ≤ i → images (drop i xs) ≡ []
+  images_done h = ap images (drop_of_length-le xs {i = i} h)

@@ -1,53 +1,26 @@
 -- `table::starts::first_into` meets its contract. Assumes nothing.
-use mathlib.Core.Path.{ap, ◌∙◌}
-use mathlib.Core.List.{List, [], map}
-use Prim.Native.Nat.{ℕ}
-use Rattle.sheet.specs.declared.Sheet.{Sheet}
-use Rattle.sheet.specs.inner.Packed.{ors_in, oneofs_in, clauses_at}
+use Rattle.std.proofs.lemmas.Result.{err_from_is_err_and}
 use Rattle.sheet.specs.inner.Decoded.{problem_in}
-use Rattle.table.specs.Start.{Clause, or_of, one_of, start_clauses, start_table}
-use Rattle.table.specs.Entries.{table_of}
-use Rattle.table.specs.Calls.{or_given}
+use Rattle.table.specs.Start.{start_clauses, start_table}
 use Rattle.table.proofs.laws.starts.PackedClauses.{ors_fit, oneofs_fit}
-use Rattle.table.proofs.laws.starts.StartArrays.{first_held, first_grown, first_on, first_refused}
+use Rattle.table.proofs.laws.starts.StartOutcomes.{sections_refused, sections_on}
 use Rattle.table.proofs.starts.first_into.Goals as goal
 
--- the clauses of a sheet's two sections
-
-abbrev ors_of : Sheet → List ℕ → List Clause
-ors_of x packed = map or_of (clauses_at x.ors (ors_in packed))
-
-abbrev oneofs_of : Sheet → List ℕ → List Clause
-oneofs_of x packed = map one_of (clauses_at x.oneofs (oneofs_in packed))
-
 pub grow_all-requires : goal.grow_all-requires
-grow_all-requires c =
-    record {
-      clauses_fit = ors_fit _ _ c.requires.filled;
-      held = first_held c.args.sheet.known _ _ c.requires.fresh;
-    }
+grow_all-requires c = ors_fit _ _ c.requires.filled
 
-pub grow_all-requires-in-To : goal.grow_all-requires-in-To
-grow_all-requires-in-To c =
-    let x = c.args.sheet in
-    record {
-      clauses_fit = oneofs_fit _ _ c.requires.filled;
-      held = first_grown x.known _ _ c.requires.fresh (ors_of x c.args.packed.now) _ _ _ c.grow_all.ensures _
-          c.in-To.is;
-    }
+pub grow_all-requires-2 : goal.grow_all-requires-2
+grow_all-requires-2 c = oneofs_fit _ _ c.requires.filled
 
-pub returns-in-To : goal.returns-in-To
+pub returns-in_err-grow_all : goal.returns-in_err-grow_all
 unfolding start_table start_clauses problem_in
-returns-in-To c =
-    let x = c.args.sheet in
-    let packed = c.args.packed.now in
-    c.grow_all-in-To.ensures ∙ ap (or_given (table_of [])) (first_on x.known _ _ c.requires.fresh (ors_of x packed) _ _ _
-    c.grow_all.ensures _ (oneofs_of x packed) c.in-To.is)
+returns-in_err-grow_all c =
+    let p = err_from_is_err_and c.from_residual.result c.from_residual.ensures.1 in
+    let w = rw (c.push.ensures, c.requires.empty) at c.grow_all.ensures in
+    rw (p.1, p.2) (sections_refused _ _ _ w c.in_err-grow_all.was)
 
-pub returns-in-Refused : goal.returns-in-Refused
+pub returns : goal.returns
 unfolding start_table start_clauses problem_in
-returns-in-Refused c =
-    let x = c.args.sheet in
-    let packed = c.args.packed.now in
-    first_refused x.known _ _ c.requires.fresh (ors_of x packed) _ _ _ c.grow_all.ensures _ (oneofs_of x packed) _
-    c.in-Refused.is
+returns c =
+    let w = rw (c.push.ensures, c.requires.empty) at c.grow_all.ensures in
+    sections_on _ _ _ w c.in_ok-grow_all.was c.grow_all-2.ensures

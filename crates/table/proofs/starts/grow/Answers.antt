@@ -1,21 +1,21 @@
 -- `table::starts::grow` meets its contract. Assumes nothing.
-use mathlib.Core.List.{[]}
-use Rattle.table.proofs.laws.arrays.HeldLists.{fresh, holds_room}
-use Rattle.table.proofs.laws.starts.StartArrays.{right_refused, right_table, grown_full, grown_empty, grown_table}
+use mathlib.Core.Path.{refl, sym, ◌∙◌}
+use Rattle.std.proofs.lemmas.Result.{err_from_is_err_and}
+use Rattle.table.proofs.laws.starts.StartOutcomes.{came_table, came_refused, grown_full, grown_empty, grown_table}
 use Rattle.table.proofs.starts.grow.Goals as goal
 
-pub widen_all-requires : goal.widen_all-requires
-widen_all-requires c =
-    record { sets = c.requires.sets_fit; room = holds_room c.requires.held; held = fresh 128 }
+pub returns-in_err-widen_all : goal.returns-in_err-widen_all
+returns-in_err-widen_all c =
+    let p = err_from_is_err_and c.from_residual.result c.from_residual.ensures.1 in
+    let w = rw (c.new-fresh.ensures, c.entries.ensures) at c.widen_all.ensures in
+    rw (p.1, p.2) (came_refused (grown_full _ _ w c.in_err-widen_all.was) refl)
 
-pub returns-then-filled-eq0 : goal.returns-then-filled-eq0
-returns-then-filled-eq0 c =
-    right_refused _ 20 [] [] (grown_empty _ _ _ _ _ c.widen_all.ensures _ c.in-To.is
-    c.if-filled-eq0.true)
+pub returns-then-len-eq0 : goal.returns-then-len-eq0
+returns-then-len-eq0 c =
+    let w = rw (c.new-fresh.ensures, c.entries.ensures) at c.widen_all.ensures in
+    came_refused (grown_empty _ _ w c.in_ok-widen_all.was (sym c.len.ensures.count ∙ c.if-len-eq0.true)) refl
 
-pub returns-else-filled-eq0 : goal.returns-else-filled-eq0
-returns-else-filled-eq0 c =
-    right_table _ _ _ _ (grown_table _ _ _ _ _ c.widen_all.ensures _ c.in-To.is c.if-filled-eq0.false)
-
-pub returns-in-Full : goal.returns-in-Full
-returns-in-Full c = right_refused _ 21 [] [] (grown_full _ _ _ _ _ c.widen_all.ensures c.in-Full.is)
+pub returns : goal.returns
+returns c =
+    let w = rw (c.new-fresh.ensures, c.entries.ensures) at c.widen_all.ensures in
+    came_table (grown_table _ _ w c.in_ok-widen_all.was (λ e. c.if-len-eq0.false (c.len.ensures.count ∙ e)))

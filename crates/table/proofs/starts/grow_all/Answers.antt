@@ -1,33 +1,26 @@
 -- `table::starts::grow_all` meets its contract. The invariant: the clauses from i on give the whole. Assumes nothing.
-use mathlib.Core.Path.{refl}
-use native.Mathlib.Omega.{arith}
+use mathlib.Core.Path.{sym, ap, ◌∙◌}
+use mathlib.Core.List.{List}
+use Rattle.std.proofs.lemmas.Result.{err_from_is_err_and}
+use Rattle.table.specs.Start.{Clause, grow_all}
 use Rattle.table.proofs.laws.starts.PackedClauses.{clause_fits, clauses_step, clauses_end}
-use Rattle.table.proofs.laws.starts.StartArrays.{sections_on, sections_refused, sections_end}
+use Rattle.table.proofs.laws.starts.StartOutcomes.{came_table, section_on, section_refused}
 use Rattle.table.proofs.starts.grow_all.Goals as goal
 
-pub loop-i-init : goal.loop-i-init
-loop-i-init c = (omega arith, record { held = c.requires.held; onwards = refl })
+pub of-alts-requires : goal.of-alts-requires
+of-alts-requires c = clause_fits _ _ c.loop-i.i c.requires c.loop-i-test.true
 
-pub grow-requires : goal.grow-requires
-grow-requires c =
-    record {
-      sets_fit = clause_fits _ _ c.loop-i.i c.requires.clauses_fit c.loop-i-test.true;
-      held = c.loop-i.invariant.1.held;
-    }
-
-pub returns-in-Refused : goal.returns-in-Refused
-returns-in-Refused c =
-    sections_refused c.loop-i.invariant.1
-    (clauses_step c.args.exclusive _ _ _ c.loop-i-test.true) _ _ _
-    c.grow.ensures _ _ c.in-Refused.is
+pub returns-in_err-grow : goal.returns-in_err-grow
+returns-in_err-grow c =
+    let p = err_from_is_err_and c.from_residual.result c.from_residual.ensures.1 in
+    rw (p.1, p.2) (section_refused _ c.loop-i.invariant (clauses_step c.args.kind _ _ _ c.loop-i-test.true c.of-alts.ensures)
+    c.grow.ensures c.in_err-grow.was)
 
 pub loop-i-preserved : goal.loop-i-preserved
-loop-i-preserved c = (
-  omega arith,
-  sections_on c.loop-i.invariant.1
-      (clauses_step c.args.exclusive _ _ _ c.loop-i-test.true) _ _ _
-      c.grow.ensures _ c.in-To.is,
-)
+loop-i-preserved c =
+    section_on _ c.loop-i.invariant (clauses_step c.args.kind _ _ _ c.loop-i-test.true c.of-alts.ensures) c.grow.ensures
+    c.in_ok-grow.was
 
 pub returns : goal.returns
-returns c = sections_end c.loop-i.invariant.1 (clauses_end c.args.exclusive _ _ _ c.loop-i-test.false)
+returns c = came_table (sym c.loop-i.invariant ∙ ap (λ (x : List Clause). grow_all 128 x c.loop-i.table)
+    (clauses_end c.args.kind _ _ _ c.loop-i-test.false))

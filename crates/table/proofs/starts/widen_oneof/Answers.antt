@@ -1,32 +1,20 @@
 -- `table::starts::widen_oneof` meets its contract. The invariant: the alternatives from i on give the whole. Assumes nothing.
-use native.Mathlib.Omega.{arith}
-use Rattle.table.proofs.laws.starts.PackedClauses.{length_alts, alts_end}
 use Rattle.table.proofs.laws.starts.OneofWays.{ways_start, ways_step, ways_end}
-use Rattle.table.proofs.laws.arrays.HeldLists.{held_own}
-use Rattle.table.proofs.laws.slots.PutLoops.{going_start, going_on, going_full, going_end}
+use Rattle.table.proofs.laws.slots.Putting.{going_start, going_on, going_err, going_end}
 use Rattle.table.proofs.starts.widen_oneof.Goals as goal
 
 pub loop-i-init : goal.loop-i-init
-loop-i-init c = (omega arith, going_start (ways_start _ _) c.requires.held)
+loop-i-init c = going_start (ways_start _ _)
 
-pub widen_one-requires : goal.widen_one-requires
-widen_one-requires c =
-    record {
-      widen_fits = record { sets = c.requires.sets; held = held_own c.loop-i.invariant.1.held };
-      i_bound = omega arith;
-    }
-
-pub returns-in_default : goal.returns-in_default
-returns-in_default c =
-    going_full _ c.loop-i.invariant.1 (ways_step _ _ _ (omega (arith, length_alts c.args.alts.now)))
-    c.widen_one.ensures c.in_default.is
+pub returns-in_err-widen_one : goal.returns-in_err-widen_one
+returns-in_err-widen_one c =
+    going_err _ c.loop-i.invariant (ways_step _ _ c.len-i-end.ensures.value c.loop-i-test.true) c.widen_one.ensures
+    c.in_err-widen_one.was c.from_residual.ensures.0
 
 pub loop-i-preserved : goal.loop-i-preserved
-loop-i-preserved c = (
-  omega arith,
-  going_on _ c.loop-i.invariant.1 (ways_step _ _ _ (omega (arith, length_alts c.args.alts.now)))
-      c.widen_one.ensures c.in-To.is,
-)
+loop-i-preserved c =
+    going_on _ c.loop-i.invariant (ways_step _ _ c.len-i-end.ensures.value c.loop-i-test.true) c.widen_one.ensures
+    c.in_ok-widen_one.was
 
 pub returns : goal.returns
-returns c = going_end c.loop-i.invariant.1 (ways_end _ _ _ (alts_end _ c.count_of-size.ensures c.loop-i-test.false))
+returns c = going_end c.loop-i.invariant (ways_end _ _ c.len-i-end.ensures.value c.loop-i-test.false)

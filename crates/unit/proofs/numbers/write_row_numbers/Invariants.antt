@@ -1,11 +1,7 @@
--- `unit::numbers::write_row_numbers` meets its contract. The invariant: the rows below i are written. Assumes nothing.
-use Prim.Native.Nat.{◌-◌}
-use Rattle.plan.specs.inner.Course.{counts_in}
-use Rattle.unit.proofs.RowNumbers.{Rowed}
+-- The invariant: the rows below i are written.
+use Rattle.std.proofs.Common.{◌≡◌, ◌*◌, ◌++◌, drop}
+use Rattle.unit.proofs.RowNumbers.{numbers}
 use Rattle.unit.proofs.numbers.write_row_numbers.Given as goal
 
 abbrev pub invariant-loop-i : goal.invariant-loop-i
-invariant-loop-i l = Rowed (counts_in l.count l.entries l.clauses) l.initial.rows l.i l.rows
-
-abbrev pub decreases-loop-i : goal.decreases-loop-i
-decreases-loop-i l = l.count - l.i
+invariant-loop-i l = l.rows ≡ numbers l.counts l.i ++ drop (3 * l.i) l.initial.rows

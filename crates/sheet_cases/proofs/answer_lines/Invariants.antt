@@ -1,9 +1,0 @@
--- `sheet_cases::answer_lines` is safe and ends. The measure is what is left of the text. Assumes nothing.
-use Rattle.std.proofs.Common.{◌≡◌, ◌-◌, length}
-use Rattle.sheet_cases.proofs.answer_lines.Given as goal
-
-abbrev pub invariant-loop-at : goal.invariant-loop-at
-invariant-loop-at g l = length l.bytes ≡ 8192
-
-abbrev pub decreases-loop-at : goal.decreases-loop-at
-decreases-loop-at g l = length l.text - l.at

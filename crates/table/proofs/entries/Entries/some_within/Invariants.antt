@@ -1,0 +1,8 @@
+-- `table::entries::Entries::some_within` meets its contract. The invariant: what was found, or the sets from i on decide. Assumes nothing.
+use Rattle.std.proofs.Common.{◌≡◌, ◌||◌, drop}
+use Rattle.sheet.specs.Literals.{within}
+use Rattle.sheet.specs.Lists.{any_of}
+use Rattle.table.proofs.entries.Entries.some_within.Given as goal
+
+abbrev pub invariant-loop-i : goal.invariant-loop-i
+invariant-loop-i l = any_of (λ e. within e l.set) l.self ≡ (l.some || any_of (λ e. within e l.set) (drop l.i l.self))
