@@ -3,7 +3,7 @@
 // one space between bytes.
 #![tactic(auto)]
 
-ghost use Rattle.std.specs.Prelude.{◌≡◌, ◌≤◌, ◌<◌, length, take, IfOk};
+ghost use Rattle.std.specs.Prelude.{◌≡◌, ◌≤◌, ◌<◌, length, take, IfOk, IfSome};
 ghost use Rattle.cases.specs.Counts.{IsPrefixLen};
 
 use sheet::{Answer, Fault};
@@ -25,7 +25,9 @@ pub struct Bytes {
 
 impl Bytes {
     // No bytes.
-    pub fn new() -> Bytes {
+    pub fn new() -> Bytes
+        ensures { result.size ≡ 0 }
+    {
         Bytes {
             room: [0; LINE],
             size: 0,
@@ -34,7 +36,8 @@ impl Bytes {
 
     // The bytes, lent.
     pub fn as_slice(&self) -> &[u8]
-        ensures { result.now ≡ take self.now.size self.now.room }
+        ensures value { result.now ≡ take self.now.size self.now.room }
+        ensures few { length result.now ≤ 8192 }
     {
         &self.room[..self.size]
     }
@@ -50,6 +53,7 @@ impl Bytes {
 
     // The bytes of a line in place of those before, as many as fit.
     fn decode(&mut self, line: &[u8]) {
+        // How many bytes there are so far: a line may have more groups than fit, and a last one of a single digit.
         let mut size = 0;
         for digits in line.chunks(3) {
             if let [high, low, ..] = digits {
@@ -67,6 +71,7 @@ impl Bytes {
 pub fn read_full(from: &mut impl Read, out: &mut [u8]) -> io::Result<usize>
     ensures { IfOk result (λ n. IsPrefixLen n out.new) }
 {
+    // No count: each read takes as much as there is.
     let mut done: usize = 0;
     while done < out.len() {
         let n = from.read(&mut out[done..])?;
@@ -99,7 +104,9 @@ pub fn read_line<'b>(
     to: &mut impl Write,
     line: &[u8],
     bytes: &'b mut Bytes,
-) -> io::Result<Option<&'b [u8]>> {
+) -> io::Result<Option<&'b [u8]>>
+    ensures { IfOk result (λ line. IfSome line (λ read. length read.now ≤ 8192)) }
+{
     let line = line.strip_suffix(b"\n").unwrap_or(line);
     if line.starts_with(b"#") {
         write_line(to, line)?;
@@ -109,14 +116,16 @@ pub fn read_line<'b>(
     Ok(Some(bytes.as_slice()))
 }
 
-// A line read as a case for the current sheet. A line that is no case (a heading, a sheet, an empty line) gives none; a first byte 0 says that
-// a sheet follows, which is the current one from there on.
+// A line read as a case for the current sheet. A line that is no case (a heading, a sheet, an empty line) gives none; a first byte 0 says
+// that a sheet follows, which is the current one from there on.
 pub fn read_case<'b>(
     to: &mut impl Write,
     line: &[u8],
     sheet: &mut Bytes,
     bytes: &'b mut Bytes,
-) -> io::Result<Option<&'b [u8]>> {
+) -> io::Result<Option<&'b [u8]>>
+    ensures { IfOk result (λ case. IfSome case (λ read. length read.now ≤ 8192)) }
+{
     let Some(case) = read_line(to, line, bytes)? else {
         return Ok(None);
     };

@@ -33,7 +33,8 @@ pub struct Row {
     pub clauses: usize,
 }
 
-// How a run ends; a place counts the moves, a number is document 01's.
+// How a run ends; a place counts the moves, a number is document 01's. A refusal has number and position one by one, as the theorems have
+// it (`run_refused_by`, `verdict_case`).
 #[derive(Clone, Copy, Drop)]
 pub enum Verdict {
     Reached,
@@ -43,14 +44,14 @@ pub enum Verdict {
     Refused(u8, usize),
 }
 
-// The verdict, and the last table that the run had.
+// The verdict, and the last table that the run had. No Result: a refused run gives a table too (theorem `refused_run_lem`).
 #[derive(Clone, Copy, Drop)]
 pub struct RunAnswer {
     pub verdict: Verdict,
     pub table: Table,
 }
 
-// How a search ends.
+// How a search ends. A refusal has number and position one by one, as the theorems and the README have it (`kind_case`).
 #[derive(Clone, Copy, Drop)]
 pub enum Kind {
     Reached,
@@ -59,7 +60,8 @@ pub enum Kind {
     Refused(u8, usize),
 }
 
-// The answer, and the plan: its moves in the first bytes, zeros after its length.
+// The answer, and the plan: its moves in the first bytes, zeros after its length. No Result, and no slice of the plan: eight bytes come
+// back from every search (theorems `eight_bytes`, `refused_search_lem`).
 #[derive(Clone, Copy, Drop)]
 pub struct SearchAnswer {
     pub kind: Kind,
@@ -67,7 +69,8 @@ pub struct SearchAnswer {
     pub length: usize,
 }
 
-// The rows of a run as plain numbers: for each of the first count places, its entries and its clauses; zeros after them.
+// The rows of a run as plain numbers: for each of the first count places, its entries and its clauses; zeros after them. The count has no
+// bound in the type: `counts_of` makes such numbers of any rows.
 #[derive(Clone, Copy, Drop)]
 pub struct Counts {
     pub count: usize,

@@ -1,5 +1,6 @@
-// What the search remembers, in slots of 258 numbers that are lent: a mark, how many entries, 128 masks of true and 128 of false ones. A slot
-// with mark m says that no plan of fewer than m moves from its table has an answer; mark 0 says nothing. Two slots are looked at for a table.
+// What the search remembers, in slots of 258 numbers that are lent: a mark, how many entries, 128 masks of true and 128 of false ones. A
+// slot with mark m says that no plan of fewer than m moves from its table has an answer; mark 0 says nothing. Two slots are looked at for a
+// table.
 ghost use Rattle.std.specs.Prelude.{◌≡◌, true, ℕ, ◌+◌, ◌*◌, ◌≤◌, ◌<◌, length, List};
 ghost use Rattle.sheet.specs.Limits.{most_entries};
 ghost use Rattle.sheet.specs.inner.Packed.{item_at};

@@ -68,7 +68,7 @@ pub(crate) fn full(at: usize, left: usize, index: usize) -> SearchAnswer
     }
 }
 
-// Some plan ends the search.
+// Some plan ends the search. (A function, since the contracts of the search say it by `W.is_end`.)
 pub(crate) fn is_end(a: SearchAnswer) -> bool
     ensures { result ≡ W.is_end a.kind }
 {

@@ -1,5 +1,5 @@
-// The text of the program `check`, written into a lent buffer. Document 01 fixes its bytes, and std's Display promises nothing of the text
-// that it gives, so they are written out here.
+// The text of the program `check`, written into a lent buffer byte by byte: `write!` promises its text only where it succeeds, and not that
+// it does, and the report cannot fail.
 ghost use Rattle.std.specs.Prelude.{◌≡◌, ◌+◌, ◌*◌, ◌≤◌, length};
 ghost use Rattle.plan.specs.Demand3.{refused_verdict};
 ghost use Rattle.plan.specs.inner.Rows.{rows_in};
@@ -11,7 +11,7 @@ use crate::rows::row_at;
 use crate::{Counts, Row, Verdict};
 use sheet::limits::FULL_PICTURE;
 
-// The run was refused.
+// The run was refused. (A function, since the text's contract says it by `refused_verdict`.)
 #[tactic(auto, unfolding(crate::specs::Demand3::refused_verdict))]
 pub(crate) fn is_refused(verdict: Verdict) -> bool
     ensures { result ≡ refused_verdict verdict }

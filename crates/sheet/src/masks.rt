@@ -101,7 +101,8 @@ pub(crate) fn contains(a: Literals, l: usize) -> bool
     }
 }
 
-// The smallest literal of a at the propositions from p on; 64 where there is none.
+// The smallest literal of a at the propositions from p on; 64 where there is none. A number, as its definition `K.next`: what calls it goes
+// on to the place after it.
 fn lowest(a: Literals, p: usize) -> usize
     requires { p ≤ most_propositions }
     ensures { result ≡ K.next a (2 * p) }
@@ -120,7 +121,7 @@ fn lowest(a: Literals, p: usize) -> usize
     l + 1
 }
 
-// The smallest literal of a from `from` on; 64 or more where there is none.
+// The smallest literal of a from `from` on; 64 or more where there is none, as the definition `K.next` gives it.
 pub fn next(a: Literals, from: usize) -> usize
     ensures { result ≡ K.next a from }
 {

@@ -16,7 +16,7 @@ use Rattle.sheet.specs.Literals.{no_literal, within, consistent, state, Proper}
 use Rattle.sheet.specs.Lists.{All, any_of, all_of, collect}
 use Rattle.sheet.specs.Problem.{Action, Problem}
 use Rattle.sheet.specs.Encoding.{ProperEffect, ProperAction, ProperProblem}
-use Rattle.std.specs.Prelude.{Option, Some, None}
+use Rattle.std.specs.Prelude.{Some, None}
 use Rattle.table.specs.declared.slots.Fate.TheVariants.{Dropped}
 use Rattle.table.specs.Worlds.{results, step_world, Starting}
 use Rattle.table.specs.Minimal.{In, Antichain, Described, described, put, put_all, refused, table}

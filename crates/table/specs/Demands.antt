@@ -5,7 +5,7 @@ use Rattle.std.proofs.Math.Option.{none, some}
 use Rattle.sheet.specs.declared.Literals.{Literals}
 use Rattle.sheet.specs.Literals.{no_literal, within}
 use Rattle.sheet.specs.Lists.{All}
-use Rattle.std.specs.Prelude.{Option, Some, None}
+use Rattle.std.specs.Prelude.{Some, None}
 use Rattle.table.specs.declared.slots.Fate.TheVariants.{Dropped}
 use Rattle.table.specs.Minimal.{put}
 use Rattle.table.specs.Fates.{last_within, left, fate_of}

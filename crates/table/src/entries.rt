@@ -61,7 +61,7 @@ impl<'a> Entries<'a> {
         }
     }
 
-    // Said true only of the same sets, in the same order.
+    // Said true only of the same sets, in the same order. (No PartialEq: a lent view whose model forgets where it lies can derive none.)
     pub fn same(&self, other: &Entries) -> bool
         ensures { result ≡ true → self.now ≡ other.now }
     {
@@ -137,7 +137,8 @@ impl<'a> Entries<'a> {
         found
     }
 
-    // The first set that contains the candidate, their number if none does. The contract says what `remove` needs: none before it does.
+    // The first set that contains the candidate, their number if none does, as `remove` begins there.
+    // The contract says what `remove` needs: none before it does.
     #[tactic(auto, using(crate::proofs::laws::arrays::ListLoops::any_more))]
     pub(crate) fn first_above(&self, candidate: Literals) -> usize
         ensures bound { result ≤ length self.now }

@@ -8,6 +8,7 @@ ghost use Rattle.table.specs.Entries.{lent};
 ghost use Rattle.table.specs.inner.Steps.{step_answer};
 ghost use Rattle.table.specs.inner.Starts.{start_answer};
 ghost use Rattle.table.specs.inner.Slots.{TableRoom};
+ghost use Rattle.table.specs.inner.PictureClauses.{picture_answer};
 ghost use Rattle.table.specs.PictureCalls.{picture_of, buffer_of};
 
 use crate::slots::Slots;
@@ -32,14 +33,15 @@ pub struct Table {
     pub falses: [u32; ENTRIES],
 }
 
-// What a call on tables gives.
+// What a call on tables gives. No Result: a refused call gives a table too (theorems `refused_step`, `refused_start`).
 #[derive(Clone, Copy, Drop)]
 pub struct TableAnswer {
     pub answer: Answer,
     pub table: Table,
 }
 
-// What the call `picture` gives: the number of clauses, 0 if refused.
+// What the call `picture` gives: the number of clauses, 0 if refused. No Result: that 0 is promised (`picture_of`, theorem
+// `refused_picture`).
 #[derive(Clone, Copy, Drop)]
 pub struct PictureAnswer {
     pub answer: Answer,
@@ -127,17 +129,29 @@ pub fn step(bytes: &[u8], table: Table, index: usize) -> TableAnswer
     }
 }
 
+// The picture of a lent table, written into the buffer, by how many clauses: a fault of the sheet, then 22, 21, 23.
+fn picture_lent(bytes: &[u8], table: &Table, buffer: &mut [u8]) -> Result<usize, Fault>
+    ensures value { picture_answer result ≡ picture_of (sheet_of bytes.now) table.now (length buffer.old) }
+    ensures buffer_after { buffer.new ≡ buffer_of (sheet_of bytes.now) table.now buffer.old }
+{
+    let mut packed = [0u32; LENGTH];
+    let sheet = sheet::decode(bytes, &mut packed)?;
+    picture_bytes::draw(sheet.n, &table.trues, &table.falses, table.count, buffer)
+}
+
 // The picture of a table, written into the buffer.
 pub fn picture(bytes: &[u8], table: Table, buffer: &mut [u8]) -> PictureAnswer
     ensures value { result ≡ picture_of (sheet_of bytes.now) table (length buffer.old) }
     ensures buffer_after { buffer.new ≡ buffer_of (sheet_of bytes.now) table buffer.old }
 {
-    let mut packed = [0u32; LENGTH];
-    match sheet::decode(bytes, &mut packed) {
-        Err(fault) => picture_bytes::refuse_picture(fault.number, fault.position),
-        Ok(sheet) => {
-            let count = table.count;
-            picture_bytes::draw(sheet.n, &table.trues, &table.falses, count, buffer)
-        }
+    match picture_lent(bytes, &table, buffer) {
+        Ok(clauses) => PictureAnswer {
+            answer: Ok(()),
+            clauses,
+        },
+        Err(fault) => PictureAnswer {
+            answer: Err(fault),
+            clauses: 0,
+        },
     }
 }

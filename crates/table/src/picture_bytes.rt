@@ -4,11 +4,10 @@ ghost use Rattle.table.specs.Minimal as M;
 ghost use Rattle.table.specs.Picture as P;
 ghost use Rattle.table.specs.Entries.{entries_of};
 ghost use Rattle.table.specs.inner.Slots.{TableRoom};
-ghost use Rattle.table.specs.inner.PictureClauses.{PictureRoom};
+ghost use Rattle.table.specs.inner.PictureClauses.{PictureRoom, picture_answer};
 ghost use Rattle.table.specs.PictureCalls.{refusal, given, written};
 ghost use Rattle.sheet.specs.Limits.{most_entries};
 
-use crate::PictureAnswer;
 use crate::entries::Entries;
 use crate::picture_order::sorted_clauses;
 use crate::tables::described;
@@ -38,43 +37,38 @@ pub(crate) fn write_picture(clauses: &Entries, buffer: &mut [u8])
     }
 }
 
-// No clause, with the number and the position.
-#[tactic(auto, unfolding(crate::specs::PictureCalls::refusal))]
-pub(crate) fn refuse_picture(number: u8, position: usize) -> PictureAnswer
-    ensures { result ≡ refusal number position }
-{
-    PictureAnswer {
-        answer: Err(Fault { number, position }),
-        clauses: 0,
-    }
-}
-
-// The picture of the first count entries in the buffer; 22, 21, 23 in this order. Refused, every byte is as it was.
-#[tactic(auto, using(crate::proofs::laws::pictures::HandedClauses::drawing))]
+// The picture of the first count entries in the buffer, by how many clauses; 22, 21, 23 in this order. Refused, every byte is as it was.
+#[tactic(auto, using(crate::proofs::laws::pictures::HandedClauses::drawing), unfolding(crate::specs::PictureCalls::refusal))]
 pub(crate) fn draw(
     n: usize,
     trues: &[u32],
     falses: &[u32],
     count: usize,
     buffer: &mut [u8],
-) -> PictureAnswer
+) -> Result<usize, Fault>
     requires { TableRoom trues.now falses.now }
-    ensures value { result ≡ cond (M.described most_entries n (entries_of count trues.now falses.now)) (given (P.picture (entries_of count trues.now falses.now)) (length buffer.old)) (refusal 22 0) }
+    ensures value { picture_answer result ≡ cond (M.described most_entries n (entries_of count trues.now falses.now)) (given (P.picture (entries_of count trues.now falses.now)) (length buffer.old)) (refusal 22 0) }
     ensures buffer_after { buffer.new ≡ cond (M.described most_entries n (entries_of count trues.now falses.now)) (written (P.picture (entries_of count trues.now falses.now)) buffer.old) buffer.old }
 {
     let Some(entries) = described(n, trues, falses, count) else {
-        return refuse_picture(22, 0);
+        return Err(Fault {
+            number: 22,
+            position: 0,
+        });
     };
     let Some(sorted) = sorted_clauses(&entries) else {
-        return refuse_picture(21, 0);
+        return Err(Fault {
+            number: 21,
+            position: 0,
+        });
     };
     let clauses = sorted.len();
     if buffer.len() < 2 + 8 * clauses {
-        return refuse_picture(23, 0);
+        return Err(Fault {
+            number: 23,
+            position: 0,
+        });
     }
     write_picture(&sorted.entries(), buffer);
-    PictureAnswer {
-        answer: Ok(()),
-        clauses,
-    }
+    Ok(clauses)
 }

@@ -21,6 +21,7 @@ pub(crate) fn units<const N: usize>(entry: Literals, to: &mut Slots<N>)
     requires empty { to.old ≡ [] }
     ensures { to.new ≡ P.units entry }
 {
+    // No count: an iterator over literals would have its end and its items to be proved too, and would be longer.
     let mut l = next(entry, 0);
     while l < 64 {
         to.push(literal(l));
@@ -105,7 +106,7 @@ pub(crate) fn clauses_of(entries: &Entries) -> Option<Slots<CLAUSES>>
     Some(clauses)
 }
 
-// How many clauses the picture of the entries has; 257 if they are too many.
+// How many clauses the picture of the entries has; 257 if they are too many, which is what document 01's rows say.
 #[tactic(auto, using(crate::proofs::laws::pictures::HandedClauses::counted))]
 pub fn clause_count(entries: &Entries) -> usize
     requires { 1 ≤ length entries.now }

@@ -14,7 +14,8 @@ use sheet::masks::{consistent, within};
 use sheet::{Fault, Literals};
 use std::marker::Model;
 
-// A list of at most N literal sets: slot i of both arrays is one set, and slots after the list are zero. A contract sees the list.
+// A list of at most N literal sets: slot i of both arrays is one set, and slots after the list are zero. A contract sees the list. Two
+// arrays, as document 01 has a table and the clauses of a picture.
 #[derive(Drop)]
 pub struct Slots<const N: usize> {
     count: usize,
@@ -140,6 +141,7 @@ impl<const N: usize> Slots<N> {
         }
         let first = self.entries().first_above(candidate);
         let count = self.count;
+        // Where the next set that stays goes: it falls behind i with each one that goes.
         let mut filled = first;
         for i in first..count {
             let set = Literals {

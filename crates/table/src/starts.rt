@@ -65,6 +65,7 @@ pub(crate) fn choose(
     }
     let after = at + 1;
     let mut rest = minus(alts.at(at), piece);
+    // No count: the literals are those of a set that loses one at each turn.
     let mut l = next(rest, 0);
     while l < 64 {
         let one = literal(l);
@@ -155,7 +156,8 @@ pub(crate) fn grow(kind: Kind, alts: &Sets, table: &mut Slots<ENTRIES>) -> Resul
     Ok(())
 }
 
-// The tables of all clauses of a section, one after the other; the first refusal stays.
+// The tables of all clauses of a section, one after the other; the first refusal stays. (The section has room for eight; a view for this
+// one place would be longer.)
 pub(crate) fn grow_all(
     kind: Kind,
     clauses: &[u32],

@@ -96,6 +96,7 @@ pub(crate) struct Undecided {
 }
 
 // The first effect from `at` on whose condition splits the piece, not below their count if there is none; `results` are those before `at`.
+// (No Option: `Skips` speaks of a place in both cases, and what is handed on is one value.)
 pub(crate) fn skip_decided(
     effects: &Effects,
     at: usize,

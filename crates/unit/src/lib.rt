@@ -15,7 +15,7 @@ use table::slots::Slots;
 
 mod numbers;
 
-// What a call answers in numbers: the answer byte, and the four numbers of info.
+// What a call answers in numbers: the answer byte, and the four numbers of info. C gets numbers.
 #[derive(Clone, Copy, Drop)]
 pub struct Reply {
     pub answer: u8,

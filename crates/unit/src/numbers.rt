@@ -34,7 +34,7 @@ const ACCEPTED: Reply = Reply {
     detail: 0,
 };
 
-// An answer in numbers; `extra` is the second number of info if it is accepted.
+// An answer in numbers; `extra` is the second number of info if it is accepted. (No From: it takes two values.)
 pub(crate) fn answer_reply(answer: Answer, extra: u64) -> Reply
     ensures { result ≡ answer_reply answer extra }
 {
@@ -135,14 +135,6 @@ pub(crate) fn write_info(info: &mut [u64], reply: Reply)
     info[..4].copy_from_slice(&[reply.position, reply.kind, reply.place, reply.detail]);
 }
 
-// Bytes copied to the front of others. The others are kept.
-pub(crate) fn copy_bytes(to: &mut [u8], from: &[u8])
-    requires { length from.now ≤ length to.old }
-    ensures { to.new ≡ from.now ++ drop (length from.now) to.old }
-{
-    to[..from.len()].copy_from_slice(from);
-}
-
 // The end of a search: its plan to the front of eight bytes or more, and the numbers of info. The result is the answer.
 pub(crate) fn write_search(plan: &mut [u8], info: &mut [u64], searched: SearchAnswer) -> u8
     requires { (8 ≤ length plan.old) × (4 ≤ length info.old) }
@@ -151,7 +143,7 @@ pub(crate) fn write_search(plan: &mut [u8], info: &mut [u64], searched: SearchAn
     ensures info_after { info.new ≡ info_of (kind_reply searched.kind searched.length) info.old }
 {
     let reply = Reply::from(searched);
-    copy_bytes(plan, &searched.plan);
+    plan[..8].copy_from_slice(&searched.plan);
     write_info(info, reply);
     reply.answer
 }

@@ -5,4 +5,3 @@ pub mod ListFacts
 pub mod ListMembers
 pub mod Prefixes
 pub mod Padding
-pub mod Copying

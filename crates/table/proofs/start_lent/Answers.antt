@@ -1,6 +1,5 @@
 -- `table::start_lent` meets its contract. Assumes nothing.
 use mathlib.Core.Path.{sym, ap, ◌∙◌}
-use mathlib.Core.List.{List}
 use Rattle.std.specs.Prelude.{Result}
 use Rattle.sheet.specs.declared.Fault.{Fault}
 use Rattle.sheet.specs.inner.Decoded.{statement_in}

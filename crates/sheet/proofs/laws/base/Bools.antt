@@ -88,10 +88,6 @@ iff_eq false false f g = refl
 pub kept : {p : Bool} (q : Bool) → p ≡ true → q ≡ (p && q)
 kept q e = sym (ap (λ (b : Bool). b && q) e)
 
--- where it is false, so is the whole
-pub and_no : {p : Bool} (q : Bool) → p ≡ false → false ≡ (p && q)
-and_no q e = sym (ap (λ (b : Bool). b && q) e)
-
 -- a test that is known picks its case
 pub cond_true : {A : Type 0} {b : Bool} (x y : A) → b ≡ true → x ≡ cond b x y
 cond_true {A} x y e = sym (ap (λ (p : Bool). cond {A = A} p x y) e)

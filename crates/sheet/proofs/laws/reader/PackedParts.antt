@@ -211,18 +211,9 @@ module _ {A : Type 0} (w : ℕ) (f : List ℕ → A) where
 set_later : (zs : List ℕ) (i : ℕ) → set_from (drop 2 zs) (2 * i) ≡ set_from zs (2 * suc i)
 set_later zs i = from_later zs 2 (2 * i) (2 * suc i) (omega arith)
 
-pub sets_step : (n : ℕ) (zs : List ℕ) (i : ℕ) (a : Literals) → i < n → a ≡ set_from zs (2 * i)
-    → drop i (sets_at n zs) ≡ a ∷ drop (i + 1) (sets_at n zs)
-unfolding sets_at
-sets_step = part_ahead 2 (λ zs i. set_from zs (2 * i)) sets_at (λ zs. refl) (λ n zs. refl) set_later
-
 pub sets_long : (n : ℕ) (zs : List ℕ) → length (sets_at n zs) ≡ n
 unfolding sets_at
 sets_long = parts_long 2 (λ zs i. set_from zs (2 * i)) sets_at (λ zs. refl) (λ n zs. refl) set_later
-
-pub sets_end : (n : ℕ) (zs : List ℕ) (i : ℕ) → n ≤ i → drop i (sets_at n zs) ≡ []
-unfolding sets_at
-sets_end = parts_end 2 (λ zs i. set_from zs (2 * i)) sets_at (λ zs. refl) (λ n zs. refl) set_later
 
 pub sets_get : (n : ℕ) (zs : List ℕ) (i : ℕ) (d : Literals) → i < n → get_or (sets_at n zs) i d ≡ set_from zs (2 * i)
 unfolding sets_at
@@ -262,18 +253,9 @@ at_later zs i =
     let b = from_later zs 4 (4 * i + 2) (4 * suc i + 2) (omega arith) in
     (λ k. record { condition = a k; result = b k })
 
-pub effects_step : (n : ℕ) (zs : List ℕ) (i : ℕ) (e : Effect) → i < n → e ≡ effect_at zs i
-    → drop i (effects_at n zs) ≡ e ∷ drop (i + 1) (effects_at n zs)
-unfolding effects_at
-effects_step = part_ahead 4 effect_at effects_at (λ zs. refl) (λ n zs. refl) at_later
-
 pub effects_long : (n : ℕ) (zs : List ℕ) → length (effects_at n zs) ≡ n
 unfolding effects_at
 effects_long = parts_long 4 effect_at effects_at (λ zs. refl) (λ n zs. refl) at_later
-
-pub effects_end : (n : ℕ) (zs : List ℕ) (i : ℕ) → n ≤ i → drop i (effects_at n zs) ≡ []
-unfolding effects_at
-effects_end = parts_end 4 effect_at effects_at (λ zs. refl) (λ n zs. refl) at_later
 
 pub effects_get : (n : ℕ) (zs : List ℕ) (i : ℕ) (d : Effect) → i < n → get_or (effects_at n zs) i d ≡ effect_at zs i
 unfolding effects_at

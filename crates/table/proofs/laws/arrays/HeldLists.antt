@@ -7,11 +7,9 @@ use native.Mathlib.Omega.{arith}
 use native.Mathlib.Nat.{le_of_suc-le-suc, not-suc-le-zero, suc-ne-zero, suc_inj}
 use lib.ListN.{length, get_or, set, take, replicate, length-map, length-append, length-set}
 use Rattle.std.proofs.lemmas.List.{map-set}
-use lib.Seq.{length-take-le, get_or-take, ext_get_or}
 use Rattle.sheet.specs.declared.Literals.{Literals}
 use Rattle.sheet.specs.Literals.{no_literal}
 use Rattle.sheet.specs.Lists.{pad}
-use Rattle.table.specs.declared.Table.{Table}
 use Rattle.table.specs.Entries.{pairs, trues_of, falses_of, entries_of, table_of, lent}
 use Rattle.table.specs.inner.Slots.{Room, Holds, Held}
 use Rattle.sheet.proofs.laws.base.Padding.{length_pad, pad_nil, get_d_pad, pad_pad, pad_set}
@@ -64,16 +62,6 @@ get_d_entries_of n ts fs i h =
     get_d_pairs n (pad n 0 ts) (pad n 0 fs) i (length_pad n 0 ts) (length_pad n 0 fs) h
     ∙ (λ k. record { trues = get_d_pad n 0 ts i h k; falses = get_d_pad n 0 fs i h k })
 
--- the first of the entries
-pub take_entries_of : (i n : ℕ) (ts fs : List ℕ) → i ≤ n → take i (entries_of n ts fs) ≡ entries_of i ts fs
-take_entries_of i n ts fs le =
-    let long : length (take i (entries_of n ts fs)) ≡ i = length-take-le i (entries_of n ts fs) (omega (arith, length_entries_of n ts fs))
-    in
-    ext_get_or no_literal (take i (entries_of n ts fs)) (entries_of i ts fs) (long ∙ sym (length_entries_of i ts fs))
-    (λ j h.
-    let lt : j < i = omega (arith, long) in
-    get_or-take i (entries_of n ts fs) j no_literal lt ∙ get_d_entries_of n ts fs j (omega arith) ∙ sym (get_d_entries_of i ts fs j lt))
-
 pairs_of : (es : List Literals) → pairs (trues_of es) (falses_of es) ≡ es
 unfolding pairs
 pairs_of [] = refl
@@ -105,10 +93,6 @@ module _ {cap : ℕ} {es : List Literals} {n : ℕ} {ts fs : List ℕ} (h : Hold
 
   pub holds_falses_long : length fs ≡ cap
   holds_falses_long = ap length h.falses_are ∙ length_pad cap 0 (falses_of es)
-
-  -- there is room for what is held
-  pub holds_room : Room n ts fs
-  holds_room = record { trues = omega (arith, h.room, holds_trues_long); falses = omega (arith, h.room, holds_falses_long) }
 
   -- one entry more
   pub holds_push : n < cap → (l : Literals) → Holds cap (es ++ l ∷ []) (n + 1) (set ts n l.trues) (set fs n l.falses)
@@ -143,27 +127,12 @@ module _ {cap : ℕ} {es : List Literals} {n : ℕ} {ts fs : List ℕ} (h : Hold
   pub held : Held cap n ts fs
   held = subst (λ (x : List Literals). Holds cap x n ts fs) (sym holds_entries) h
 
--- what is held in slices, at their own length
-pub held_own : {cap n : ℕ} {ts fs : List ℕ} → Held cap n ts fs → Held (length ts) n ts fs
-held_own {n = n} {ts = ts} {fs = fs} h = subst (λ (k : ℕ). Held k n ts fs) (sym (holds_trues_long h)) h
-
 -- ---- a table in lent arrays: the table of the list that they hold
 
 module _ (es : List Literals) (n : ℕ) (ts fs : List ℕ) where
   pub holds_table : Holds 128 es n ts fs → lent n ts fs ≡ table_of es
   unfolding table_of
   holds_table h = λ j. lent (h.count_is j) (h.trues_are j) (h.falses_are j)
-
-  pub table_holds : length es ≤ 128 → lent n ts fs ≡ table_of es → Holds 128 es n ts fs
-  unfolding table_of
-  table_holds few e =
-      let count : n ≡ length es = ap (λ (t : Table). t.count) e in
-      record {
-        count_is = count;
-        room = omega arith;
-        trues_are = ap (λ (t : Table). t.trues) e;
-        falses_are = ap (λ (t : Table). t.falses) e;
-      }
 
 -- ---- fresh slots
 

@@ -1,5 +1,5 @@
--- Whether some of the members before a place pass a test, or the one there. For `Entries::first_above` and `Slots::offer_by_newest`. Assumes
--- nothing.
+-- Whether some of the members before a place pass a test, or the one there. For `Entries::first_above` and `Slots::offer_by_newest`.
+-- Assumes nothing.
 use mathlib.Core.Path.{◌≡◌, refl, ap, ◌∙◌}
 use mathlib.Core.Bool.{Bool, true, false, ◌||◌}
 use mathlib.Core.List.{List, [], ◌∷◌, ◌++◌}

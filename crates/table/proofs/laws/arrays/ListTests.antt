@@ -1,5 +1,5 @@
--- Loops that test the members of a list by their numbers: what a turn at i adds, and what is left at the end. For attributes `using` and for
--- grind. Assumes nothing.
+-- Loops that test the members of a list by their numbers: what a turn at i adds, and what is left at the end. For attributes `using`
+-- and for grind. Assumes nothing.
 use Rattle.std.proofs.Common.{◌≡◌, ℕ, ◌+◌, ◌<◌, ◌≤◌, List, Bool, true, false, ◌&&◌, ◌||◌, length, get_or, drop, ap}
 use Rattle.std.proofs.lemmas.List.{at_drop_more}
 use lib.ListN.{drop_of_length-le}

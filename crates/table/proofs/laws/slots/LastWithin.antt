@@ -162,7 +162,8 @@ found_last f (x ∷ xs) i e = go (last_of f xs) refl (found_last f xs) e
     front true t q e = subst (LastAt f (x ∷ xs)) (ap place e) (last_front f x xs t q)
     front false t q e = absurd (true_T false (ap is_some e))
 
-    go : (r : Option ℕ) → last_of f xs ≡ r → ((k : ℕ) → last_of f xs ≡ Some k → LastAt f xs k) → shifted (f x) r ≡ Some i → LastAt f (x ∷ xs) i
+    go : (r : Option ℕ) → last_of f xs ≡ r → ((k : ℕ) → last_of f xs ≡ Some k → LastAt f xs k) → shifted (f x) r ≡ Some i
+        → LastAt f (x ∷ xs) i
     go (Some k) q more e = subst (LastAt f (x ∷ xs)) (ap place e) (last_behind f x xs k (more k q))
     go None q more e = front (f x) refl q e
 

@@ -27,10 +27,6 @@ module _ {cap : ℕ} {cs es us : List Literals} {r : Result Unit Full} where
   pub puts_is : {ds : List Literals} → cs ≡ ds → Puts cap cs es r us → Puts cap ds es r us
   puts_is e w = subst (λ (x : List Literals). Puts cap x es r us) e w
 
-  -- what was put, by the names that the list and the result have later
-  pub puts_later : {r' : Result Unit Full} {us' : List Literals} → us' ≡ us → r' ≡ r → Puts cap cs es r us → Puts cap cs es r' us'
-  puts_later p e w = rw (p, e) w
-
 -- ---- a loop over candidates: those still to come, ds, after the list es, give what all give after the list es₀
 pub record Going (cap : ℕ) (all es₀ ds es : List Literals) : Type 0 where
   pub onwards : put_all cap ds es ≡ put_all cap all es₀

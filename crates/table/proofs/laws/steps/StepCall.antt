@@ -4,7 +4,7 @@ use Rattle.std.specs.Prelude.{Result, Ok, Err, Option, Some, None}
 use Rattle.std.proofs.lemmas.Option.{cond_some, none-some}
 use lib.Dec.{ltb}
 use borrow.Author.Tests.{lt-ltb, le-ltb, ltb-true}
-use Rattle.sheet.specs.Calls.{Accepted, Refused}
+use Rattle.sheet.specs.Calls.{Refused}
 use Rattle.sheet.specs.declared.Fault.{Fault}
 use Rattle.sheet.specs.declared.Literals.{Literals}
 use Rattle.sheet.specs.declared.Sheet.{Sheet}
@@ -17,7 +17,6 @@ use Rattle.sheet.specs.inner.Widths.{packed_length}
 use Rattle.sheet.proofs.laws.reader.PackedParts.{items_length, item_at_lem, item_of_all, effects_long}
 use Rattle.sheet.proofs.laws.reader.ReadSheets.{refused_says, accepted_says, accepted_proper, n_few, moves_few, moves_proper}
 use Rattle.table.specs.declared.Table.{Table}
-use Rattle.table.specs.declared.TableAnswer.{TableAnswer}
 use Rattle.table.specs.Calls.{or_given, action_at, step_known, step_move, step_of}
 use Rattle.table.specs.Entries.{entries}
 use Rattle.table.specs.Minimal.{described, Outcome}
@@ -99,7 +98,8 @@ module _ (s : List ℕ) {d : Result Sheet Fault} (packed : List ℕ) (e : judgem
           its_move long = subst (λ (ys : List Literals). MoveFits packed i ys) its_entries.1
               (record { long = long; move_most = its_most; effects_few = its_count; fits = its_fits })
 
-          pub known_step : {r : Result Unit Fault} {us : List Literals} → Came r us (step_table 128 its es) → step_answer t r us ≡ step_of (sheet_of s) t i
+          pub known_step : {r : Result Unit Fault} {us : List Literals} → Came r us (step_table 128 its es)
+              → step_answer t r us ≡ step_of (sheet_of s) t i
           known_step {r} {us} w =
               given_came t r us (step_table 128 its es) w
               ∙ ap (λ (ys : List Literals). or_given t (step_table 128 its ys)) (sym its_entries.1)
