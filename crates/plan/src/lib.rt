@@ -34,7 +34,7 @@ pub struct Row {
 }
 
 // How a run ends; a place counts the moves, a number is document 01's. A refusal has number and position one by one, as the theorems have
-// it (`run_refused_by`, `verdict_case`).
+// it (`FaultDemand.run`, `verdict_case`).
 #[derive(Clone, Copy, Drop)]
 pub enum Verdict {
     Reached,

@@ -1,5 +1,6 @@
 -- Inner tools: no promise of a call and no demand speaks of them.
---   Slots            lists of sets in lent arrays, and candidates put there (src/slots.rt)
+--   Slots            lists of sets, lent or with their capacity, and a candidate put there (src/slots.rt, entries.rt)
+--   Puts             several candidates put, one after the other (src/slots.rt)
 --   Starts           what the functions of src/starts.rt ask and give
 --   Pairs            25 by pairs of effects, without splitting (src/steps.rt)
 --   Carry            what is carried down the split (src/steps.rt)

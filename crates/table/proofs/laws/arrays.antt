@@ -1,4 +1,4 @@
--- Members that a test keeps; arrays of masks that hold lists, and loops over them.
+-- Members that a test keeps; lists in arrays of masks, and what a test says of all or of one of their members.
 -- ---- may be cited from above
 pub mod HeldLists
 pub mod ListTests

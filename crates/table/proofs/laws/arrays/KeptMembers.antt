@@ -1,4 +1,4 @@
--- The members of a list that pass a test: of two parts, all of them, one more. For `slots::remove`, and for putting (`slots/PutInvariants`,
+-- The members of a list that pass a test: of two parts, all of them, one more. For `Slots::remove`, and for putting (`slots/PutInvariants`,
 -- `PutFates`, `ConsistentCandidates`). Assumes nothing.
 use mathlib.Core.Path.{◌≡◌, refl, ap, ◌∙◌}
 use mathlib.Core.Bool.{Bool, true, false, not, ◌||◌, true≢false}

@@ -1,4 +1,4 @@
--- The consistent ones of candidates, one by one and part by part; a turn and the end of a loop that puts them. For `slots::admit`,
+-- The consistent ones of candidates, one by one and part by part; a turn and the end of a loop that puts them. For `Slots::admit`,
 -- `starts::widen_or`, `starts::widen_all`, `picture_clauses::put_joined` and `picture_clauses::join_lists`. Assumes nothing.
 use Prim.Native.Nat.{ℕ, ◌+◌, ◌≤◌, ◌<◌}
 use mathlib.Core.Path.{◌≡◌, sym, ap, ◌∙◌}
