@@ -187,7 +187,9 @@ impl<'a> Reader<'a> {
         Ok(k)
     }
 
-    // least to 8 lists of 1 to widest literals, laid in 17 numbers: the alternatives of a clause, or section 6, the goal.
+    // least to 8 lists of 1 to widest literals, laid in 17 numbers: the alternatives of a clause, or section 6, the goal. In line, as are the
+    // clauses: where these are small, a call for each of them takes a quarter more.
+    #[inline(always)]
     fn sets(
         &mut self,
         n: Propositions,
@@ -209,6 +211,7 @@ impl<'a> Reader<'a> {
     }
 
     // Section 3 or 4, laid out: how many clauses.
+    #[inline(always)]
     fn clauses(&mut self, n: Propositions, section: &mut [u32]) -> Result<usize, Fault>
         requires { length section.old ≡ clauses_width }
         ensures { ReadsAs (λ k. R.clauses_at k section.new) (F.clauses n.count) self.old result self.new }

@@ -1,5 +1,5 @@
 // The entries of a table, or clauses, lent as two slices of masks side by side: what they are tested for.
-ghost use Rattle.std.specs.Prelude.{◌≡◌, ◌≤◌, ◌<◌, ◌-◌, true, false, length, get_or, take, drop};
+ghost use Rattle.std.specs.Prelude.{◌≡◌, ◌≤◌, ◌<◌, ◌-◌, true, false, length, get_or, take, drop, Some};
 ghost use Rattle.sheet.specs.Literals as L;
 ghost use Rattle.sheet.specs.Lists.{any_of};
 ghost use Rattle.table.specs.Entries.{entries_of};
@@ -81,7 +81,28 @@ impl<'a> Entries<'a> {
         a | b | c | d
     }
 
-    // The place of the last of the first sets, so many, whose literals all lie in the candidate, looked for one by one.
+    // The place of the last of the four sets before place `end` that lies in the candidate: one does. There is no loop, so that the compiler
+    // drops it where the place is not used.
+    fn last_of_four(&self, end: usize, candidate: Literals) -> usize
+        requires four { 4 ≤ end }
+        requires within { end ≤ length self.now }
+        requires some { any_of (λ e. L.within e candidate) (take 4 (drop (end - 4) self.now)) ≡ true }
+        ensures { Some result ≡ last_within (take end self.now) candidate }
+    {
+        if within(self.at(end - 1), candidate) {
+            return end - 1;
+        }
+        if within(self.at(end - 2), candidate) {
+            return end - 2;
+        }
+        if within(self.at(end - 3), candidate) {
+            return end - 3;
+        }
+        end - 4
+    }
+
+    // The place of the last of the first sets, so many, whose literals all lie in the candidate, looked for one by one: those that blocks of
+    // four leave.
     #[tactic(auto, using(crate::proofs::laws::slots::LastWithin::last_down, crate::proofs::laws::slots::LastWithin::last_nothing))]
     fn last_singly(&self, count: usize, candidate: Literals) -> Option<usize>
         requires { count ≤ length self.now }
@@ -95,7 +116,9 @@ impl<'a> Entries<'a> {
         None
     }
 
-    // The place of the last set whose literals all lie in the candidate, if there is one: by blocks of four, and then singly.
+    // The place of the last set whose literals all lie in the candidate, if there is one: by blocks of four, and then singly. In line, so that
+    // the blocks are read where the two slices are known.
+    #[inline(always)]
     pub(crate) fn last_within(&self, candidate: Literals) -> Option<usize>
         ensures { result ≡ last_within self.now candidate }
     {
@@ -103,7 +126,7 @@ impl<'a> Entries<'a> {
         for block in (0..self.len() / 4).rev() {
             let end = rest + 4 * block + 4;
             if self.some_of_four(end, candidate) {
-                return self.last_singly(end, candidate);
+                return Some(self.last_of_four(end, candidate));
             }
         }
         self.last_singly(rest, candidate)

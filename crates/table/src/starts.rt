@@ -35,23 +35,23 @@ pub(crate) fn widen_or(alts: &Sets, entry: Literals, to: &mut Slots<ENTRIES>) ->
     Ok(())
 }
 
-// The alternatives but the one of number i.
-pub(crate) fn others(alts: &Sets, i: usize) -> Slots<8>
-    ensures { result ≡ others i 0 alts.now }
+// The alternatives but the one of number i, into an empty list. The list is lent: of one that is returned, the masks would be read for the
+// copy right after they were written, which stalls.
+pub(crate) fn lay_others(alts: &Sets, i: usize, rest: &mut Slots<8>)
+    requires { rest.old ≡ [] }
+    ensures { rest.new ≡ others i 0 alts.now }
 {
-    let mut rest = Slots::new();
     for j in 0..alts.len() {
         if j != i {
             rest.push(alts.at(j));
         }
     }
-    rest
 }
 
 // Puts the piece with each alternative from `at` on made false in every way: by each of its literals that the piece lacks. One that the
 // piece has would make an inconsistent set.
 pub(crate) fn choose(
-    alts: &Entries,
+    alts: &Slots<8>,
     at: usize,
     piece: Literals,
     to: &mut Slots<ENTRIES>,
@@ -64,7 +64,7 @@ pub(crate) fn choose(
         return to.offer_by_newest(piece);
     }
     let after = at + 1;
-    let mut rest = minus(alts.at(at), piece);
+    let mut rest = minus(alts.entries().at(at), piece);
     // No count: the literals are those of a set that loses one at each turn.
     let mut l = next(rest, 0);
     while l < 64 {
@@ -96,8 +96,9 @@ pub(crate) fn widen_one(
     if !consistent(first) {
         return Ok(());
     }
-    let rest = others(alts, i);
-    choose(&rest.entries(), 0, first, to)
+    let mut rest = Slots::new();
+    lay_others(alts, i, &mut rest);
+    choose(&rest, 0, first, to)
 }
 
 // Puts the entry with each alternative of a oneof-clause, in order, and the others made false.

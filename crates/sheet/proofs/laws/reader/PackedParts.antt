@@ -1,7 +1,7 @@
 -- Numbers in a packed array: what stands there, read part by part; and parts, sets, effects and items laid there.
 -- For src/packed.rt, for the functions of src/reader.rt that lay out, and for the packed arrays of table and plan. Assumes nothing.
 use mathlib.Core.Path.{◌≡◌, refl, sym, ap, ap₂, subst, ◌∙◌}
-use mathlib.Core.List.{List, [], ◌∷◌, ◌++◌}
+use mathlib.Core.List.{List, [], ◌∷◌, ◌++◌, append-nil}
 use Prim.Native.Nat.{ℕ, zero, suc, ◌+◌, ◌-◌, ◌*◌, ◌≤◌, ◌<◌}
 use native.Mathlib.Nat.{not-suc-le-zero, le_of_suc-le-suc}
 use native.Mathlib.Numerals.{add-one}
@@ -14,7 +14,7 @@ use lib.Seq.{get_or-drop, take_at, drop_at, drop-drop, take-append-le, drop-appe
 use Rattle.sheet.specs.declared.Literals.{Literals}
 use Rattle.sheet.specs.declared.Effect.{Effect}
 use Rattle.sheet.specs.Lists.{All}
-use Rattle.sheet.specs.inner.Packed.{part, set_from, sets_at, masks_of, effect_at, effects_at, action_by, item_at, items_at, action_from}
+use Rattle.sheet.specs.inner.Packed.{part, set_from, sets_at, sets_in, masks_of, effect_at, effects_at, action_by, item_at, items_at, action_from}
 
 -- ---- reading
 pub from_later : (zs : List ℕ) (i j k : ℕ) → i + j ≡ k → set_from (drop i zs) j ≡ set_from zs k
@@ -281,6 +281,14 @@ pub effects_more : (k : ℕ) (zs : List ℕ) (e : Effect) → 4 * k + 4 ≤ leng
 effects_more k zs e h = rw (add-one k) (effects_laid k zs e h)
 
 -- ---- a count, and after it a borrow of its sets or effects
+pub sets_laid : (xs ys : List ℕ) (k : ℕ) → length xs ≡ 17 → let zs = set xs 0 k in sets_in (take 1 zs ++ (ys ++ drop 16 (drop 1 zs)))
+    ≡ sets_at k ys
+unfolding sets_in
+sets_laid [] ys k h = absurd (omega arith)
+sets_laid (x ∷ xs) ys k h =
+    let l : length xs ≤ 16 = omega arith in
+    ap (λ (z : List ℕ). sets_at k (ys ++ z)) (drop_of_length-le xs l) ∙ ap (sets_at k) (append-nil ys)
+
 pub action_laid : (xs ys : List ℕ) (p : Literals) (k : ℕ) → length xs ≡ 35 → length ys ≡ 32
     → let zs = set (set (set xs 0 p.trues) 1 p.falses) 2 k in action_from (take 3 zs ++ (ys ++ drop 32 (drop 3 zs))) ≡ action_by p k ys
 unfolding action_from set_from

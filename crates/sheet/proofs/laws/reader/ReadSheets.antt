@@ -14,15 +14,21 @@ use Rattle.sheet.specs.Lists.{All}
 use Rattle.sheet.specs.Problem.{Facts, Problem, problem_of}
 use Rattle.sheet.specs.declared.reader.Facts as read
 use Rattle.sheet.specs.Format.{accepted, refused, sheet_of}
-use Rattle.sheet.specs.inner.Decoded.{plan_in, problem_in, statement_in, judgement_in, Filled}
+use Rattle.sheet.specs.inner.Decoded.{plan_of, plan_in, problem_in, statement_in, judgement_in, Filled}
 use Rattle.sheet.specs.inner.Packed.{part, ors_in, oneofs_in, moves_in, sets_in, clauses_at, action_from, actions_at}
 use Rattle.sheet.specs.inner.Reads.{facts_in}
 use Rattle.sheet.specs.Calls.{Answer, Accepted, Refused, answer_of, judge_of}
 use Rattle.sheet.specs.Encoding.{Counted, ProperClause, ProperAction, ProperStatement}
 use Rattle.sheet.proofs.laws.base.ListFacts.{all_map}
+use Rattle.sheet.proofs.laws.base.Padding.{take_pad}
 use Rattle.sheet.proofs.laws.format.Encodings.{encoded_iff}
 use Rattle.sheet.proofs.laws.format.Judgements.{accepted_iff}
 use Rattle.sheet.proofs.laws.reader.PackedParts.{items_length, part_long, anew, anew_long, part_same, part_before, part_after}
+
+-- a plan in its slots, read back
+pub plan_slots : (ks : List ℕ) → length ks ≤ 64 → plan_in (plan_of ks) ≡ ks
+unfolding plan_in plan_of
+plan_slots ks h = take_pad 64 0 ks h
 
 pub not_both : {X : Type 0} (a : Answer) (k p : ℕ) → a ≡ Accepted → a ≡ Refused k p → X
 not_both a k p e f = absurd (let z : ◌≡◌ {A = ℕ} 0 1 = cc in omega arith)
@@ -103,6 +109,9 @@ module _ (xs moves : List ℕ) (long : length xs ≡ 1409) (moves-lent : length 
 
     goal_long : length goal ≡ 17
     goal_long = goal-lent ∙ part_long 272 17 one (omega (arith, moves_kept))
+
+    pub goal_kept : length whole ≡ 1409
+    goal_kept = anew_long one goal 272 17 (omega (arith, moves_kept)) goal_long ∙ moves_kept
 
     -- the clauses before both are kept
     clauses_kept : (at : ℕ) → at + 136 ≤ 272 → part at 136 xs ≡ part at 136 whole

@@ -15,7 +15,7 @@ use Rattle.std.specs.Prelude.{Option, Some, None}
 use Rattle.std.specs.Option.{is_some}
 use Rattle.sheet.specs.Lists.{All, any_of}
 use Rattle.table.specs.Fates.{shifted, last_of}
-use Rattle.sheet.specs.Literals.{no_literal}
+use Rattle.sheet.specs.Literals.{no_literal, within}
 use Rattle.sheet.proofs.laws.base.Bools.{T_true, T_false, true_T, false_T}
 use Rattle.sheet.proofs.laws.base.ListFacts.{all_at, all_places, any_none}
 use Rattle.std.proofs.lemmas.List.{take_more, at_drop_more}
@@ -114,6 +114,57 @@ module _ (f : Literals → Bool) where
       sym (last_before (take i xs) (take 4 (drop i xs)) (ap (λ (h : ℕ). any_of f (take 4 (drop h xs))) back ∙ e))
       ∙ ap (last_of f) (sym (take-add i 4 xs))
       ∙ ap (λ (h : ℕ). last_of f (take h xs)) (is ∙ sym js)
+
+  -- the first i + 1 members, where the last of them passes, and where it does not
+  here : (xs : List Literals) (i j : ℕ) → j ≡ i + 1 → j ≤ length xs → last_of f (take j xs)
+      ≡ cond (f (get_or xs i no_literal)) (Some i) (last_of f (take i xs))
+  here xs i j is le =
+      let back : j - 1 ≡ i = omega arith in
+      last_down f xs j (omega arith) le
+      ∙ ap (λ (h : ℕ). cond (f (get_or xs h no_literal)) (Some h) (last_of f (take h xs))) back
+
+  hit : (xs : List Literals) (i j : ℕ) → j ≡ i + 1 → j ≤ length xs → f (get_or xs i no_literal) ≡ true → last_of f (take j xs) ≡ Some i
+  hit xs i j is le t = here xs i j is le ∙ ap (λ (b : Bool). cond b (Some i) (last_of f (take i xs))) t
+
+  missed : (xs : List Literals) (i j : ℕ) → j ≡ i + 1 → j ≤ length xs → f (get_or xs i no_literal) ≡ false
+      → last_of f (take j xs) ≡ last_of f (take i xs)
+  missed xs i j is le t = here xs i j is le ∙ ap (λ (b : Bool). cond b (Some i) (last_of f (take i xs))) t
+
+-- the last of four members before place k that passes, tested from the last one down
+module _ (f : Literals → Bool) (xs : List Literals) (k : ℕ) (h : 4 ≤ k) (le : k ≤ length xs) where
+  abbrev test : ℕ → Bool
+  test i = f (get_or xs (k - i) no_literal)
+
+  past_3 : test 1 ≡ false → last_of f (take k xs) ≡ last_of f (take (k - 1) xs)
+  past_3 = missed f xs (k - 1) k (omega arith) le
+
+  past_2 : test 1 ≡ false → test 2 ≡ false → last_of f (take k xs) ≡ last_of f (take (k - 2) xs)
+  past_2 c b = past_3 c ∙ missed f xs (k - 2) (k - 1) (omega arith) (omega arith) b
+
+  past_1 : test 1 ≡ false → test 2 ≡ false → test 3 ≡ false → last_of f (take k xs) ≡ last_of f (take (k - 3) xs)
+  past_1 c b a = past_2 c b ∙ missed f xs (k - 3) (k - 2) (omega arith) (omega arith) a
+
+  pub last_3 : test 1 ≡ true → last_of f (take k xs) ≡ Some (k - 1)
+  last_3 = hit f xs (k - 1) k (omega arith) le
+
+  pub last_2 : test 1 ≡ false → test 2 ≡ true → last_of f (take k xs) ≡ Some (k - 2)
+  last_2 c t = past_3 c ∙ hit f xs (k - 2) (k - 1) (omega arith) (omega arith) t
+
+  pub last_1 : test 1 ≡ false → test 2 ≡ false → test 3 ≡ true → last_of f (take k xs) ≡ Some (k - 3)
+  last_1 c b t = past_2 c b ∙ hit f xs (k - 3) (k - 2) (omega arith) (omega arith) t
+
+  pub last_0 : test 1 ≡ false → test 2 ≡ false → test 3 ≡ false → any_of f (take 4 (drop (k - 4) xs)) ≡ true
+      → last_of f (take k xs) ≡ Some (k - 4)
+  last_0 c b a e = past_1 c b a ∙ hit f xs (k - 4) (k - 3) (omega arith) (omega arith)
+      (first (test 4) _ _ _ a b c (sym (four_tested f xs k h le) ∙ e))
+    where
+      first : (x p q r : Bool) → p ≡ false → q ≡ false → r ≡ false → (x || p || q || r) ≡ true → x ≡ true
+      first true p q r u v w e = refl
+      first false p q r u v w e = (λ i. sym u i || sym v i || sym w i) ∙ e
+
+-- what a test of a member that was read says
+pub shown : {r b : Bool} {e x : Literals} (l : Literals) → r ≡ within e l → e ≡ x → r ≡ b → within x l ≡ b
+shown l p q k = sym (p ∙ ap (λ (y : Literals). within y l) q) ∙ k
 
 -- ---- what the scan gives, by places, for any test and any list
 -- nothing is found exactly if no member passes

@@ -1,5 +1,5 @@
--- The alternatives of a clause but one: left out of the list, and put into a list of their own one after the other. For `starts::others`
--- and `starts::widen_oneof`. Assumes nothing.
+-- The alternatives of a clause but one: left out of the list, and put into a list of their own one after the other.
+-- For `starts::lay_others` and `starts::widen_oneof`. Assumes nothing.
 use Prim.Native.Nat.{ℕ, zero, suc, ◌+◌, ◌≤◌, ◌<◌}
 use mathlib.Core.Path.{◌≡◌, refl, sym, ap, ◌∙◌}
 use mathlib.Core.Bool.{Bool, cond}

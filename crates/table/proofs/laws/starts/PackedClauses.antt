@@ -19,7 +19,7 @@ unfolding sets_in
 sets_count xs = sets_long (get_or xs 0 0) (drop 1 xs)
 
 -- ---- the numbers of a clause, as a borrow of them says it
-abbrev clause_item : List ℕ → ℕ → List ℕ
+abbrev pub clause_item : List ℕ → ℕ → List ℕ
 clause_item xs i = take (i * 17 + 17 - i * 17) (drop (i * 17) xs)
 
 pub clause_fits : (n : ℕ) (xs : List ℕ) (i : ℕ) → ClausesFit n xs → i < n → SetsFit (clause_item xs i)

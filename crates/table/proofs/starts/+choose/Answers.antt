@@ -11,11 +11,11 @@ use Rattle.table.proofs.starts.+choose.Goals as goal
 use Rattle.table.proofs.starts.+choose.Goals.{then-after-size+in_ok-choose, else-after-size+in_ok-offer_by_newest}
 
 pub returns-then-size-at : goal.returns-then-size-at
-returns-then-size-at t c = puts_is (chosen_all _ _ c.len-size.ensures c.if-size-at.true c.requires) c.offer_by_newest.ensures
+returns-then-size-at t c = puts_is (chosen_all _ _ c.len-size.ensures.count c.if-size-at.true c.requires) c.offer_by_newest.ensures
 
 pub loop-l-init : goal.loop-l-init
 loop-l-init t c =
-    let e = c.minus-rest.ensures ∙ ap (λ x. minus x c.args.piece) c.at.ensures in
+    let e = c.minus-rest.ensures ∙ ap (λ x. minus x c.args.piece) (rw c.entries.ensures at c.at.ensures) in
     record {
       going = going_start (choices_start _ _ _ _ _ c.requires (drop_more c.args.alts.now c.args.at _ (omega arith)) e);
       least = c.next-l.ensures;
@@ -38,7 +38,7 @@ pub returns-in_err-offer_by_newest : goal.returns-in_err-offer_by_newest
 returns-in_err-offer_by_newest t c =
     let inv = c.loop-l.invariant in
     let k = chosen_by inv.least c.loop-l-test.true c.literal-one.ensures c.flip.ensures c.join-chosen.ensures in
-    let is = chosen_all _ _ c.len-size.ensures c.if-after-size.false (chosen_steady k c.requires inv.free) in
+    let is = chosen_all _ _ c.len-size.ensures.count c.if-after-size.false (chosen_steady k c.requires inv.free) in
     going_err _ inv.going (choices_step _ _ k refl) (puts_is is c.offer_by_newest-else-after-size.ensures)
     c.in_err-offer_by_newest.was c.from_residual-in_err-offer_by_newest.ensures.0
 
@@ -56,7 +56,7 @@ loop-l-preserved t c =
       going = elim c.if-after-size.branch [
         | then-after-size+in_ok-choose w ↦ rw w.to-is (going_on _ inv.going step w.choose.ensures w.in_ok-choose.was)
         | else-after-size+in_ok-offer_by_newest w ↦ rw w.to-is (going_on _ inv.going step
-            (puts_is (chosen_all _ _ c.len-size.ensures w.if-after-size.false (chosen_steady k c.requires inv.free))
+            (puts_is (chosen_all _ _ c.len-size.ensures.count w.if-after-size.false (chosen_steady k c.requires inv.free))
             w.offer_by_newest-else-after-size.ensures) w.in_ok-offer_by_newest.was)
       ];
       least = c.next-l-in-loop-l.ensures;

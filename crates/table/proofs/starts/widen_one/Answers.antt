@@ -9,4 +9,4 @@ returns-then-not-consistent c =
     rw (← c.at.ensures, ← c.join-first.ensures) (nothing_put (cut _ _ (sym c.consistent.ensures ∙ c.if-not-consistent.true)))
 
 pub returns : goal.returns
-returns c = rw (c.entries.ensures, c.others-rest.ensures, c.join-first.ensures, c.at.ensures) at c.choose.ensures
+returns c = rw (c.lay_others.ensures, c.join-first.ensures, c.at.ensures) at c.choose.ensures

@@ -1,7 +1,7 @@
--- `table::starts::others` meets its contract. The invariant: the others below j are there. Assumes nothing.
+-- `table::starts::lay_others` meets its contract. The invariant: the others below j are there. Assumes nothing.
 use Rattle.table.proofs.laws.starts.OtherAlternatives.{laying_one, laying_none, laying_end}
-use Rattle.table.proofs.starts.others.Goals as goal
-use Rattle.table.proofs.starts.others.Goals.{then-j-i, else-j-i}
+use Rattle.table.proofs.starts.lay_others.Goals as goal
+use Rattle.table.proofs.starts.lay_others.Goals.{then-j-i, else-j-i}
 
 pub loop-j-preserved : goal.loop-j-preserved
 loop-j-preserved c =
