@@ -111,14 +111,15 @@ impl<const N: usize> Slots<N> {
         self.count
     }
 
-    // One set more.
+    // One set more. The count is read once: after each store of a mask the compiler would read it again.
     pub fn push(&mut self, set: Literals)
         requires { length self.old < N }
         ensures { self.new ≡ self.old ++ set ∷ [] }
     {
-        self.trues[self.count] = set.trues;
-        self.falses[self.count] = set.falses;
-        self.count += 1;
+        let at = self.count;
+        self.trues[at] = set.trues;
+        self.falses[at] = set.falses;
+        self.count = at + 1;
     }
 
     // Another set in place i.
