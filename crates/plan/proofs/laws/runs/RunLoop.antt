@@ -143,10 +143,14 @@ module _ {numbers packed : List ℕ} {whole : Course} {i : ℕ} {es : List Liter
         rows_are : d ≡ counts_of (h.rows ++ row_of i es ∷ [])
         rows_are = noted_rows (omega (arith, lt, h.few))
 
-        -- the step gave a table
-        pub going_on : {us : List Literals} → table us ≡ step_table 128 (action_of (moves_in packed) m) es
+        -- the step by a number that is the next one
+        next_step : {n : ℕ} → n ≡ m → step_table 128 (action_of (moves_in packed) n) es ≡ step_table 128 (action_of (moves_in packed) m) es
+        next_step = ap (λ (k : ℕ). step_table 128 (action_of (moves_in packed) k) es)
+
+        -- such a step gave a table
+        pub going_on : {us : List Literals} {n : ℕ} → table us ≡ step_table 128 (action_of (moves_in packed) n) es → n ≡ m
             → Going numbers packed whole (i + 1) us d
-        going_on {us} e = record {
+        going_on {us} by is = let e = by ∙ next_step is in record {
           count = h.count;
           fits = moved_on h.fits next_below (sym e);
           few = h.few;
@@ -161,15 +165,16 @@ module _ {numbers packed : List ℕ} {whole : Course} {i : ℕ} {es : List Liter
               ∙ unrolled;
         }
 
-        -- the step was refused, and the table kept
-        pub going_halt : {k : ℕ} {us : List Literals} → refused k ≡ step_table 128 (action_of (moves_in packed) m) es
-            → us ≡ table_or (step_table 128 (action_of (moves_in packed) m) es) es (λ u. u) → {v : case.Verdict}
+        -- such a step was refused, and the table kept
+        pub going_halt : {k : ℕ} {us : List Literals} {n : ℕ} → refused k ≡ step_table 128 (action_of (moves_in packed) n) es
+            → us ≡ table_or (step_table 128 (action_of (moves_in packed) n) es) es (λ u. u) → n ≡ m → {v : case.Verdict}
             → v ≡ verdict_of (halted_by (eqb k 21) d.count k) → course_in v us d ≡ whole
         unfolding counts_of
-        going_halt {k} e kept ev =
+        going_halt {k} by kept is ev =
+            let e = by ∙ next_step is in
             let at : d.count ≡ suc i = omega
             (arith, ap (λ (y : Counts). y.count) rows_are, h.so_far, length-append h.rows (row_of i es ∷ [])) in
             (λ j. course_in ((ev ∙ ap (λ (n : ℕ). verdict_of (halted_by (eqb k 21) n k)) at) j)
-            ((kept ∙ ap (λ (o : Outcome). table_or o es (λ u. u)) (sym e)) j) (rows_are j))
+            ((kept ∙ ap (λ (o : Outcome). table_or o es (λ u. u)) (sym by)) j) (rows_are j))
             ∙ sym (halted (sets_in (goal_in packed)) h.rows i (action_of (moves_in packed) m) (left numbers packed (i + 1)) es k (sym e))
             ∙ unrolled
